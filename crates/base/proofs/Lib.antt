@@ -1,0 +1,6 @@
+pub mod BelowLaws
+pub mod Truth
+pub mod LeastLaws
+pub mod Pigeon
+pub mod CountLaws
+pub mod SetsLaws

@@ -1,0 +1,1 @@
+// The vocabulary of the contracts is in specs/, its laws in proofs/. No code.
