@@ -4,3 +4,4 @@ pub mod LeastLaws
 pub mod Pigeon
 pub mod CountLaws
 pub mod SetsLaws
+pub mod MemberLaws

@@ -1,0 +1,224 @@
+-- What the grammar spells is read: the reader gives back the steps, and so the bytes have one reading.
+use Prim.Native.Nat.{ℕ, zero, suc, _+_, _-_, _*_, _/_, _%_, _≤_, _<_}
+use mathlib.Core.Path.{_≡_, refl, sym, ap, ap₂, _∙_, subst}
+use mathlib.Core.List.{List, [], _∷_, _++_, append-assoc, append-nil}
+use mathlib.Core.Bool.{Bool, true, false}
+use lib.Dec.{eqb, ltb}
+use lib.ListN.{length, drop, length-append}
+use lib.Seq.{drop-append-seam, drop-at}
+use native.Mathlib.Omega.{arith}
+use native.Mathlib.Nat.{mul-le-mul-left, add-assoc}
+use borrow.Author.Tests.{eq-eqb, ne-eqb, lt-ltb, le-ltb}
+use Rattle.drat.proofs.Numerals.{numeral-pos}
+use Rattle.drat.specs.Numeral.{decimal, leb128, Numeral, one, more, bytesOf}
+use Rattle.drat.specs.Grammar.{Step, opens, ends, Number, plus, minus, code, Body, last, lit, Spells, none, step, encodeStep, encode, Valid}
+use Rattle.drat.proofs.Written.{encode-spells}
+use Rattle.base.specs.Choice.{pick}
+use Rattle.drat.specs.Reading.{decimalFrom, lebFrom, endFrom, token, blankFrom, opening, Part, whole, broken, consPart, body, One, got, fault, asStep, oneStep, Proof, steps, faultAt, consStep, stepsFrom, readProof}
+use Rattle.drat.specs.declared.Kind.{Kind}
+use Rattle.drat.specs.declared.Kind.the-variants.{Add, Delete}
+use Rattle.drat.specs.declared.Format.{Format}
+use Rattle.drat.specs.declared.Format.the-variants.{Text, Binary}
+use Rattle.drat.specs.declared.Token.{Token}
+use Rattle.drat.specs.declared.Token.the-variants.{Lit, Stop, Bad}
+use Rattle.drat.specs.declared.Opening.{Opening}
+use Rattle.drat.specs.declared.Opening.the-variants.{Opens, Wrong}
+
+-- one decimal digit
+pub digit-read : (sign v d i : ℕ) (l : List ℕ) → d < 10 → 0 < 10 * v + d → 10 * v + d ≤ 4096 → decimalFrom sign v i ((48 + d) ∷ l) ≡ decimalFrom sign (10 * v + d) (i + 1) l
+unfolding decimalFrom
+digit-read sign v d i l hd h0 h1 =
+    let e : 48 + d - 48 ≡ d = omega arith in
+    simp (e, ne-eqb (48 + d) 32 (omega arith), le-ltb (48 + d) 48 (omega arith), le-ltb 57 (48 + d) (omega arith), ne-eqb (10 * v + d) 0 (omega arith), le-ltb 4096 (10 * v + d) h1)
+
+pub decimal-read : {bs : List ℕ} {v : ℕ} → Numeral decimal bs v → v ≤ 4096 → (sign i : ℕ) (l : List ℕ) → decimalFrom sign 0 i (bs ++ l) ≡ decimalFrom sign v (i + length bs) l
+decimal-read (one {d = d} p q) h sign i l = digit-read sign 0 d i l q (omega arith) (omega arith) ∙ ap (λ (x : ℕ). decimalFrom sign x (i + 1) l) (omega arith)
+decimal-read (more {d = d} {v = v} {bs = bs} p n) h sign i l =
+    ap (decimalFrom sign 0 i) (append-assoc bs ((48 + d) ∷ []) l)
+    ∙ decimal-read n (omega arith) sign i ((48 + d) ∷ l)
+    ∙ digit-read sign v d (i + length bs) l p (omega (arith, numeral-pos decimal n)) (omega arith)
+    ∙ ap₂ (λ (x j : ℕ). decimalFrom sign x j l) (omega arith) (simp length-append (omega arith))
+
+pub leb-read : {bs : List ℕ} {n : ℕ} → Numeral leb128 bs n → (v w i : ℕ) (l : List ℕ) → 0 < w → 2 ≤ v + w * n → v + w * n ≤ 8193 → lebFrom v w i (bs ++ l) ≡ Lit (v + w * n - 2) (i + length bs)
+unfolding lebFrom
+leb-read (one {d = d} p q) v w i l hw h2 h = simp (lt-ltb d 128 q, ne-eqb d 0 (omega arith), le-ltb (v + w * d) 2 h2, le-ltb 8193 (v + w * d) h)
+leb-read (more {d = d} {v = x} {bs = bs} p n) v w i l hw h2 h =
+    let e : 128 + d - 128 ≡ d = omega arith in
+    let s : w * 1 ≤ w * x = mul-le-mul-left w (numeral-pos leb128 n) in
+    let b : w ≤ 64 = omega arith in
+    simp (e, le-ltb (128 + d) 128 (omega arith), le-ltb 64 w b)
+    (leb-read n (v + w * d) (w * 128) (i + 1) l (omega arith) (omega arith) (omega arith) ∙ ap₂ Lit (omega arith) (omega arith))
+
+blank-read : (sign x i : ℕ) (l : List ℕ) → decimalFrom sign (x + 1) i (32 ∷ l) ≡ Lit (2 * x + sign) (i + 1)
+unfolding decimalFrom
+blank-read sign x i l = let e : x + 1 - 1 ≡ x = omega arith in simp (e, ne-eqb (x + 1) 0 (omega arith))
+
+decimal-first : {bs : List ℕ} {v : ℕ} → Numeral decimal bs v → (b : ℕ) × (m : List ℕ) × (bs ≡ b ∷ m) × (49 ≤ b) × (b ≤ 57)
+decimal-first (one {d = d} p q) = (48 + d, [], refl, omega arith, omega arith)
+decimal-first (more {d = d} p n) = let f = decimal-first n in (f .0, f .1 ++ (48 + d) ∷ [], ap (λ (m : List ℕ). m ++ (48 + d) ∷ []) (f .2), f .3, f .4)
+
+leb-first : {bs : List ℕ} {v : ℕ} → Numeral leb128 bs v → (b : ℕ) × (m : List ℕ) × (bs ≡ b ∷ m) × (0 < b)
+leb-first (one {d = d} p q) = (d, [], refl, p)
+leb-first (more {d = d} {bs = bs} p n) = (128 + d, bs, refl, omega arith)
+
+decimal-token : {bs : List ℕ} {v : ℕ} → Numeral decimal bs v → (i : ℕ) (l : List ℕ) → token Text i (bs ++ l) ≡ decimalFrom 0 0 i (bs ++ l)
+unfolding token
+decimal-token n i l =
+    let f = decimal-first n in
+    rw (f .2) (simp (ne-eqb (f .0) 48 (omega arith), ne-eqb (f .0) 45 (omega arith)))
+
+leb-token : {bs : List ℕ} {v : ℕ} → Numeral leb128 bs v → (i : ℕ) (l : List ℕ) → token Binary i (bs ++ l) ≡ lebFrom 0 1 i (bs ++ l)
+unfolding token
+leb-token n i l = let f = leb-first n in rw (f .2) (simp (ne-eqb (f .0) 0 (omega arith)))
+
+signed-read : {bs : List ℕ} {x : ℕ} → x < 4096 → Numeral decimal bs (x + 1) → (sign i : ℕ) (l : List ℕ) → decimalFrom sign 0 i ((bs ++ 32 ∷ []) ++ l) ≡ Lit (2 * x + sign) (i + length (bs ++ 32 ∷ []))
+signed-read {bs} {x} h n sign i l =
+    ap (decimalFrom sign 0 i) (append-assoc bs (32 ∷ []) l)
+    ∙ decimal-read n (omega arith) sign i (32 ∷ l)
+    ∙ blank-read sign x (i + length bs) l
+    ∙ ap (Lit (2 * x + sign)) (simp length-append (omega arith))
+
+minus-token : (i : ℕ) (l : List ℕ) → token Text i (45 ∷ l) ≡ decimalFrom 1 0 (i + 1) l
+unfolding token
+minus-token i l = refl
+
+-- a literal is read as one
+pub token-number : {f : Format} {bs : List ℕ} {c : ℕ} → Number f bs c → (i : ℕ) (l : List ℕ) → token f i (bs ++ l) ≡ Lit c (i + length bs)
+token-number (plus {bs = bs} {i = x} h n) i l =
+    ap (token Text i) (append-assoc bs (32 ∷ []) l)
+    ∙ decimal-token n i (32 ∷ l)
+    ∙ sym (ap (decimalFrom 0 0 i) (append-assoc bs (32 ∷ []) l))
+    ∙ signed-read h n 0 i l
+    ∙ ap (λ (y : ℕ). Lit y (i + length (bs ++ 32 ∷ []))) (omega arith)
+token-number (minus {bs = bs} {i = x} h n) i l = minus-token i ((bs ++ 32 ∷ []) ++ l) ∙ signed-read h n 1 (i + 1) l ∙ ap (Lit (2 * x + 1)) (omega arith)
+token-number (code {bs = bs} {c = c} h n) i l =
+    leb-token n i l ∙ leb-read n 0 1 i l (omega arith) (omega arith) (omega arith) ∙ ap (λ (y : ℕ). Lit y (i + length bs)) (omega arith)
+
+pub token-ends : (f : Format) (i : ℕ) (l : List ℕ) → token f i (ends f ++ l) ≡ Stop (i + length (ends f))
+unfolding token endFrom
+token-ends Text i l = ap Stop (omega arith)
+token-ends Binary i l = refl
+
+-- a text step's first byte after its opening is no `d`
+text-first : {bs cs : List ℕ} → Body Text bs cs → (b : ℕ) × (m : List ℕ) × (bs ≡ b ∷ m) × (b < 100)
+text-first last = (48, 10 ∷ [], refl, omega arith)
+text-first (lit {rest = r} (plus h n) t) = let f = decimal-first n in (f .0, (f .1 ++ 32 ∷ []) ++ r, ap (λ (m : List ℕ). (m ++ 32 ∷ []) ++ r) (f .2), omega arith)
+text-first (lit {rest = r} (minus {bs = bs} h n) t) = (45, (bs ++ 32 ∷ []) ++ r, refl, omega arith)
+
+pub opening-read : (f : Format) (k : Kind) {bs cs : List ℕ} → Body f bs cs → (i : ℕ) (l : List ℕ) → opening f i ((opens f k ++ bs) ++ l) ≡ Opens k (i + length (opens f k))
+unfolding opening blankFrom
+opening-read Text Add h i l = let f = text-first h in rw (f .2) (simp (ne-eqb (f .0) 100 (omega arith)) (ap (Opens Add) (omega arith)))
+opening-read Text Delete h i l = ap (Opens Delete) (omega arith)
+opening-read Binary Add h i l = refl
+opening-read Binary Delete h i l = refl
+
+-- the reader's equations, case by case
+pub body-lit : (f : Format) (n i : ℕ) (l : List ℕ) (c j : ℕ) → token f i l ≡ Lit c j → body f (suc n) i l ≡ consPart c (body f n j (drop (j - i) l))
+unfolding body
+body-lit f n i l c j e = rw (e, body)
+
+pub body-stop : (f : Format) (n i : ℕ) (l : List ℕ) (j : ℕ) → token f i l ≡ Stop j → body f (suc n) i l ≡ whole [] j
+unfolding body
+body-stop f n i l j e = rw (e, body)
+
+pub body-bad : (f : Format) (n i : ℕ) (l : List ℕ) → token f i l ≡ Bad → body f (suc n) i l ≡ broken
+unfolding body
+body-bad f n i l e = rw (e, body)
+
+-- past what was read
+skip : (i : ℕ) (bs l : List ℕ) → drop (i + length bs - i) (bs ++ l) ≡ l
+skip i bs l = drop-at bs l (i + length bs - i) (omega arith)
+
+-- each literal takes a byte
+numeral-length : {bs : List ℕ} {v : ℕ} → Numeral leb128 bs v → 0 < length bs
+numeral-length n = let f = leb-first n in rw (f .2) (omega arith)
+
+pub number-length : {f : Format} {bs : List ℕ} {c : ℕ} → Number f bs c → 0 < length bs
+number-length (plus {bs = bs} h n) = simp length-append (omega arith)
+number-length (minus h n) = omega arith
+number-length (code h n) = numeral-length n
+
+pub ends-length : (f : Format) → 0 < length (ends f)
+ends-length Text = omega arith
+ends-length Binary = omega arith
+
+pub body-length : {f : Format} {bs cs : List ℕ} → Body f bs cs → length cs < length bs
+body-length {f} last = ends-length f
+body-length (lit {bs = bs} {rest = r} p t) = simp length-append (omega (arith, number-length p, body-length t))
+
+pub body-read : {f : Format} {bs cs : List ℕ} → Body f bs cs → (n i : ℕ) (l : List ℕ) → length cs < n → body f n i (bs ++ l) ≡ whole cs (i + length bs)
+unfolding consPart
+body-read {f} last zero i l h = absurd (omega arith)
+body-read {f} last (suc n) i l h = body-stop f n i (ends f ++ l) (i + length (ends f)) (token-ends f i l)
+body-read {f} (lit {bs = bs} {rest = r} {cs = cs} {c = c} p t) zero i l h = absurd (omega arith)
+body-read {f} (lit {bs = bs} {rest = r} {cs = cs} {c = c} p t) (suc n) i l h =
+    ap (body f (suc n) i) (append-assoc bs r l)
+    ∙ body-lit f n i (bs ++ (r ++ l)) c (i + length bs) (token-number p i (r ++ l))
+    ∙ ap (λ (m : List ℕ). consPart c (body f n (i + length bs) m)) (skip i bs (r ++ l))
+    ∙ ap (consPart c) (body-read t n (i + length bs) l (omega arith))
+    ∙ ap (whole (c ∷ cs)) (simp length-append (omega arith))
+
+pub one-opens : (f : Format) (i : ℕ) (l : List ℕ) (k : Kind) (j : ℕ) → opening f i l ≡ Opens k j → oneStep f i l ≡ asStep k (body f (length l) j (drop (j - i) l))
+unfolding oneStep
+one-opens f i l k j e = rw (e, oneStep)
+
+pub one-wrong : (f : Format) (i : ℕ) (l : List ℕ) → opening f i l ≡ Wrong → oneStep f i l ≡ fault
+unfolding oneStep
+one-wrong f i l e = rw (e, oneStep)
+
+pub step-read : {f : Format} {bs cs : List ℕ} (k : Kind) → Body f bs cs → (i : ℕ) (l : List ℕ) → oneStep f i ((opens f k ++ bs) ++ l) ≡ got (record { kind = k; lits = cs }) (i + length (opens f k ++ bs))
+unfolding asStep
+step-read {f} {bs} {cs} k h i l =
+    let o = opens f k in
+    one-opens f i ((o ++ bs) ++ l) k (i + length o) (opening-read f k h i l)
+    ∙ ap (λ (m : List ℕ). asStep k (body f (length ((o ++ bs) ++ l)) (i + length o) (drop (i + length o - i) m))) (append-assoc o bs l)
+    ∙ ap (λ (m : List ℕ). asStep k (body f (length ((o ++ bs) ++ l)) (i + length o) m)) (skip i o (bs ++ l))
+    ∙ ap (asStep k) (body-read h (length ((o ++ bs) ++ l)) (i + length o) l (simp length-append (omega (arith, body-length h))))
+    ∙ ap (got (record { kind = k; lits = cs })) (simp length-append (omega arith))
+
+pub steps-got : (f : Format) (n i : ℕ) (l : List ℕ) (s : Step) (j : ℕ) → oneStep f i l ≡ got s j → stepsFrom f (suc n) i l ≡ consStep s (stepsFrom f n j (drop (j - i) l))
+unfolding stepsFrom oneStep opening
+steps-got f n i [] s j e = cc
+steps-got f n i (b ∷ l) s j e = rw (e, stepsFrom)
+
+pub steps-not : (f : Format) (n i b : ℕ) (l : List ℕ) → oneStep f i (b ∷ l) ≡ fault → stepsFrom f (suc n) i (b ∷ l) ≡ faultAt i
+unfolding stepsFrom
+steps-not f n i b l e = rw (e, stepsFrom)
+
+pub steps-read : {f : Format} {bs : List ℕ} {ss : List Step} → Spells f bs ss → (n i : ℕ) → length bs ≤ n → stepsFrom f n i bs ≡ steps ss
+unfolding stepsFrom consStep
+steps-read none zero i h = refl
+steps-read none (suc n) i h = refl
+steps-read {f} (step {bs = bs} {rest = r} k p t) zero i h = absurd (omega (arith, body-length p, simp length-append at h))
+steps-read {f} (step {bs = bs} {rest = r} {cs = cs} {ss = ss} k p t) (suc n) i h =
+    let o = opens f k in
+    steps-got f n i ((o ++ bs) ++ r) (record { kind = k; lits = cs }) (i + length (o ++ bs)) (step-read k p i r)
+    ∙ ap (λ (m : List ℕ). consStep (record { kind = k; lits = cs }) (stepsFrom f n (i + length (o ++ bs)) m)) (skip i (o ++ bs) r)
+    ∙ ap (consStep (record { kind = k; lits = cs })) (steps-read t n (i + length (o ++ bs)) (omega (arith, body-length p, simp length-append at h)))
+
+-- what the grammar spells is read
+pub spells-read : {f : Format} {bs : List ℕ} {ss : List Step} → Spells f bs ss → readProof f bs ≡ steps ss
+unfolding readProof
+spells-read {bs = bs} h = steps-read h (length bs) 0 (omega arith)
+
+-- the bytes have one reading
+pub one-reading : {f : Format} {bs : List ℕ} {ss ts : List Step} → Spells f bs ss → Spells f bs ts → ss ≡ ts
+one-reading h g = cc (spells-read h, spells-read g)
+
+-- what is written is read as the steps that it was written from
+pub round-trip : (f : Format) (ss : List Step) → Valid ss → readProof f (encode f ss) ≡ steps ss
+round-trip f ss v = spells-read (encode-spells f ss v)
+
+-- what is written for some steps and then for others is what is written for all; so pieces that are written one by one have one reading
+pub encode-append : (f : Format) (ss ts : List Step) → encode f (ss ++ ts) ≡ encode f ss ++ encode f ts
+unfolding encode
+encode-append f [] ts = refl
+encode-append f (s ∷ ss) ts = ap (λ (l : List ℕ). encodeStep f s ++ l) (encode-append f ss ts) ∙ sym (append-assoc (encodeStep f s) (encode f ss) (encode f ts))
+
+pub encode-one : (f : Format) (s : Step) → encode f (s ∷ []) ≡ encodeStep f s
+unfolding encode
+encode-one f s = append-nil (encodeStep f s)
+
+-- what is written has one reading, the steps that it was written from
+pub reading : (f : Format) (ss : List Step) → Valid ss → Spells f (encode f ss) ss × ((ts : List Step) → Spells f (encode f ss) ts → ts ≡ ss)
+reading f ss v = (encode-spells f ss v, λ ts h. one-reading h (encode-spells f ss v))

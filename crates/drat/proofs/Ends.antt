@@ -1,0 +1,134 @@
+-- The place after a step, literal by literal; and what a call of the reader answers, from what its scans answer.
+use Prim.Native.Nat.{ℕ, zero, suc, _+_, _≤_, _<_}
+use mathlib.Core.Path.{_≡_, refl, sym, ap, ap₂, _∙_, subst}
+use mathlib.Core.List.{List, [], _∷_, _++_}
+use mathlib.Core.Bool.{Bool, true, false, _||_}
+use lib.Dec.{ltb}
+use lib.ListN.{length, drop, take}
+use lib.Seq.{sets}
+use native.Mathlib.Omega.{arith}
+use borrow.Author.Tests.{lt-ltb, le-ltb}
+use Rattle.drat.specs.Grammar.{Step}
+use Rattle.base.specs.Choice.{pick}
+use Rattle.base.specs.Answer.{accepted, refused}
+use Rattle.drat.specs.Reading.{token, opening, Part, whole, broken, consPart, One, got, fault, asStep, oneStep, Proof, steps, faultAt, readProof}
+use Rattle.drat.specs.Filled.{endOf, counted, codesOf, endsFrom, kindsOf, Scan, Filling, refusing, filling, answerOf, readOf, read, ReadCall, firstBy, firstOf, first}
+use Rattle.drat.specs.declared.Kind.{Kind}
+use Rattle.drat.specs.declared.Format.{Format}
+use Rattle.drat.specs.declared.Scanned.{Scanned}
+use Rattle.drat.specs.declared.Scanned.the-variants.{Whole, Fault}
+use Rattle.drat.specs.declared.Read.{Read}
+use Rattle.drat.specs.declared.Read.the-variants.{Filled, Broken, Short}
+use Rattle.drat.proofs.Places.{bodyAt, stepAt, step-moves}
+use Rattle.drat.proofs.Sound.{Bytes}
+
+unfoldable pub endPart : ℕ → Part → ℕ
+endPart i (whole cs j) = j
+endPart i broken = i
+
+pub end-cons : (i c : ℕ) (p : Part) → endPart i (consPart c p) ≡ endPart i p
+unfolding endPart consPart
+end-cons i c (whole cs j) = refl
+end-cons i c broken = refl
+
+pub end-step : (i : ℕ) (k : Kind) (p : Part) → endOf i (asStep k p) ≡ endPart i p
+unfolding endPart endOf asStep
+end-step i k (whole cs j) = refl
+end-step i k broken = refl
+
+pub end-whole : (i : ℕ) (cs : List ℕ) (j : ℕ) → endPart i (whole cs j) ≡ j
+unfolding endPart
+end-whole i cs j = refl
+
+pub end-broken : (i : ℕ) → endPart i broken ≡ i
+unfolding endPart
+end-broken i = refl
+
+pub end-fault : (i : ℕ) → endOf i fault ≡ i
+unfolding endOf
+end-fault i = refl
+
+pub step-is : (f : Format) (s : List ℕ) (i : ℕ) → stepAt f s i ≡ oneStep f i (drop i s)
+unfolding stepAt
+step-is f s i = refl
+
+-- what a scan's answer says of the bytes
+scan-whole : (p : Proof) (n m : ℕ) → Whole n m ≡ counted p → (ss : List Step) × (p ≡ steps ss) × (n ≡ length (codesOf ss)) × (m ≡ length ss)
+unfolding counted
+scan-whole (steps ss) n m e = (ss, refl, cc, cc)
+scan-whole (faultAt i) n m e = let z : _≡_ {A = ℕ} 0 1 = cc in absurd (omega arith)
+
+scan-fault : (p : Proof) (i : ℕ) → Fault i ≡ counted p → p ≡ faultAt i
+unfolding counted
+scan-fault (steps ss) i e = let z : _≡_ {A = ℕ} 0 1 = cc in absurd (omega arith)
+scan-fault (faultAt j) i e = cc
+
+module _ (f : Format) (s codes ends kinds : List ℕ) where
+  -- a call that refuses fills nothing
+  refuses : (r : Read) (n : ℕ) (vs : List ℕ) → read r ≡ refused n vs → readOf f s (length codes) (length ends) (length kinds) ≡ refusing n vs → ReadCall f s codes ends kinds codes ends kinds r
+  refuses r n vs e h =
+      record {
+        answer = e ∙ sym (ap (λ (x : Filling). x .answer) h);
+        codes-after = sym (ap (λ (x : Filling). sets codes 0 (x .codes)) h);
+        ends-after = sym (ap (λ (x : Filling). sets ends 0 (x .ends)) h);
+        kinds-after = sym (ap (λ (x : Filling). sets kinds 0 (x .kinds)) h);
+      }
+
+  pub call-broken : (i : ℕ) → Fault i ≡ counted (readProof f s) → ReadCall f s codes ends kinds codes ends kinds (Broken i)
+  unfolding answerOf
+  call-broken i e = refuses (Broken i) 13 (i ∷ []) refl (ap (λ (p : Proof). answerOf p (length codes) (length ends) (length kinds)) (scan-fault (readProof f s) i e))
+
+  answer-is : (ss : List Step) → readProof f s ≡ steps ss → readOf f s (length codes) (length ends) (length kinds) ≡
+      pick (ltb (length codes) (length (codesOf ss)) || ltb (length ends) (length ss) || ltb (length kinds) (length ss)) (refusing 2 []) (filling ss)
+  unfolding answerOf
+  answer-is ss e = ap (λ (p : Proof). answerOf p (length codes) (length ends) (length kinds)) e
+
+  module _ (n m : ℕ) (e : Whole n m ≡ counted (readProof f s)) where
+    -- one slice is too short
+    short : (ss : List Step) → readProof f s ≡ steps ss → ltb (length codes) (length (codesOf ss)) || ltb (length ends) (length ss) || ltb (length kinds) (length ss) ≡ true → ReadCall f s codes ends kinds codes ends kinds Short
+    short ss h t = refuses Short 2 [] refl (answer-is ss h ∙ ap (λ (b : Bool). pick b (refusing 2 []) (filling ss)) t)
+
+    pub call-short₁ : length codes < n → ReadCall f s codes ends kinds codes ends kinds Short
+    call-short₁ h =
+        let w = scan-whole (readProof f s) n m e in
+        short (w .0) (w .1) (simp (lt-ltb (length codes) (length (codesOf (w .0))) (omega arith)))
+
+    pub call-short₂ : n ≤ length codes → length ends < m → ReadCall f s codes ends kinds codes ends kinds Short
+    call-short₂ g h =
+        let w = scan-whole (readProof f s) n m e in
+        short (w .0) (w .1) (simp (le-ltb (length codes) (length (codesOf (w .0))) (omega arith), lt-ltb (length ends) (length (w .0)) (omega arith)))
+
+    pub call-short₃ : n ≤ length codes → m ≤ length ends → length kinds < m → ReadCall f s codes ends kinds codes ends kinds Short
+    call-short₃ g h k =
+        let w = scan-whole (readProof f s) n m e in
+        short (w .0) (w .1) (simp (le-ltb (length codes) (length (codesOf (w .0))) (omega arith), le-ltb (length ends) (length (w .0)) (omega arith), lt-ltb (length kinds) (length (w .0)) (omega arith)))
+
+    pub call-filled : n ≤ length codes → m ≤ length ends → m ≤ length kinds → (codes′ ends′ kinds′ : List ℕ) (r : Scanned) → Scan f s codes ends kinds codes′ ends′ kinds′ r → ReadCall f s codes ends kinds codes′ ends′ kinds′ (Filled n m)
+    call-filled g h k codes′ ends′ kinds′ r q =
+        let w = scan-whole (readProof f s) n m e in
+        let l = q .filled (w .0) (w .1) in
+        let a : readOf f s (length codes) (length ends) (length kinds) ≡ filling (w .0) = answer-is (w .0) (w .1) ∙ simp (le-ltb (length codes) (length (codesOf (w .0))) (omega arith), le-ltb (length ends) (length (w .0)) (omega arith), le-ltb (length kinds) (length (w .0)) (omega arith)) in
+        record {
+          answer = ap₂ (λ (x y : ℕ). accepted (x ∷ y ∷ [])) (w .2) (w .3) ∙ sym (ap (λ (x : Filling). x .answer) a);
+          codes-after = l .0 ∙ sym (ap (λ (x : Filling). sets codes 0 (x .codes)) a);
+          ends-after = l .1 ∙ sym (ap (λ (x : Filling). sets ends 0 (x .ends)) a);
+          kinds-after = l .2 ∙ sym (ap (λ (x : Filling). sets kinds 0 (x .kinds)) a);
+        }
+
+-- the first step alone: its part is empty only where no step is whole
+pub first-part : (f : Format) (s : List ℕ) → Bytes s → first (take (endOf 0 (oneStep f 0 s)) s) ≡ firstOf f s
+unfolding endOf firstBy
+first-part f s hb = go (oneStep f 0 s) refl
+  where
+    some : (j : ℕ) (l : List ℕ) → 0 < j → j ≤ length l → first (take j l) ≡ accepted (take j l)
+    some zero l p q = absurd (omega arith)
+    some (suc j) [] p q = absurd (omega arith)
+    some (suc j) (b ∷ l) p q = refl
+
+    go : (o : One) → oneStep f 0 s ≡ o → first (take (endOf 0 o) s) ≡ firstBy s o
+    go (got t j) e = let m = step-moves f 0 s t j hb e in some j s (m .0) (omega (arith, m .1))
+    go fault e = refl
+
+pub empty-front : (l x : List ℕ) → length l ≡ 0 → l ++ x ≡ x
+empty-front [] x e = refl
+empty-front (a ∷ l) x e = absurd (omega arith)

@@ -1,0 +1,13 @@
+pub mod Numerals
+pub mod Written
+pub mod Cases
+pub mod Faults
+pub mod Ends
+pub mod Scanning
+pub mod Places
+pub mod At
+pub mod Sound
+pub mod Steps
+pub mod CodesLaws
+pub mod Numbers
+pub mod Complete

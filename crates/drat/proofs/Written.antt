@@ -1,0 +1,40 @@
+-- What is written is spelled by the grammar; and a spelling beside a spelling is a spelling.
+use Prim.Native.Nat.{ℕ, zero, suc, _+_, _*_, _/_, _%_, _≤_, _<_}
+use mathlib.Core.Path.{_≡_, refl, sym, ap, _∙_, subst}
+use mathlib.Core.List.{List, [], _∷_, _++_, append-assoc, append-nil}
+use mathlib.Core.Bool.{Bool, true, false}
+use lib.Dec.{eqb}
+use native.Mathlib.Omega.{arith}
+use borrow.Author.Tests.{eqb-true, eqb-false}
+use Rattle.base.specs.Choice.{pick}
+use Rattle.drat.specs.Numeral.{decimal, leb128, Numeral, bytesOf}
+use Rattle.drat.specs.Grammar.{Step, opens, ends, Number, plus, minus, code, Body, last, lit, Spells, none, step, blanked, number, numbers, encodeStep, encode, Codes, Valid}
+use Rattle.drat.specs.declared.Format.{Format}
+use Rattle.drat.specs.declared.Format.the-variants.{Text, Binary}
+use Rattle.drat.proofs.Numerals.{bytes-numeral}
+
+pub number-spelled : (f : Format) (c : ℕ) → c < 8192 → Number f (number f c) c
+unfolding number
+number-spelled Text c h = go (eqb (c % 2) 0) refl
+  where
+    h' : c / 2 < 4096
+    h' = omega arith
+
+    go : (t : Bool) → eqb (c % 2) 0 ≡ t → Number Text (pick t [] (45 ∷ []) ++ blanked (c / 2 + 1)) c
+    go true e = subst (λ (x : ℕ). Number Text (bytesOf decimal (c / 2 + 1) ++ 32 ∷ []) x) (omega (arith, eqb-true (c % 2) 0 e)) (plus h' (bytes-numeral decimal (omega arith) (c / 2 + 1) (omega arith)))
+    go false e = subst (λ (x : ℕ). Number Text (45 ∷ bytesOf decimal (c / 2 + 1) ++ 32 ∷ []) x) (omega (arith, eqb-false (c % 2) 0 e)) (minus h' (bytes-numeral decimal (omega arith) (c / 2 + 1) (omega arith)))
+number-spelled Binary c h = code h (bytes-numeral leb128 (omega arith) (c + 2) (omega arith))
+
+pub body-spelled : (f : Format) (cs : List ℕ) → Codes cs → Body f (numbers f cs ++ ends f) cs
+unfolding numbers
+body-spelled f [] h = last
+body-spelled f (c ∷ cs) h = rw append-assoc (lit (number-spelled f c (h 0 (omega arith))) (body-spelled f cs (λ i l. h (suc i) (omega arith))))
+
+pub encode-spells : (f : Format) (ss : List Step) → Valid ss → Spells f (encode f ss) ss
+unfolding encode encodeStep Valid
+encode-spells f [] h = none
+encode-spells f (s ∷ ss) h = step (s .kind) (body-spelled f (s .lits) (h .0)) (encode-spells f ss (h .1))
+
+pub spells-append : (f : Format) {a b : List ℕ} {ss ts : List Step} → Spells f a ss → Spells f b ts → Spells f (a ++ b) (ss ++ ts)
+spells-append f none q = q
+spells-append f (step k h p) q = rw append-assoc (step k h (spells-append f p q))

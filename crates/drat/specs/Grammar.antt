@@ -1,0 +1,80 @@
+-- The grammar of a DRAT proof in its two formats, and the bytes that are written for a list of steps.
+use Prim.Native.Nat.{ℕ, _+_, _*_, _/_, _%_, _<_}
+use mathlib.Core.List.{List, [], _∷_, _++_}
+use lib.Dec.{eqb}
+use lib.ListN.{length, getD}
+use Rattle.base.specs.Choice.{pick}
+use Rattle.drat.specs.Numeral.{decimal, leb128, Numeral, bytesOf}
+use Rattle.drat.specs.declared.Kind.{Kind}
+use Rattle.drat.specs.declared.Kind.the-variants.{Add, Delete}
+use Rattle.drat.specs.declared.Format.{Format}
+use Rattle.drat.specs.declared.Format.the-variants.{Text, Binary}
+
+-- An add or a delete with its literal codes.
+pub record Step : Type 0 where
+  pub kind : Kind
+  pub lits : List ℕ
+
+abbrev pub stepOf : Kind → List ℕ → Step
+stepOf k cs = record { kind = k; lits = cs }
+
+-- The bytes before a step's literals: nothing or `d` and a blank; `a` or `d`.
+abbrev pub opens : Format → Kind → List ℕ
+opens Text Add = []
+opens Text Delete = 100 ∷ 32 ∷ []
+opens Binary Add = 97 ∷ []
+opens Binary Delete = 100 ∷ []
+
+-- The bytes after a step's literals: `0` and a line feed; byte 0.
+abbrev pub ends : Format → List ℕ
+ends Text = 48 ∷ 10 ∷ []
+ends Binary = 0 ∷ []
+
+-- The bytes of one literal, the blank after a decimal number among them, and its code.
+pub data Number : Format → List ℕ → ℕ → Type 0 where
+  plus : {bs : List ℕ} {i : ℕ} → i < 4096 → Numeral decimal bs (i + 1) → Number Text (bs ++ 32 ∷ []) (2 * i)
+  minus : {bs : List ℕ} {i : ℕ} → i < 4096 → Numeral decimal bs (i + 1) → Number Text (45 ∷ bs ++ 32 ∷ []) (2 * i + 1)
+  code : {bs : List ℕ} {c : ℕ} → c < 8192 → Numeral leb128 bs (c + 2) → Number Binary bs c
+
+-- The bytes of a step's literals and of its end.
+pub data Body (f : Format) : List ℕ → List ℕ → Type 0 where
+  last : Body f (ends f) []
+  lit : {bs rest cs : List ℕ} {c : ℕ} → Number f bs c → Body f rest cs → Body f (bs ++ rest) (c ∷ cs)
+
+-- The bytes spell the steps.
+pub data Spells (f : Format) : List ℕ → List Step → Type 0 where
+  none : Spells f [] []
+  step : {bs rest cs : List ℕ} {ss : List Step} (k : Kind) → Body f bs cs → Spells f rest ss → Spells f ((opens f k ++ bs) ++ rest) (stepOf k cs ∷ ss)
+
+-- A negative literal's minus; a number with a blank after it.
+abbrev pub sign : ℕ → List ℕ
+sign c = pick (eqb (c % 2) 0) [] (45 ∷ [])
+
+abbrev pub blanked : ℕ → List ℕ
+blanked n = bytesOf decimal n ++ 32 ∷ []
+
+-- What is written for a literal code: its DIMACS number in decimal; the code + 2 in LEB128.
+unfoldable pub number : Format → ℕ → List ℕ
+number Text c = sign c ++ blanked (c / 2 + 1)
+number Binary c = bytesOf leb128 (c + 2)
+
+unfoldable pub numbers : Format → List ℕ → List ℕ
+numbers f [] = []
+numbers f (c ∷ cs) = number f c ++ numbers f cs
+
+-- What is written for a step, and for a list of steps.
+unfoldable pub encodeStep : Format → Step → List ℕ
+encodeStep f s = opens f (s .kind) ++ (numbers f (s .lits) ++ ends f)
+
+unfoldable pub encode : Format → List Step → List ℕ
+encode f [] = []
+encode f (s ∷ ss) = encodeStep f s ++ encode f ss
+
+-- Every literal code is below 8192: its index is below 4,096.
+abbrev pub Codes : List ℕ → Type 0
+Codes cs = (i : ℕ) → i < length cs → getD cs i 0 < 8192
+
+-- So are the codes of every step.
+unfoldable pub Valid : List Step → Type 0
+Valid [] = Unit {0}
+Valid (s ∷ ss) = Codes (s .lits) × Valid ss

@@ -1,0 +1,5 @@
+pub mod Numeral
+pub mod Grammar
+pub mod Reading
+pub mod Filled
+pub mod Writing

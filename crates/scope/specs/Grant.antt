@@ -1,0 +1,33 @@
+-- Grant (document 01, `solver_from_global`): the index held, else the least unmapped solver index.
+use Prim.Native.Nat.{ℕ}
+use mathlib.Core.Bool.{not}
+use mathlib.Core.List.{[], _∷_}
+use lib.Dec.{leb}
+use lib.ListN.{getD}
+use Rattle.scope.specs.Table.{Table, word, recordOf, isDeleted, giveSolver}
+use Rattle.scope.specs.Sound.{soundb}
+use Rattle.scope.specs.Notes.{solver+}
+use Rattle.scope.specs.Outcome.{Result, stay, Outcome, orElse, unless, short, noting}
+use Rattle.scope.specs.Map.{leastFree}
+
+unfoldable pub nextSolver : Table → ℕ
+nextSolver t = leastFree (t .globalFromSolver) (t .counts .solver)
+
+-- a global without solver index gets the least unmapped one; note S
+unfoldable pub grantOne : ℕ → Table → Result ℕ
+grantOne g t = record { value = nextSolver t; table = giveSolver g (nextSolver t) t; notes = solver+ g (nextSolver t) ∷ [] }
+
+unfoldable pub grant : ℕ → Table → Result ℕ
+grant g t = word (grantOne g t) (λ s. stay s t) (getD (t .solverFromGlobal) g 0)
+
+-- 1; 3, global at or above its watermark; 6, deleted; 2.
+unfoldable pub grantRefusal : Table → ℕ → ℕ → ℕ
+grantRefusal t g room =
+    orElse (not (soundb t)) 1
+    (orElse (leb (t .counts .global) g) 3
+    (orElse (isDeleted (recordOf t g)) 6
+    (orElse (short room (grant g t .notes)) 2 0)))
+
+-- The answer is the solver index and the count of notes.
+unfoldable pub grantOf : Table → ℕ → ℕ → Outcome
+grantOf t g room = unless (grantRefusal t g room) t (noting (λ s. s ∷ []) (grant g t))

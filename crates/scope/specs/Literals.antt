@@ -1,0 +1,23 @@
+-- Literals (document 01, "Words used").
+use Prim.Native.Nat.{ℕ, _+_, _*_, _/_, _%_}
+use mathlib.Core.Bool.{Bool}
+use lib.Dec.{eqb}
+
+-- A literal's code is 2 × index, plus 1 if negative.
+abbrev pub codeOf : ℕ → ℕ → ℕ
+codeOf index sign = 2 * index + sign
+
+abbrev pub indexOf : ℕ → ℕ
+indexOf c = c / 2
+
+-- 1 if negative, else 0
+abbrev pub signOf : ℕ → ℕ
+signOf c = c % 2
+
+-- Its DIMACS number is index + 1, negated if negative.
+pub record Dimacs : Type 0 where
+  pub negative : Bool
+  pub magnitude : ℕ
+
+abbrev pub dimacsOf : ℕ → Dimacs
+dimacsOf c = record { negative = eqb (signOf c) 1; magnitude = indexOf c + 1 }

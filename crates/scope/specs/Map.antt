@@ -1,0 +1,79 @@
+-- Map a user, and New user (document 01, `global_from_user`, `new_user_var`).
+use Prim.Native.Nat.{ℕ, _+_, _-_}
+use mathlib.Core.Bool.{Bool, false, _&&_, _||_, not}
+use mathlib.Core.List.{List, [], _∷_}
+use lib.Dec.{eqb, ltb, leb}
+use lib.ListN.{getD}
+use Rattle.base.specs.Choice.{pick}
+use Rattle.base.specs.Bounded.{least, count}
+use Rattle.scope.specs.Table.{Table, word, modeOf, recordOf, isDeleted, userRecord, giveUser}
+use Rattle.scope.specs.Sound.{soundb}
+use Rattle.scope.specs.Notes.{user+}
+use Rattle.scope.specs.Outcome.{Result, stay, _then_, giving, each, Outcome, orElse, unless, short, noting}
+
+-- the least unmapped index of a map, which is its watermark where none below is free
+unfoldable pub leastFree : List ℕ → ℕ → ℕ
+leastFree xs mark = least mark (λ i. eqb (getD xs i 0) 0)
+
+-- The global taken: the user's own index if that is deleted or at the global watermark, else the least deleted one, else the watermark.
+unfoldable pub globalFor : Table → ℕ → ℕ
+globalFor t u =
+    pick (eqb u (t .counts .global) || isDeleted (recordOf t u)) u (least (t .counts .global) (λ g. isDeleted (recordOf t g)))
+
+-- An unmapped user gets a global. Its record becomes 9; note U.
+unfoldable pub mapOne : ℕ → Table → Result ℕ
+mapOne u t =
+    let g = globalFor t u in
+    record { value = g; table = giveUser g u userRecord t; notes = user+ g u ∷ [] }
+
+-- The n indices from the user watermark up are mapped.
+unfoldable pub fillGap : ℕ → Table → Result (List ℕ)
+fillGap n t = each n (λ i s. giving (λ g. g ∷ []) (mapOne (t .counts .user + i) s)) t
+
+-- Mapped already: its global. Beyond the user watermark, every index from the watermark up is mapped first.
+unfoldable pub mapUser : ℕ → Table → Result ℕ
+mapUser u t = word (fillGap (u - t .counts .user) t then (λ gs. mapOne u)) (λ g. stay g t) (getD (t .globalFromUser) u 0)
+
+-- New user maps the least unmapped user index.
+unfoldable pub nextUser : Table → ℕ
+nextUser t = leastFree (t .globalFromUser) (t .counts .user)
+
+unfoldable pub newUser : Table → Result (List ℕ)
+newUser t = giving (λ g. nextUser t ∷ g ∷ []) (mapUser (nextUser t) t)
+
+-- ---- refusals
+
+unfoldable pub undeleted : Table → ℕ
+undeleted t = count (t .counts .capacity) (λ g. ltb (recordOf t g) 36)
+
+-- how many users are to be mapped for u, the gap included
+unfoldable pub toMap : Table → ℕ → ℕ
+toMap t u = word (u - t .counts .user + 1) (λ g. 0) (getD (t .globalFromUser) u 0)
+
+-- the user has a global, and that is not Sample
+unfoldable pub unsampled : Table → ℕ → Bool
+unsampled t u = word false (λ g. not (eqb (modeOf (recordOf t g)) 0)) (getD (t .globalFromUser) u 0)
+
+-- 1; 3, index at or above capacity; 4, sampling required and its global not Sample; 5, more users to map than capacity minus undeleted globals; 2.
+unfoldable pub mapRefusal : Table → ℕ → Bool → ℕ → ℕ
+mapRefusal t u sampling room =
+    orElse (not (soundb t)) 1
+    (orElse (leb (t .counts .capacity) u) 3
+    (orElse (sampling && unsampled t u) 4
+    (orElse (ltb (t .counts .capacity) (undeleted t + toMap t u)) 5
+    (orElse (short room (mapUser u t .notes)) 2 0))))
+
+-- The answer is the global and the count of notes.
+unfoldable pub mapOf : Table → ℕ → Bool → ℕ → Outcome
+mapOf t u sampling room = unless (mapRefusal t u sampling room) t (noting (λ g. g ∷ []) (mapUser u t))
+
+-- 1, 5, 2
+unfoldable pub newUserRefusal : Table → ℕ → ℕ
+newUserRefusal t room =
+    orElse (not (soundb t)) 1
+    (orElse (ltb (t .counts .capacity) (undeleted t + 1)) 5
+    (orElse (short room (newUser t .notes)) 2 0))
+
+-- The answer is the user, its global and the count of notes.
+unfoldable pub newUserOf : Table → ℕ → Outcome
+newUserOf t room = unless (newUserRefusal t room) t (noting (λ vs. vs) (newUser t))

@@ -1,0 +1,21 @@
+-- Open (document 01, added) sets maps, assignment and watermarks to 0, records to 47.
+use Prim.Native.Nat.{ℕ}
+use mathlib.Core.Bool.{not}
+use lib.ListN.{replicate}
+use Rattle.scope.specs.declared.Counts.{Counts}
+use Rattle.scope.specs.Table.{Table, tableOf, freshRecord}
+use Rattle.scope.specs.Sound.{sizesb}
+use Rattle.scope.specs.Outcome.{Outcome, orElse, unless, changing}
+
+-- the counts of a freshly opened table
+abbrev pub openCounts : ℕ → Counts
+openCounts capacity = record { capacity = capacity; user = 0; global = 0; solver = 0 }
+
+-- a freshly opened, empty table
+unfoldable pub emptyTable : ℕ → Table
+emptyTable n =
+    tableOf (openCounts n) (replicate n 0) (replicate n 0) (replicate n 0) (replicate n 0) (replicate n 0) (replicate n freshRecord)
+
+-- Open of the lent lists, which with the capacity asked for make up t. 10: capacity not 1 to 4,096 or a slice of another length.
+unfoldable pub openOf : Table → Outcome
+openOf t = unless (orElse (not (sizesb t)) 10 0) t (changing (emptyTable (t .counts .capacity)))

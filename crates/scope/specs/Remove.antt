@@ -1,0 +1,53 @@
+-- Remove and Sweep (document 01, `remove_solver_var`, last loop of `unit_simplify`).
+use Prim.Native.Nat.{ℕ}
+use mathlib.Core.Bool.{Bool, _&&_, not}
+use mathlib.Core.List.{List, [], _∷_}
+use lib.Dec.{eqb}
+use lib.ListN.{getD}
+use Rattle.scope.specs.Table.{Table, word, isolatedOf, assumedOf, recordOf, withUnit, takeSolver, putRecord}
+use Rattle.scope.specs.Sound.{soundb}
+use Rattle.scope.specs.Notes.{solver-}
+use Rattle.scope.specs.Outcome.{Result, stay, choose, joined, each, Outcome, orElse, unless, short, noting}
+use Rattle.scope.specs.Modes.{deleteIfUnused}
+use Rattle.scope.specs.Marks.{notHeld, holderOf}
+
+-- S(g,-), then D if unused. The assignment word stays.
+unfoldable pub removeHeld : ℕ → ℕ → Table → Result (List ℕ)
+removeHeld g s t = joined (record { value = []; table = takeSolver g s t; notes = solver- g ∷ [] }) (deleteIfUnused g)
+
+unfoldable pub remove : ℕ → Table → Result (List ℕ)
+remove s t = removeHeld (holderOf t s) s t
+
+-- 1; 8, solver index not held; 2.
+unfoldable pub removeRefusal : Table → ℕ → ℕ → ℕ
+removeRefusal t s room =
+    orElse (not (soundb t)) 1
+    (orElse (notHeld t s) 8
+    (orElse (short room (remove s t .notes)) 2 0))
+
+-- The answer is the count of notes.
+unfoldable pub removeOf : Table → ℕ → ℕ → Outcome
+removeOf t s room = unless (removeRefusal t s room) t (noting (λ us. []) (remove s t))
+
+-- ---- Sweep: for each held solver index in ascending order, a value becomes the unit and sets isolated; then isolated and not assumed is removed.
+
+unfoldable pub learn : ℕ → ℕ → Table → Table
+learn g s t = word t (λ v. putRecord g (withUnit (recordOf t g) (getD (t .assignment) s 0)) t) (getD (t .assignment) s 0)
+
+unfoldable pub sweepHeld : ℕ → ℕ → Table → Result (List ℕ)
+sweepHeld g s t =
+    choose (eqb (isolatedOf (recordOf t g)) 1 && eqb (assumedOf (recordOf t g)) 0) (removeHeld g s t) (stay [] t)
+
+unfoldable pub sweepOne : ℕ → Table → Result (List ℕ)
+sweepOne s t = word (stay [] t) (λ g. sweepHeld g s (learn g s t)) (getD (t .globalFromSolver) s 0)
+
+unfoldable pub sweep : Table → Result (List ℕ)
+sweep t = each (t .counts .solver) sweepOne t
+
+-- 1, 2.
+unfoldable pub sweepRefusal : Table → ℕ → ℕ
+sweepRefusal t room = orElse (not (soundb t)) 1 (orElse (short room (sweep t .notes)) 2 0)
+
+-- The answer is the count of notes.
+unfoldable pub sweepOf : Table → ℕ → Outcome
+sweepOf t room = unless (sweepRefusal t room) t (noting (λ us. []) (sweep t))
