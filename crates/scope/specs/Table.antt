@@ -74,13 +74,20 @@ withUnit r v = r / 18 * 18 + 9 + 3 * v + modeOf r
 abbrev pub recordOf : Table → ℕ → ℕ
 recordOf t g = getD (t .records) g freshRecord
 
--- ---- single changes. Inserting raises the watermarks to cover the two indices.
+-- ---- single changes
+
+-- Inserting raises the watermarks to cover the two indices.
+abbrev pub coverUser : Counts → ℕ → ℕ → Counts
+coverUser c u g = record { capacity = c .capacity; user = max (c .user) (u + 1); global = max (c .global) (g + 1); solver = c .solver }
+
+abbrev pub coverSolver : Counts → ℕ → Counts
+coverSolver c s = record { capacity = c .capacity; user = c .user; global = c .global; solver = max (c .solver) (s + 1) }
 
 -- the user u and the record r go to the global g
 unfoldable pub giveUser : ℕ → ℕ → ℕ → Table → Table
 giveUser g u r t =
     tableOf
-    (record { capacity = t .counts .capacity; user = max (t .counts .user) (u + 1); global = max (t .counts .global) (g + 1); solver = t .counts .solver })
+    (coverUser (t .counts) u g)
     (set (t .globalFromUser) u (g + 1))
     (set (t .userFromGlobal) g (u + 1))
     (t .solverFromGlobal)
@@ -103,7 +110,7 @@ takeUser g u r t =
 unfoldable pub giveSolver : ℕ → ℕ → Table → Table
 giveSolver g s t =
     tableOf
-    (record { capacity = t .counts .capacity; user = t .counts .user; global = t .counts .global; solver = max (t .counts .solver) (s + 1) })
+    (coverSolver (t .counts) s)
     (t .globalFromUser)
     (t .userFromGlobal)
     (set (t .solverFromGlobal) g (s + 1))

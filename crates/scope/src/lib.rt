@@ -1,4 +1,9 @@
-// The types of document 01. Its definitions are in specs/, their laws in proofs/. No code.
+// The types of document 01, and how the counts go through a single change. Its definitions are in specs/, their laws in proofs/.
+ghost use mathlib.Core.Path.{_≡_};
+ghost use Prim.Native.Nat.{_+_, _≤_, _<_, max};
+ghost use lib.ListN.{length, set};
+ghost use Rattle.base.specs.Lent.{old, new};
+ghost use Rattle.scope.specs.Table.{coverUser, coverSolver};
 
 // The capacity and the three watermarks.
 pub struct Counts {
@@ -6,6 +11,99 @@ pub struct Counts {
     pub user: u32,
     pub global: u32,
     pub solver: u32,
+}
+
+// Two words of a map pair: the first takes i to j, the second j to i.
+fn link(a: &mut [u32], b: &mut [u32], i: u32, j: u32)
+    requires { ⌜ i < length (now a) ⌝ }
+    requires { ⌜ j < length (now b) ⌝ }
+    requires { ⌜ i < 4096 ⌝ }
+    requires { ⌜ j < 4096 ⌝ }
+    ensures { λ _. ⌜ new a ≡ set (old a) i (j + 1) ⌝ }
+    ensures { λ _. ⌜ new b ≡ set (old b) j (i + 1) ⌝ }
+{
+    a[i as usize] = j + 1;
+    b[j as usize] = i + 1;
+}
+
+// The same two words are cleared.
+fn cut(a: &mut [u32], b: &mut [u32], i: u32, j: u32)
+    requires { ⌜ i < length (now a) ⌝ }
+    requires { ⌜ j < length (now b) ⌝ }
+    ensures { λ _. ⌜ new a ≡ set (old a) i 0 ⌝ }
+    ensures { λ _. ⌜ new b ≡ set (old b) j 0 ⌝ }
+{
+    a[i as usize] = 0;
+    b[j as usize] = 0;
+}
+
+fn larger(a: u32, b: u32) -> u32
+    ensures { λ r. ⌜ r ≡ max a b ⌝ }
+{
+    if a < b { b } else { a }
+}
+
+impl Counts {
+    // The user goes to the global.
+    pub fn map(mut self, gu: &mut [u32], ug: &mut [u32], user: User, global: Global) -> Counts
+        requires { ⌜ user .0 < length (now gu) ⌝ }
+        requires { ⌜ global .0 < length (now ug) ⌝ }
+        requires { ⌜ user .0 < 4096 ⌝ }
+        requires { ⌜ global .0 < 4096 ⌝ }
+        ensures { λ r. ⌜ r ≡ coverUser self (user .0) (global .0) ⌝ }
+        ensures { λ _. ⌜ new gu ≡ set (old gu) (user .0) (global .0 + 1) ⌝ }
+        ensures { λ _. ⌜ new ug ≡ set (old ug) (global .0) (user .0 + 1) ⌝ }
+    {
+        self.user = larger(self.user, user.0 + 1);
+        self.global = larger(self.global, global.0 + 1);
+        link(gu, ug, user.0, global.0);
+        self
+    }
+
+    // The user of the global is withdrawn.
+    pub fn unmap(mut self, gu: &mut [u32], ug: &mut [u32], user: User, global: Global) -> Counts
+        requires { ⌜ user .0 < length (now gu) ⌝ }
+        requires { ⌜ global .0 < length (now ug) ⌝ }
+        ensures { λ r. ⌜ r ≡ self ⌝ }
+        ensures { λ _. ⌜ new gu ≡ set (old gu) (user .0) 0 ⌝ }
+        ensures { λ _. ⌜ new ug ≡ set (old ug) (global .0) 0 ⌝ }
+    {
+        cut(gu, ug, user.0, global.0);
+        self
+    }
+
+    // The solver index goes to the global.
+    pub fn grant(mut self, sg: &mut [u32], gs: &mut [u32], global: Global, solver: Solver) -> Counts
+        requires { ⌜ global .0 < length (now sg) ⌝ }
+        requires { ⌜ solver .0 < length (now gs) ⌝ }
+        requires { ⌜ global .0 < 4096 ⌝ }
+        requires { ⌜ solver .0 < 4096 ⌝ }
+        ensures { λ r. ⌜ r ≡ coverSolver self (solver .0) ⌝ }
+        ensures { λ _. ⌜ new sg ≡ set (old sg) (global .0) (solver .0 + 1) ⌝ }
+        ensures { λ _. ⌜ new gs ≡ set (old gs) (solver .0) (global .0 + 1) ⌝ }
+    {
+        self.solver = larger(self.solver, solver.0 + 1);
+        link(sg, gs, global.0, solver.0);
+        self
+    }
+
+    // The solver index of the global is withdrawn.
+    pub fn remove(
+        mut self,
+        sg: &mut [u32],
+        gs: &mut [u32],
+        global: Global,
+        solver: Solver,
+    ) -> Counts
+        requires { ⌜ global .0 < length (now sg) ⌝ }
+        requires { ⌜ solver .0 < length (now gs) ⌝ }
+        ensures { λ r. ⌜ r ≡ self ⌝ }
+        ensures { λ _. ⌜ new sg ≡ set (old sg) (global .0) 0 ⌝ }
+        ensures { λ _. ⌜ new gs ≡ set (old gs) (solver .0) 0 ⌝ }
+    {
+        cut(sg, gs, global.0, solver.0);
+        self
+    }
 }
 
 // A user index, a global index and a solver index.
