@@ -1,0 +1,1 @@
+// Sessions are definitions and one theorem: specs/ and proofs/. No code.
