@@ -1,11 +1,11 @@
 -- The worked cases of document 01 that are the codec's, by computation.
 use Prim.Native.Nat.{ℕ}
 use mathlib.Core.Path.{_≡_, refl}
-use mathlib.Core.List.{List, [], _∷_}
+use mathlib.Core.List.{[], _∷_}
 use Rattle.base.specs.Answer.{refused}
 use Rattle.drat.specs.Numeral.{spell, further, bytesOf}
 use Rattle.drat.specs.Grammar.{stepOf, number, numbers, encodeStep}
-use Rattle.drat.specs.Reading.{decimalFrom, lebFrom, endFrom, token, blankFrom, opening, consPart, body, asStep, oneStep, consStep, stepsFrom, readProof}
+use Rattle.drat.specs.Reading.{decimalFrom, endFrom, token, blankFrom, opening, consPart, body, asStep, oneStep, consStep, stepsFrom, readProof}
 use Rattle.drat.specs.Filled.{answerOf, readOf}
 use Rattle.drat.specs.declared.Format.the-variants.{Text, Binary}
 use Rattle.drat.specs.declared.Kind.the-variants.{Add, Delete}

@@ -1,16 +1,15 @@
 -- Laws of `Codes` and `Valid`: how a caller shows that what it writes can be read.
-use Prim.Native.Nat.{ℕ, zero, suc, _+_, _-_, _≤_, _<_}
-use mathlib.Core.Path.{_≡_, refl, sym, ap, _∙_, subst}
+use Prim.Native.Nat.{ℕ, zero, suc, _+_, _-_, _<_}
+use mathlib.Core.Path.{_≡_}
 use mathlib.Core.List.{List, [], _∷_, _++_}
-use mathlib.Core.Bool.{Bool, true, false}
+use mathlib.Core.Bool.{true}
+use native.Mathlib.Omega.{arith}
 use lib.Dec.{ltb}
 use lib.ListN.{length, getD, take, drop, length-drop, length-take}
 use lib.Seq.{getD-drop, getD-take}
-use native.Mathlib.Omega.{arith}
-use borrow.Author.Tests.{ltb-true, ltb-false, lt-ltb, le-ltb}
-use Rattle.base.specs.Bounded.{allBelow}
+use borrow.Author.Tests.{ltb-true, lt-ltb}
 use Rattle.base.proofs.BelowLaws.{all-at, all-intro}
-use Rattle.drat.specs.Grammar.{Step, stepOf, Codes, Valid}
+use Rattle.drat.specs.Grammar.{Step, Codes, Valid}
 use Rattle.drat.specs.Writing.{part, codesTest}
 
 -- no codes; one more in front

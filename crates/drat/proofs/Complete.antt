@@ -1,27 +1,22 @@
 -- What the grammar spells is read: the reader gives back the steps, and so the bytes have one reading.
-use Prim.Native.Nat.{ℕ, zero, suc, _+_, _-_, _*_, _/_, _%_, _≤_, _<_}
-use mathlib.Core.Path.{_≡_, refl, sym, ap, ap₂, _∙_, subst}
+use Prim.Native.Nat.{ℕ, zero, suc, _+_, _-_, _*_, _≤_, _<_}
+use mathlib.Core.Path.{_≡_, refl, sym, ap, ap₂, _∙_}
 use mathlib.Core.List.{List, [], _∷_, _++_, append-assoc, append-nil}
-use mathlib.Core.Bool.{Bool, true, false}
-use lib.Dec.{eqb, ltb}
-use lib.ListN.{length, drop, length-append}
-use lib.Seq.{drop-append-seam, drop-at}
 use native.Mathlib.Omega.{arith}
-use native.Mathlib.Nat.{mul-le-mul-left, add-assoc}
-use borrow.Author.Tests.{eq-eqb, ne-eqb, lt-ltb, le-ltb}
+use native.Mathlib.Nat.{mul-le-mul-left}
+use lib.ListN.{length, drop, length-append}
+use lib.Seq.{drop-at}
+use borrow.Author.Tests.{ne-eqb, lt-ltb, le-ltb}
 use Rattle.drat.proofs.Numerals.{numeral-pos}
-use Rattle.drat.specs.Numeral.{decimal, leb128, Numeral, one, more, bytesOf}
+use Rattle.drat.specs.Numeral.{decimal, leb128, Numeral, one, more}
 use Rattle.drat.specs.Grammar.{Step, opens, ends, Number, plus, minus, code, Body, last, lit, Spells, none, step, encodeStep, encode, Valid}
 use Rattle.drat.proofs.Written.{encode-spells}
-use Rattle.base.specs.Choice.{pick}
-use Rattle.drat.specs.Reading.{decimalFrom, lebFrom, endFrom, token, blankFrom, opening, Part, whole, broken, consPart, body, One, got, fault, asStep, oneStep, Proof, steps, faultAt, consStep, stepsFrom, readProof}
+use Rattle.drat.specs.Reading.{decimalFrom, lebFrom, endFrom, token, blankFrom, opening, whole, broken, consPart, body, got, fault, asStep, oneStep, steps, faultAt, consStep, stepsFrom, readProof}
 use Rattle.drat.specs.declared.Kind.{Kind}
 use Rattle.drat.specs.declared.Kind.the-variants.{Add, Delete}
 use Rattle.drat.specs.declared.Format.{Format}
 use Rattle.drat.specs.declared.Format.the-variants.{Text, Binary}
-use Rattle.drat.specs.declared.Token.{Token}
 use Rattle.drat.specs.declared.Token.the-variants.{Lit, Stop, Bad}
-use Rattle.drat.specs.declared.Opening.{Opening}
 use Rattle.drat.specs.declared.Opening.the-variants.{Opens, Wrong}
 
 -- one decimal digit

@@ -1,25 +1,25 @@
 -- The place after a step, literal by literal; and what a call of the reader answers, from what its scans answer.
-use Prim.Native.Nat.{ℕ, zero, suc, _+_, _≤_, _<_}
-use mathlib.Core.Path.{_≡_, refl, sym, ap, ap₂, _∙_, subst}
+use Prim.Native.Nat.{ℕ, zero, suc, _≤_, _<_}
+use mathlib.Core.Path.{_≡_, refl, sym, ap, ap₂, _∙_}
 use mathlib.Core.List.{List, [], _∷_, _++_}
-use mathlib.Core.Bool.{Bool, true, false, _||_}
+use mathlib.Core.Bool.{Bool, true, _||_}
+use native.Mathlib.Omega.{arith}
 use lib.Dec.{ltb}
 use lib.ListN.{length, drop, take}
 use lib.Seq.{sets}
-use native.Mathlib.Omega.{arith}
 use borrow.Author.Tests.{lt-ltb, le-ltb}
-use Rattle.drat.specs.Grammar.{Step}
 use Rattle.base.specs.Choice.{pick}
 use Rattle.base.specs.Answer.{accepted, refused}
-use Rattle.drat.specs.Reading.{token, opening, Part, whole, broken, consPart, One, got, fault, asStep, oneStep, Proof, steps, faultAt, readProof}
-use Rattle.drat.specs.Filled.{endOf, counted, codesOf, endsFrom, kindsOf, Scan, Filling, refusing, filling, answerOf, readOf, read, ReadCall, firstBy, firstOf, first}
+use Rattle.drat.specs.Grammar.{Step}
+use Rattle.drat.specs.Reading.{Part, whole, broken, consPart, One, got, fault, asStep, oneStep, Proof, steps, faultAt, readProof}
+use Rattle.drat.specs.Filled.{endOf, counted, codesOf, Scan, Filling, refusing, filling, answerOf, readOf, read, ReadCall, firstBy, firstOf, first}
 use Rattle.drat.specs.declared.Kind.{Kind}
 use Rattle.drat.specs.declared.Format.{Format}
 use Rattle.drat.specs.declared.Scanned.{Scanned}
 use Rattle.drat.specs.declared.Scanned.the-variants.{Whole, Fault}
 use Rattle.drat.specs.declared.Read.{Read}
 use Rattle.drat.specs.declared.Read.the-variants.{Filled, Broken, Short}
-use Rattle.drat.proofs.Places.{bodyAt, stepAt, step-moves}
+use Rattle.drat.proofs.Places.{stepAt, step-moves}
 use Rattle.drat.proofs.Sound.{Bytes}
 
 unfoldable pub endPart : ℕ → Part → ℕ

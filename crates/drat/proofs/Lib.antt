@@ -9,5 +9,7 @@ pub mod At
 pub mod Sound
 pub mod Steps
 pub mod CodesLaws
+pub mod WritingLaws
+pub mod Shapes
 pub mod Numbers
 pub mod Complete

@@ -1,24 +1,27 @@
 -- The bytes of a literal, case by case, and how many they are.
-use Prim.Native.Nat.{ℕ, zero, suc, _+_, _*_, _/_, _%_, _≤_, _<_}
-use mathlib.Core.Path.{_≡_, refl, sym, ap, _∙_}
+use Prim.Native.Nat.{ℕ, zero, suc, _+_, _/_, _%_, _≤_}
+use mathlib.Core.Path.{_≡_, refl, ap, _∙_}
 use mathlib.Core.List.{List, [], _∷_, _++_}
 use mathlib.Core.Bool.{Bool, true, false}
+use native.Mathlib.Omega.{arith}
 use lib.Dec.{ltb}
 use lib.ListN.{length, length-append}
-use native.Mathlib.Omega.{arith}
 use borrow.Author.Tests.{eq-eqb, ne-eqb}
 use Rattle.base.specs.Choice.{pick}
-use Rattle.drat.specs.Numeral.{Radix, decimal, leb128, Numeral, one, more, Digits, spell, further, bytesOf}
-use Rattle.drat.specs.Grammar.{number}
+use Rattle.drat.specs.Numeral.{Radix, decimal, leb128, spell, further, bytesOf}
+use Rattle.drat.specs.Grammar.{sign, blanked, number}
 use Rattle.drat.specs.declared.Format.the-variants.{Text, Binary}
 
-pub number-even : (c : ℕ) → c % 2 ≡ 0 → number Text c ≡ bytesOf decimal (c / 2 + 1) ++ 32 ∷ []
-unfolding number
-number-even c e = rw (eq-eqb (c % 2) 0 e, number)
+-- a positive literal has no sign
+pub sign-even : (c : ℕ) → c % 2 ≡ 0 → sign c ≡ []
+sign-even c e = ap (λ (t : Bool). pick {A = List ℕ} t [] (45 ∷ [])) (eq-eqb (c % 2) 0 e)
 
-pub number-odd : (c : ℕ) → (c % 2 ≡ 0 → ⊥) → number Text c ≡ 45 ∷ bytesOf decimal (c / 2 + 1) ++ 32 ∷ []
+pub sign-odd : (c : ℕ) → (c % 2 ≡ 0 → ⊥) → sign c ≡ 45 ∷ []
+sign-odd c e = ap (λ (t : Bool). pick {A = List ℕ} t [] (45 ∷ [])) (ne-eqb (c % 2) 0 e)
+
+pub number-text : (c : ℕ) → number Text c ≡ sign c ++ blanked (c / 2 + 1)
 unfolding number
-number-odd c e = rw (ne-eqb (c % 2) 0 e, number)
+number-text c = refl
 
 pub number-code : (c : ℕ) → number Binary c ≡ bytesOf leb128 (c + 2)
 unfolding number
@@ -37,12 +40,6 @@ decimal-length n = spell-length decimal (λ d. refl) (λ d bs. length-append bs 
 pub leb-length : (n : ℕ) → length (bytesOf leb128 n) ≡ suc (further 128 n n)
 unfolding bytesOf
 leb-length n = spell-length leb128 (λ d. refl) (λ d bs. omega arith) (further 128 n n) n ∙ omega arith
-
-pub length-even : (c : ℕ) → c % 2 ≡ 0 → length (number Text c) ≡ suc (further 10 (c / 2 + 1) (c / 2 + 1)) + 1
-length-even c e = ap length (number-even c e) ∙ length-append (bytesOf decimal (c / 2 + 1)) (32 ∷ []) ∙ ap (λ (k : ℕ). k + 1) (decimal-length (c / 2 + 1))
-
-pub length-odd : (c : ℕ) → (c % 2 ≡ 0 → ⊥) → length (number Text c) ≡ suc (further 10 (c / 2 + 1) (c / 2 + 1)) + 2
-length-odd c e = ap length (number-odd c e) ∙ ap suc (length-append (bytesOf decimal (c / 2 + 1)) (32 ∷ [])) ∙ omega (arith, decimal-length (c / 2 + 1))
 
 pub length-code : (c : ℕ) → length (number Binary c) ≡ suc (further 128 (c + 2) (c + 2))
 length-code c = ap length (number-code c) ∙ leb-length (c + 2)

@@ -1,14 +1,14 @@
 -- The laws of digits, for every base and every length at once.
 use Prim.Native.Nat.{ℕ, zero, suc, _+_, _*_, _/_, _%_, _≤_, _<_}
 use mathlib.Core.Path.{_≡_, refl, sym, ap, _∙_, subst}
-use mathlib.Core.List.{List, [], _∷_, _++_}
+use mathlib.Core.List.{List}
 use mathlib.Core.Bool.{Bool, true, false}
-use lib.Dec.{ltb}
 use native.Mathlib.Omega.{arith}
 use native.Mathlib.Nat.{mod-add-div, mod-lt, mod-eq-of-lt, div-lt-self, div-eq-of-lt, le-div-iff-mul-le, pos-of-div-pos, add-mul-div-left, add-mul-mod-self-left}
-use borrow.Author.Tests.{ltb-true, ltb-false, lt-ltb, le-ltb}
+use lib.Dec.{ltb}
+use borrow.Author.Tests.{ltb-true, ltb-false}
 use Rattle.base.specs.Choice.{pick}
-use Rattle.drat.specs.Numeral.{Radix, decimal, leb128, Numeral, one, more, Digits, spell, further, bytesOf}
+use Rattle.drat.specs.Numeral.{Radix, Numeral, one, more, Digits, spell, further, bytesOf}
 
 -- what is spelled by length is spelled by the grammar
 pub spell-numeral : (r : Radix) → 1 < r .base → (k n : ℕ) → Digits (r .base) k n → Numeral r (spell r k n) n

@@ -1,21 +1,20 @@
 -- The reader at a place of its input, with no bound on its depth to carry.
-use Prim.Native.Nat.{ℕ, zero, suc, _+_, _-_, _*_, _≤_, _<_}
-use mathlib.Core.Path.{_≡_, refl, sym, ap, ap₂, _∙_, subst}
+use Prim.Native.Nat.{ℕ, zero, suc, _+_, _-_, _≤_, _<_}
+use mathlib.Core.Path.{_≡_, refl, sym, ap, _∙_}
 use mathlib.Core.List.{List, [], _∷_, _++_}
-use lib.ListN.{length, getD, drop, length-append, length-drop, drop-of-length-le}
-use lib.Seq.{drop-drop, getD-drop, drop-nil}
 use native.Mathlib.Omega.{arith}
-use Rattle.drat.specs.Grammar.{Step, stepOf, opens, ends}
+use lib.ListN.{length, getD, drop, length-append, length-drop, drop-of-length-le}
+use lib.Seq.{drop-drop, getD-drop}
+use Rattle.drat.specs.Grammar.{Step, opens, ends}
 use Rattle.drat.specs.Reading.{token, opening, Part, whole, broken, consPart, body, One, got, fault, asStep, oneStep, Proof, steps, faultAt, consStep, stepsFrom, readProof}
 use Rattle.drat.specs.declared.Kind.{Kind}
 use Rattle.drat.specs.declared.Format.{Format}
 use Rattle.drat.specs.declared.Token.{Token}
 use Rattle.drat.specs.declared.Token.the-variants.{Lit, Stop, Bad}
-use Rattle.drat.specs.declared.Opening.{Opening}
 use Rattle.drat.specs.declared.Opening.the-variants.{Opens, Wrong}
 use Rattle.drat.proofs.Complete.{number-length, body-length, ends-length, body-lit, body-stop, body-bad, one-opens, one-wrong, steps-got, steps-not}
 use Rattle.drat.proofs.Steps.{next}
-use Rattle.drat.proofs.Sound.{Bytes, token-sound, token-stop, opening-sound, step-sound, bytes-rest}
+use Rattle.drat.proofs.Sound.{Bytes, token-sound, token-stop, opening-sound, step-sound}
 
 none-left : (f : Format) (n i : ℕ) → stepsFrom f n i [] ≡ steps []
 unfolding stepsFrom

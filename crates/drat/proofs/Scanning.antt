@@ -1,20 +1,19 @@
 -- The reader's two loops, turn by turn: what holds before a turn holds after it, and what the ways out answer.
-use Prim.Native.Nat.{ℕ, zero, suc, _+_, _-_, _≤_, _<_}
-use mathlib.Core.Path.{_≡_, refl, sym, ap, ap₂, _∙_, subst}
+use Prim.Native.Nat.{ℕ, suc, _+_, _≤_, _<_}
+use mathlib.Core.Path.{_≡_, refl, sym, ap, ap₂, _∙_}
 use mathlib.Core.List.{List, [], _∷_, _++_, append-assoc, append-nil}
+use native.Mathlib.Omega.{arith}
 use lib.ListN.{length, drop, set, length-append}
 use lib.Seq.{sets}
-use native.Mathlib.Omega.{arith}
+use Rattle.base.proofs.SetsLaws.{sets-append}
 use Rattle.drat.specs.Grammar.{Step, stepOf}
-use Rattle.drat.specs.Reading.{token, opening, Part, whole, broken, consPart, One, got, fault, asStep, Proof, steps, faultAt, consStep, readProof}
+use Rattle.drat.specs.Reading.{token, opening, Part, whole, broken, consPart, got, asStep, Proof, steps, faultAt, consStep, readProof}
 use Rattle.drat.specs.Filled.{kindNumber, codesOf, endsFrom, kindsOf, counted, Scan}
 use Rattle.drat.specs.declared.Kind.{Kind}
 use Rattle.drat.specs.declared.Format.{Format}
-use Rattle.drat.specs.declared.Scanned.{Scanned}
 use Rattle.drat.specs.declared.Scanned.the-variants.{Whole, Fault}
 use Rattle.drat.specs.declared.Token.the-variants.{Lit, Stop, Bad}
 use Rattle.drat.specs.declared.Opening.the-variants.{Opens, Wrong}
-use Rattle.base.proofs.SetsLaws.{sets-append}
 use Rattle.drat.proofs.Sound.{Bytes, steps-fault, steps-part}
 use Rattle.drat.proofs.Places.{bodyAt, stepAt, proofAt, lit-at, stop-at, bad-at, opens-at, wrong-at, got-at, fault-at, end-at, proof-at-zero}
 

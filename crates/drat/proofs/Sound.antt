@@ -1,16 +1,16 @@
 -- What is read is spelled by the grammar.
-use Prim.Native.Nat.{ℕ, zero, suc, _+_, _-_, _*_, _/_, _%_, _≤_, _<_}
+use Prim.Native.Nat.{ℕ, zero, suc, _+_, _-_, _*_, _≤_, _<_}
 use mathlib.Core.Path.{_≡_, refl, sym, ap, ap₂, _∙_, subst, subst₂}
 use mathlib.Core.List.{List, [], _∷_, _++_, append-assoc, append-nil}
 use mathlib.Core.Bool.{Bool, true, false}
+use native.Mathlib.Omega.{arith}
 use lib.Dec.{eqb, ltb}
 use lib.ListN.{length, getD, drop, length-append}
-use lib.Seq.{drop-append-seam, drop-at, getD-append-add}
-use native.Mathlib.Omega.{arith}
+use lib.Seq.{drop-at, getD-append-add}
 use borrow.Author.Tests.{eqb-true, eqb-false, ltb-true, ltb-false}
-use Rattle.drat.specs.Numeral.{decimal, leb128, Numeral, one, more, bytesOf}
-use Rattle.drat.specs.Grammar.{Step, stepOf, opens, ends, Number, plus, minus, code, Body, last, lit, Spells, none, step}
 use Rattle.base.specs.Choice.{pick}
+use Rattle.drat.specs.Numeral.{decimal, leb128, Numeral, one, more}
+use Rattle.drat.specs.Grammar.{Step, stepOf, opens, ends, Number, plus, minus, code, Body, last, lit, Spells, none, step}
 use Rattle.drat.specs.Reading.{decimalFrom, lebFrom, endFrom, token, blankFrom, opening, Part, whole, broken, consPart, body, One, got, fault, asStep, oneStep, Proof, steps, faultAt, consStep, stepsFrom, readProof}
 use Rattle.drat.specs.declared.Kind.{Kind}
 use Rattle.drat.specs.declared.Kind.the-variants.{Add, Delete}

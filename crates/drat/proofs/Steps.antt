@@ -1,29 +1,17 @@
 -- The bytes of a step's literals, one after another, and of a step.
-use Prim.Native.Nat.{ℕ, zero, suc, _+_, _*_, _/_, _%_, _≤_, _<_}
-use mathlib.Core.Path.{_≡_, refl, sym, ap, ap₂, _∙_, subst}
+use Prim.Native.Nat.{ℕ, suc, _+_, _≤_, _<_}
+use mathlib.Core.Path.{_≡_, sym, ap, _∙_, subst}
 use mathlib.Core.List.{List, [], _∷_, _++_}
-use mathlib.Core.Bool.{Bool, true, false}
-use lib.Dec.{eqb}
-use lib.ListN.{length, getD, drop, length-append, drop-of-length-le}
-use lib.Seq.{sets, drop-cons}
 use native.Mathlib.Omega.{arith}
 use native.Mathlib.Numerals.{add-one}
-use borrow.Author.Tests.{eqb-true, eqb-false}
-use Rattle.drat.specs.Grammar.{Step, stepOf, opens, ends, number, numbers, encodeStep, Codes}
+use lib.ListN.{length, getD, drop, length-append, drop-of-length-le}
+use lib.Seq.{sets, drop-cons}
+use Rattle.base.proofs.SetsLaws.{sets-append}
+use Rattle.drat.specs.Grammar.{stepOf, opens, ends, number, numbers, encodeStep, Codes}
 use Rattle.drat.specs.declared.Kind.{Kind}
 use Rattle.drat.specs.declared.Kind.the-variants.{Add, Delete}
 use Rattle.drat.specs.declared.Format.{Format}
 use Rattle.drat.specs.declared.Format.the-variants.{Text, Binary}
-use Rattle.drat.proofs.Numbers.{length-even, length-odd, length-code, further-le}
-use Rattle.base.proofs.SetsLaws.{sets-append}
-
-pub number-le : (f : Format) (c : ℕ) → c < 8192 → length (number f c) ≤ 8200
-number-le Text c h = go (eqb (c % 2) 0) refl
-  where
-    go : (t : Bool) → eqb (c % 2) 0 ≡ t → length (number Text c) ≤ 8200
-    go true e = omega (arith, length-even c (eqb-true (c % 2) 0 e), further-le 10 (c / 2 + 1) (c / 2 + 1))
-    go false e = omega (arith, length-odd c (eqb-false (c % 2) 0 e), further-le 10 (c / 2 + 1) (c / 2 + 1))
-number-le Binary c h = omega (arith, length-code c, further-le 128 (c + 2) (c + 2))
 
 -- one literal more
 pub next : (l : List ℕ) (i : ℕ) → i < length l → drop i l ≡ getD l i 0 ∷ drop (i + 1) l

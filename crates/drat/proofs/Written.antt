@@ -1,14 +1,14 @@
 -- What is written is spelled by the grammar; and a spelling beside a spelling is a spelling.
-use Prim.Native.Nat.{ℕ, zero, suc, _+_, _*_, _/_, _%_, _≤_, _<_}
-use mathlib.Core.Path.{_≡_, refl, sym, ap, _∙_, subst}
-use mathlib.Core.List.{List, [], _∷_, _++_, append-assoc, append-nil}
+use Prim.Native.Nat.{ℕ, suc, _+_, _/_, _%_, _<_}
+use mathlib.Core.Path.{_≡_, refl, subst}
+use mathlib.Core.List.{List, [], _∷_, _++_, append-assoc}
 use mathlib.Core.Bool.{Bool, true, false}
-use lib.Dec.{eqb}
 use native.Mathlib.Omega.{arith}
+use lib.Dec.{eqb}
 use borrow.Author.Tests.{eqb-true, eqb-false}
 use Rattle.base.specs.Choice.{pick}
-use Rattle.drat.specs.Numeral.{decimal, leb128, Numeral, bytesOf}
-use Rattle.drat.specs.Grammar.{Step, opens, ends, Number, plus, minus, code, Body, last, lit, Spells, none, step, blanked, number, numbers, encodeStep, encode, Codes, Valid}
+use Rattle.drat.specs.Numeral.{decimal, leb128, bytesOf}
+use Rattle.drat.specs.Grammar.{Step, ends, Number, plus, minus, code, Body, last, lit, Spells, none, step, blanked, number, numbers, encodeStep, encode, Codes, Valid}
 use Rattle.drat.specs.declared.Format.{Format}
 use Rattle.drat.specs.declared.Format.the-variants.{Text, Binary}
 use Rattle.drat.proofs.Numerals.{bytes-numeral}

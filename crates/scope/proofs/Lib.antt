@@ -1,2 +1,11 @@
 pub mod CountsLaws
-pub mod Entries
+pub mod SoundLaws
+pub mod PairLaws
+pub mod MoveLaws
+pub mod ResultLaws
+pub mod MapLaws
+pub mod GrantLaws
+pub mod ModeLaws
+pub mod RemoveLaws
+pub mod MarkLaws
+pub mod OpenLaws

@@ -2,6 +2,7 @@ pub mod Literals
 pub mod Table
 pub mod Sound
 pub mod Notes
+pub mod Entries
 pub mod Outcome
 pub mod Lookup
 pub mod Open

@@ -25,7 +25,7 @@ use Rattle.scope.specs.Steps.{ruleOf, literalsOf}
 use Rattle.scope.specs.Simplify.{simplifyOf}
 use Rattle.scope.specs.Write.{renameOf, writeOf}
 use Rattle.scope.specs.Models.{modelOf}
-use Rattle.scope.proofs.Entries.{Entry, noted, hides}
+use Rattle.scope.specs.Entries.{Entry, noted, hides}
 use Rattle.session.specs.Ledger.{Line, line}
 
 -- what a Lookup is asked for

@@ -8,7 +8,7 @@ use Rattle.drat.specs.Grammar.{Step, stepOf}
 use Rattle.drat.specs.declared.Kind.{Kind}
 use Rattle.scope.specs.Notes.{Note, user+, user-, solver+, solver-, deletes, changes}
 use Rattle.scope.specs.Write.{renameLits}
-use Rattle.scope.proofs.Entries.{Entry, noted, hides}
+use Rattle.scope.specs.Entries.{Entry, noted, hides}
 
 -- the notes alone
 unfoldable pub notesOf : List Entry → List Note

@@ -11,7 +11,7 @@ use Rattle.scope.specs.Table.{Table, recordOf, isShown}
 use Rattle.scope.specs.Sound.{Inverse, Shown}
 use Rattle.scope.specs.Notes.{Note, heldBy}
 use Rattle.scope.specs.Outcome.{Outcome}
-use Rattle.scope.proofs.Entries.{Entry}
+use Rattle.scope.specs.Entries.{Entry}
 use Rattle.session.specs.Ledger.{notesOf, shownBy, entered}
 use Rattle.session.specs.Calls.{Call, perform, entriesOf, linesOf}
 

@@ -1,4 +1,4 @@
--- What the ledger enters of names: a note, or an accepted Set mode to Hide.
+-- What a ledger enters of names: a note, or that an accepted Set mode hid a global.
 use Prim.Native.Nat.{ℕ}
 use Rattle.scope.specs.Notes.{Note}
 

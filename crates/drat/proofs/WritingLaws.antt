@@ -1,0 +1,74 @@
+-- Laws of the call that writes one clause, case by case.
+use Prim.Native.Nat.{ℕ, _+_, _-_, _≤_, _<_}
+use mathlib.Core.Path.{_≡_, refl, ap}
+use mathlib.Core.List.{List, [], _∷_}
+use mathlib.Core.Bool.{Bool, true, false, _&&_, _||_, not, true≢false}
+use native.Mathlib.Omega.{arith}
+use native.Mathlib.Numerals.{add-one}
+use lib.Dec.{ltb}
+use lib.ListN.{length, getD, drop, length-take}
+use borrow.Author.Tests.{ltb-false, lt-ltb, le-ltb}
+use Rattle.base.specs.Bounded.{allBelow}
+use Rattle.base.specs.Answer.{accepted, refused}
+use Rattle.drat.specs.Grammar.{stepOf, encodeStep, Codes}
+use Rattle.drat.specs.Writing.{part, codesTest, outside, writeOf}
+use Rattle.drat.specs.declared.Kind.{Kind}
+use Rattle.drat.specs.declared.Format.{Format}
+use Rattle.drat.proofs.CodesLaws.{codes-true}
+
+-- the test of codes, one code more
+pub test-none : (cs : List ℕ) → true ≡ allBelow 0 (λ i. ltb (getD cs i 0) 8192)
+unfolding allBelow
+test-none cs = refl
+
+pub test-more : (cs : List ℕ) (i : ℕ) (t : Bool) → t ≡ allBelow i (λ j. ltb (getD cs j 0) 8192) → t && ltb (getD cs i 0) 8192 ≡ allBelow (i + 1) (λ j. ltb (getD cs j 0) 8192)
+unfolding allBelow
+test-more cs i t e = rw add-one (ap (λ (b : Bool). b && ltb (getD cs i 0) 8192) e)
+
+-- the four ways to be no clause, in the order in which they are tried
+module _ (buf : List ℕ) (a b : ℕ) where
+  pub outside-turned : b < a → outside buf a b ≡ true
+  outside-turned h = rw (lt-ltb b a h)
+
+  pub outside-past : a ≤ b → length buf < b → outside buf a b ≡ true
+  outside-past h k = rw (le-ltb b a h, lt-ltb (length buf) b k)
+
+  pub outside-long : a ≤ b → b ≤ length buf → 8192 < b - a → outside buf a b ≡ true
+  outside-long h k l = rw (le-ltb b a h, le-ltb (length buf) b k, lt-ltb 8192 (b - a) l)
+
+  pub outside-codes : a ≤ b → b ≤ length buf → b - a ≤ 8192 → outside buf a b ≡ not (codesTest (part a b buf))
+  outside-codes h k l = rw (le-ltb b a h, le-ltb (length buf) b k, le-ltb 8192 (b - a) l)
+
+  pub record Clause : Type 0 where
+    pub ordered : a ≤ b
+    pub within : b ≤ length buf
+    pub short : length (part a b buf) ≤ 8192
+    pub codes : Codes (part a b buf)
+
+  -- what is not outside is a clause that can be written
+  pub inside : outside buf a b ≡ false → Clause
+  inside h =
+      let x = or-false (ltb b a) _ h in
+      let y = or-false (ltb (length buf) b) _ (x .1) in
+      let z = or-false (ltb 8192 (b - a)) _ (y .1) in
+      record { ordered = ltb-false b a (x .0); within = ltb-false (length buf) b (y .0); short = omega (arith, ltb-false 8192 (b - a) (z .0), length-take (b - a) (drop a buf)); codes = codes-true (part a b buf) (not-false (codesTest (part a b buf)) (z .1)) }
+    where
+      or-false : (s t : Bool) → s || t ≡ false → (s ≡ false) × (t ≡ false)
+      or-false true t e = absurd (true≢false e)
+      or-false false t e = (refl, e)
+
+      not-false : (t : Bool) → not t ≡ false → t ≡ true
+      not-false true e = refl
+      not-false false e = absurd (true≢false e)
+
+-- the call's three answers
+module _ (f : Format) (k : Kind) (buf : List ℕ) (a b room at : ℕ) where
+  pub write-outside : outside buf a b ≡ true → writeOf f k buf a b room at ≡ record { answer = refused 3 []; bytes = [] }
+  write-outside h = rw h
+
+  pub write-lacking : outside buf a b ≡ false → room < at + length (encodeStep f (stepOf k (part a b buf))) → writeOf f k buf a b room at ≡ record { answer = refused 2 []; bytes = [] }
+  write-lacking h l = rw (h, lt-ltb room (at + length (encodeStep f (stepOf k (part a b buf)))) l)
+
+  pub write-done : outside buf a b ≡ false → at + length (encodeStep f (stepOf k (part a b buf))) ≤ room
+      → writeOf f k buf a b room at ≡ record { answer = accepted ((at + length (encodeStep f (stepOf k (part a b buf)))) ∷ []); bytes = encodeStep f (stepOf k (part a b buf)) }
+  write-done h l = rw (h, le-ltb room (at + length (encodeStep f (stepOf k (part a b buf)))) l)

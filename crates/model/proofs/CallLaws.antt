@@ -1,0 +1,124 @@
+-- The call: what its refusal and its accepted outcome say of the answer and of the lent memory.
+use Prim.Native.Nat.{ℕ, zero, suc, _≤_, _<_}
+use mathlib.Core.Path.{_≡_, refl, sym, ap, _∙_}
+use mathlib.Core.Bool.{Bool, true, false, _||_, not}
+use mathlib.Core.List.{List, [], _∷_}
+use native.Mathlib.Omega.{arith}
+use lib.Dec.{ltb}
+use lib.ListN.{length}
+use lib.Seq.{sets}
+use borrow.Author.Tests.{lt-ltb, le-ltb, ltb-false}
+use Rattle.base.specs.Choice.{pick}
+use Rattle.base.specs.Answer.{accepted, refused}
+use Rattle.base.proofs.MemberLaws.{or-first, or-second, or-left, or-right}
+use Rattle.scope.specs.Table.{Table}
+use Rattle.scope.specs.Sound.{soundb}
+use Rattle.scope.specs.Notes.{Note, notesWords}
+use Rattle.scope.specs.Outcome.{Outcome, refusal, unless}
+use Rattle.scope.specs.Contract.{Said, Does}
+use Rattle.scope.specs.Models.{globalModel, userModel, modelRefusal, modelOf}
+use Rattle.model.specs.declared.Modelled.{Modelled}
+use Rattle.model.specs.declared.Modelled.the-variants.{Done, Refused}
+use Rattle.model.specs.Answers.{modelled}
+use Rattle.model.proofs.RowLaws.{globals-count}
+
+-- the number and the values tell the answer
+pub modelled-one : (r s : Modelled) (t : Table) → modelled r (t .counts) .answer ≡ modelled s (t .counts) .answer → r ≡ s
+modelled-one (Done a b) (Done d e) t h = let p : a ≡ d = cc in let q : b ≡ e = cc in cc
+modelled-one (Done a b) (Refused n) t h = cc
+modelled-one (Refused n) (Done a b) t h = cc
+modelled-one (Refused n) (Refused m) t h = let p : n ≡ m = cc in cc
+
+-- ---- refusals
+
+pub refusal-1 : (t : Table) (a b : ℕ) → soundb t ≡ false → 1 ≡ modelRefusal t a b
+unfolding modelRefusal
+refusal-1 t a b h = rw h
+
+pub refusal-2-globals : (t : Table) (a b : ℕ) → soundb t ≡ true → a < t .counts .global → 2 ≡ modelRefusal t a b
+unfolding modelRefusal
+refusal-2-globals t a b h l = rw (h, globals-count t, lt-ltb a (t .counts .global) l)
+
+pub refusal-2-users : (t : Table) (a b : ℕ) → soundb t ≡ true → t .counts .global ≤ a → b < length (userModel t) → 2 ≡ modelRefusal t a b
+unfolding modelRefusal
+refusal-2-users t a b h l k = rw (h, globals-count t, le-ltb a (t .counts .global) l, lt-ltb b (length (userModel t)) k)
+
+pub refusal-0 : (t : Table) (a b : ℕ) → soundb t ≡ true → t .counts .global ≤ a → length (userModel t) ≤ b → 0 ≡ modelRefusal t a b
+unfolding modelRefusal
+refusal-0 t a b h l k = rw (h, globals-count t, le-ltb a (t .counts .global) l, le-ltb b (length (userModel t)) k)
+
+-- where none applies
+pub record Clear (t : Table) (a b : ℕ) : Type 0 where
+  pub sound : soundb t ≡ true
+  pub globals : t .counts .global ≤ a
+  pub users : length (userModel t) ≤ b
+
+pub clear : (t : Table) (a b n : ℕ) → n ≡ modelRefusal t a b → n ≡ 0 → Clear t a b
+unfolding modelRefusal
+clear t a b n e z = go (soundb t) refl (ltb a (length (globalModel t))) refl (ltb b (length (userModel t))) refl (sym e ∙ z)
+  where
+    go : (s : Bool) → soundb t ≡ s → (x : Bool) → ltb a (length (globalModel t)) ≡ x → (y : Bool) → ltb b (length (userModel t)) ≡ y → _≡_ {A = ℕ} (pick (not s) 1 (pick (x || y) 2 0)) 0 → Clear t a b
+    go true h false p false q r =
+        let k = globals-count t in
+        let l = ltb-false a (length (globalModel t)) p in
+        record { sound = h; globals = omega arith; users = ltb-false b (length (userModel t)) q }
+    go true h false p true q r = absurd (omega arith)
+    go true h true p y q r = absurd (omega arith)
+    go false h x p y q r = absurd (omega arith)
+
+-- ---- the call
+
+unless-some : (n : ℕ) (t : Table) (o : Outcome) → (n ≡ 0 → ⊥) → unless n t o ≡ refusal n t
+unfolding unless
+unless-some zero t o h = absurd (h refl)
+unless-some (suc n) t o h = refl
+
+model-refused : (t : Table) (a b n : ℕ) → n ≡ modelRefusal t a b → (n ≡ 0 → ⊥) → modelOf t a b ≡ refusal n t
+unfolding modelOf
+model-refused t a b n e h = rw (← e) (unless-some n t _ h)
+
+-- what an accepted call comes to
+abbrev filled : Table → Outcome
+filled t =
+    record {
+      answer = accepted (length (globalModel t) ∷ length (userModel t) ∷ []);
+      table = t;
+      notes = [];
+      words = globalModel t;
+      more = userModel t;
+      bytes = [];
+    }
+
+model-done : (t : Table) (a b n : ℕ) → n ≡ modelRefusal t a b → n ≡ 0 → modelOf t a b ≡ filled t
+unfolding modelOf unless
+model-done t a b n e z = rw (← e, z)
+
+-- what a call says of its answer and the table, and of the two lent slices
+pub record Told (t : Table) (a b : List ℕ) (said : Said) (left : Table) (x y : List ℕ) : Type 0 where
+  pub does : Does (modelOf t (length a) (length b)) said left [] []
+  pub globals : x ≡ sets a 0 (modelOf t (length a) (length b) .words)
+  pub users : y ≡ sets b 0 (modelOf t (length a) (length b) .more)
+
+told-by : (t : Table) (a b : List ℕ) (o : Outcome) → modelOf t (length a) (length b) ≡ o → o .notes ≡ [] → (said : Said) (left : Table) (x y : List ℕ)
+    → said .answer ≡ o .answer → left ≡ o .table → x ≡ sets a 0 (o .words) → y ≡ sets b 0 (o .more) → Told t a b said left x y
+unfolding notesWords
+told-by t a b o e z said left x y p q r s =
+    record {
+      does = record {
+        answer = p ∙ sym (ap (λ (w : Outcome). w .answer) e);
+        table = q ∙ sym (ap (λ (w : Outcome). w .table) e);
+        noted = sym (ap (λ (w : Outcome). sets [] 0 (notesWords (w .notes))) e ∙ ap (λ (ns : List Note). sets [] 0 (notesWords ns)) z);
+      };
+      globals = r ∙ sym (ap (λ (w : Outcome). sets a 0 (w .words)) e);
+      users = s ∙ sym (ap (λ (w : Outcome). sets b 0 (w .more)) e);
+    }
+
+pub told-refused : (t : Table) (a b : List ℕ) (n : ℕ) → n ≡ modelRefusal t (length a) (length b) → (n ≡ 0 → ⊥) → Told t a b (modelled (Refused n) (t .counts)) t a b
+told-refused t a b n e h = told-by t a b (refusal n t) (model-refused t (length a) (length b) n e h) refl _ _ _ _ refl refl refl refl
+
+pub told-done : (t : Table) (a b : List ℕ) (n k : ℕ) (x y : List ℕ) → n ≡ modelRefusal t (length a) (length b) → n ≡ 0
+    → x ≡ sets a 0 (globalModel t) → k ≡ length (userModel t) → y ≡ sets b 0 (userModel t)
+    → Told t a b (modelled (Done (t .counts .global) k) (t .counts)) t x y
+told-done t a b n k x y e z p q r =
+    told-by t a b (filled t) (model-done t (length a) (length b) n e z) refl _ _ _ _
+    (rw (globals-count t, q)) refl p r

@@ -1,0 +1,81 @@
+use Rattle.model.proofs.RowLaws.{usersTo, fill-kept, fill-there, users-start, count-some, count-none, count-end, count-bound, count-room, fill-start, fill-some, fill-none, fill-end}
+use Rattle.model.proofs.ValueLaws.{user-mark}
+use lib.Seq.{sets}
+use mathlib.Core.Logic.{⊎-elim}
+use Prim.Native.Nat.{_≤_, _-_}
+use mathlib.Core.Path.{_≡_, sym, ap, _∙_}
+use lib.ListN.{length}
+use native.Mathlib.Omega.{arith}
+use Rattle.scope.specs.Table.{tableOf}
+use Rattle.model.proofs.fill_users.Statement.{statement}
+use Rattle.model.proofs.fill_users.Tie as tie
+
+abbrev Inv-loop : tie.InvT-loop
+Inv-loop c gu ug sg gs assignment records users₀ k₀ u₀ users k u =
+    (u ≤ c .user) × (k ≡ length (usersTo (tableOf c gu ug sg gs assignment records) u)) × (users ≡ sets users₀ 0 (usersTo (tableOf c gu ug sg gs assignment records) u))
+
+abbrev μ-loop : tie.MeasureT-loop
+μ-loop c gu ug sg gs assignment records users₀ k₀ u₀ users k u = c .user - u
+
+loop-holds : tie.Need-loop-holds Inv-loop μ-loop
+loop-holds c = (omega arith, sym (ap length (users-start _)), fill-start _ _)
+
+user-value-requires : tie.Need-user-value-requires Inv-loop μ-loop
+user-value-requires c κs = ((c .before .before .before .before .before .before .before .before .before .before .pre .0), (c .if1 .taken))
+
+mul-users : tie.Need-mul-users Inv-loop μ-loop
+mul-users c = let z = user-mark _ (c .before .before .before .before .before .before .before .before .before .before .before .before .pre .0) in omega arith
+
+sub-users : tie.Need-sub-users Inv-loop μ-loop
+sub-users c = let z = (c .before .user-value .ensures .1) in omega arith
+
+add-users : tie.Need-add-users Inv-loop μ-loop
+add-users c = let z = user-mark _ (c .before .before .before .before .before .before .before .before .before .before .before .before .pre .0) in omega arith
+
+cast-users : tie.Need-cast-users Inv-loop μ-loop
+cast-users c = let z = count-bound _ _ _ (c .before .before .before .before .loop .inv .1) in omega arith
+
+mul-users-2 : tie.Need-mul-users-2 Inv-loop μ-loop
+mul-users-2 c = let z = user-mark _ (c .before .before .before .before .before .before .before .before .before .before .before .before .pre .0) in let x = count-bound _ _ _ (c .before .before .before .before .loop .inv .1) in omega arith
+
+slice-write-users : tie.Need-slice-write-users Inv-loop μ-loop
+slice-write-users c = fill-there _ _ _ _ _ (count-room _ _ _ _ (c .before .before .if1 .taken) (c .before .user-value .ensures .0) (c .if2 .taken) (c .before .before .before .before .loop .inv .1)) (c .before .before .before .before .before .before .before .before .before .before .before .before .pre .1) (c .before .before .before .before .loop .inv .2)
+
+add-k : tie.Need-add-k Inv-loop μ-loop
+add-k c = let x = count-bound _ _ _ (c .before .before .before .before .loop .inv .1) in omega arith
+
+add-u : tie.Need-add-u Inv-loop μ-loop
+add-u c = omega arith
+
+loop-less : tie.Need-loop-less Inv-loop μ-loop
+loop-less c = omega arith
+
+loop-again : tie.Need-loop-again Inv-loop μ-loop
+loop-again c = ⊎-elim (λ w. (omega arith, w .2 ∙ count-some _ _ _ _ (c .before .user-value .ensures .0) (w .0 .taken) (c .before .before .before .before .loop .inv .1), w .1 ∙ fill-some _ _ _ _ _ _ (c .before .before .before .before .loop .inv .2) (c .before .before .before .before .loop .inv .1) (c .before .user-value .ensures .0) (w .0 .taken))) (λ w. (omega arith, w .2 ∙ count-none _ _ _ _ (c .before .user-value .ensures .0) (w .0 .left) (c .before .before .before .before .loop .inv .1), w .1 ∙ fill-none _ _ _ _ _ (c .before .before .before .before .loop .inv .2) (c .before .user-value .ensures .0) (w .0 .left))) (c .if2 .came)
+
+same-length : tie.Need-same-length Inv-loop μ-loop
+same-length c = fill-kept _ _ _ _ (c .before .before .loop .inv .2)
+
+returns : tie.Need-returns Inv-loop μ-loop
+returns c = (count-end _ _ _ (c .before .before .loop .inv .1) (omega arith) (omega arith), fill-end _ _ _ _ (c .before .before .loop .inv .2) (omega arith) (omega arith))
+
+pub fill-users-spec : {M : Type 1} → statement M
+fill-users-spec =
+    tie.close
+    (tie.spec
+    Inv-loop
+    μ-loop
+    loop-holds
+    user-value-requires
+    mul-users
+    sub-users
+    add-users
+    cast-users
+    mul-users-2
+    slice-write-users
+    add-k
+    add-u
+    loop-less
+    loop-again
+    same-length
+    returns)

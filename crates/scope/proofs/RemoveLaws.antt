@@ -1,0 +1,229 @@
+-- Laws of Remove and Sweep: that each keeps a table sound, and what it leaves alone.
+use Prim.Native.Nat.{ℕ, zero, suc, _+_, _-_, _*_, _/_, _%_, _<_, _≤_}
+use mathlib.Core.Path.{_≡_, refl, sym, ap, _∙_, subst}
+use mathlib.Core.Bool.{Bool, true, false, _&&_}
+use mathlib.Core.Logic.{_≢_}
+use mathlib.Core.List.{List, [], _∷_, _++_}
+use native.Mathlib.Omega.{arith}
+use native.Mathlib.Decide.{decLt}
+use lib.ListN.{length, getD, set}
+use lib.Seq.{getD-set-same, getD-set-other}
+use Rattle.scope.specs.declared.Counts.{Counts}
+use Rattle.scope.specs.Table.{Table, word, recordOf, modeOf, withUnit, takeSolver, putRecord}
+use Rattle.scope.specs.Sound.{Sound}
+use Rattle.scope.specs.Outcome.{Result, stay, choose, joined, each}
+use Rattle.scope.specs.Marks.{holderOf}
+use Rattle.scope.specs.Modes.{deleteIfUnused}
+use Rattle.scope.specs.Remove.{removeHeld, remove, learn, sweepHeld, sweepOne, sweep}
+use Rattle.scope.proofs.MoveLaws.{Reach, stop, reach-one, reach-then, reach-sound, takes-solver, puts-record, undeleted-below}
+use Rattle.scope.proofs.ResultLaws.{Good, entered, by-choose, by-word, safe-each, each-keeps}
+use Rattle.scope.proofs.ModeLaws.{delete-reach, delete-same, put-record-same, stay-same, SameButRecord}
+
+-- a global that holds a solver index is undeleted
+pub held-undeleted : (t : Table) (g s : ℕ) → Sound t → getD (t .globalFromSolver) s 0 ≡ g + 1 → recordOf t g < 36
+held-undeleted t g s p e = go (decLt (recordOf t g) 36)
+  where
+    go : Dec (recordOf t g < 36) → recordOf t g < 36
+    go (yes h) = h
+    go (no n) =
+        let z = p .rows .row g .gone (omega arith) in
+        let w = p .solver .inverse s g .0 e in
+        absurd (omega arith)
+
+-- ---- Remove
+
+pub take-held-sound : (t : Table) (g s : ℕ) → Sound t → getD (t .globalFromSolver) s 0 ≡ g + 1 → Sound (takeSolver g s t)
+take-held-sound t g s p e = reach-sound (reach-one {t = t} (takes-solver g s) (p .solver .inverse s g .0 e)) p
+
+pub take-held-undeleted : (t : Table) (g s : ℕ) → Sound t → getD (t .globalFromSolver) s 0 ≡ g + 1 → recordOf (takeSolver g s t) g < 36
+unfolding takeSolver
+take-held-undeleted t g s p e = held-undeleted t g s p e
+
+pub remove-held-reach : (t : Table) (g s : ℕ) → Sound t → getD (t .globalFromSolver) s 0 ≡ g + 1 → Good t (removeHeld g s t)
+unfolding removeHeld
+remove-held-reach t g s p e =
+    reach-then (reach-one {t = t} (takes-solver g s) (p .solver .inverse s g .0 e))
+    (delete-reach (takeSolver g s t) g (take-held-sound t g s p e) (take-held-undeleted t g s p e))
+
+pub remove-held-sound : (t : Table) (g s : ℕ) → Sound t → getD (t .globalFromSolver) s 0 ≡ g + 1 → Sound (removeHeld g s t .table)
+remove-held-sound t g s p e = reach-sound (remove-held-reach t g s p e) p
+
+-- the holder of a held index
+pub holder-holds : (t : Table) (s : ℕ) → getD (t .globalFromSolver) s 0 ≢ 0 → getD (t .globalFromSolver) s 0 ≡ holderOf t s + 1
+holder-holds t s n = omega arith
+
+pub remove-reach : (t : Table) (s : ℕ) → Sound t → getD (t .globalFromSolver) s 0 ≢ 0 → Good t (remove s t)
+unfolding remove
+remove-reach t s p n = remove-held-reach t (holderOf t s) s p (holder-holds t s n)
+
+pub remove-sound : (t : Table) (s : ℕ) → Sound t → getD (t .globalFromSolver) s 0 ≢ 0 → Sound (remove s t .table)
+remove-sound t s p n = reach-sound (remove-reach t s p n) p
+
+-- ---- Sweep
+
+unit-mode : (r v : ℕ) → modeOf (withUnit r v) ≡ modeOf r
+unit-mode r v = omega arith
+
+unit-small : (r v : ℕ) → r < 36 → v ≤ 2 → withUnit r v < 36
+unit-small r v h k = omega arith
+
+pub learn-reach : (t : Table) (g s : ℕ) → Sound t → getD (t .globalFromSolver) s 0 ≡ g + 1 → Reach t [] (learn g s t)
+unfolding learn
+learn-reach t g s p e = by-word (Reach t []) _ (λ z. stop)
+    (λ v z.
+    let h = held-undeleted t g s p e in
+    let k = p .values .small s in
+    let m = unit-mode (recordOf t g) (getD (t .assignment) s 0) in
+    reach-one (puts-record g (withUnit (recordOf t g) (getD (t .assignment) s 0)))
+    (record { old = h; new = unit-small (recordOf t g) (getD (t .assignment) s 0) h k; to = λ n q. n (m ∙ q); from = λ n q. n (sym m ∙ q) }))
+
+pub learn-sound : (t : Table) (g s : ℕ) → Sound t → getD (t .globalFromSolver) s 0 ≡ g + 1 → Sound (learn g s t)
+learn-sound t g s p e = reach-sound (learn-reach t g s p e) p
+
+pub learn-same : (t : Table) (g s : ℕ) → SameButRecord t g (learn g s t)
+unfolding learn
+learn-same t g s =
+    by-word (SameButRecord t g) (getD (t .assignment) s 0) (λ e. stay-same t g) (λ v e. put-record-same t g (withUnit (recordOf t g) (getD (t .assignment) s 0)))
+
+-- the index is still held by it
+pub learn-holds : (t : Table) (g s : ℕ) → getD (t .globalFromSolver) s 0 ≡ g + 1 → getD (learn g s t .globalFromSolver) s 0 ≡ g + 1
+learn-holds t g s e = ap (λ (l : List ℕ). getD l s 0) (learn-same t g s .globalFromSolver) ∙ e
+
+pub sweep-held-reach : (t : Table) (g s : ℕ) → Sound t → getD (t .globalFromSolver) s 0 ≡ g + 1 → Good t (sweepHeld g s t)
+unfolding sweepHeld
+sweep-held-reach t g s p e = by-choose (Good t) _ (λ z. remove-held-reach t g s p e) (λ z. stop)
+
+pub sweep-one-reach : (t : Table) (s : ℕ) → Sound t → Good t (sweepOne s t)
+unfolding sweepOne
+sweep-one-reach t s p = by-word (Good t) _ (λ e. stop)
+    (λ g e. reach-then (learn-reach t g s p e) (sweep-held-reach (learn g s t) g s (learn-sound t g s p e) (learn-holds t g s e)))
+
+pub sweep-one-sound : (t : Table) (s : ℕ) → Sound t → Sound (sweepOne s t .table)
+sweep-one-sound t s p = reach-sound (sweep-one-reach t s p) p
+
+pub sweep-reach : (t : Table) → Sound t → Good t (sweep t)
+unfolding sweep
+sweep-reach t p = safe-each sweepOne (λ s r q. sweep-one-reach r s q) (t .counts .solver) t p
+
+pub sweep-sound : (t : Table) → Sound t → Sound (sweep t .table)
+sweep-sound t p = reach-sound (sweep-reach t p) p
+
+-- ---- what a turn at s leaves alone: everything but the index s, its global g and the record of g
+
+pub record SameButHeld (t : Table) (g s : ℕ) (r : Table) : Type 0 where
+  pub counts : r .counts ≡ t .counts
+  pub globalFromUser : r .globalFromUser ≡ t .globalFromUser
+  pub userFromGlobal : r .userFromGlobal ≡ t .userFromGlobal
+  pub assignment : r .assignment ≡ t .assignment
+  pub holders : (k : ℕ) → k ≢ s → getD (r .globalFromSolver) k 0 ≡ getD (t .globalFromSolver) k 0
+  pub held : (h : ℕ) → h ≢ g → getD (r .solverFromGlobal) h 0 ≡ getD (t .solverFromGlobal) h 0
+  pub records : (h : ℕ) → h ≢ g → recordOf r h ≡ recordOf t h
+
+same-held : {t r : Table} (g s : ℕ) → SameButRecord t g r → SameButHeld t g s r
+same-held g s x =
+    record {
+      counts = x .counts;
+      globalFromUser = x .globalFromUser;
+      userFromGlobal = x .userFromGlobal;
+      assignment = x .assignment;
+      holders = λ k n. ap (λ (l : List ℕ). getD l k 0) (x .globalFromSolver);
+      held = λ h n. ap (λ (l : List ℕ). getD l h 0) (x .solverFromGlobal);
+      records = x .records;
+    }
+
+held-then : {t r q : Table} {g s : ℕ} → SameButHeld t g s r → SameButHeld r g s q → SameButHeld t g s q
+held-then a b =
+    record {
+      counts = b .counts ∙ a .counts;
+      globalFromUser = b .globalFromUser ∙ a .globalFromUser;
+      userFromGlobal = b .userFromGlobal ∙ a .userFromGlobal;
+      assignment = b .assignment ∙ a .assignment;
+      holders = λ k n. b .holders k n ∙ a .holders k n;
+      held = λ h n. b .held h n ∙ a .held h n;
+      records = λ h n. b .records h n ∙ a .records h n;
+    }
+
+take-same : (t : Table) (g s : ℕ) → SameButHeld t g s (takeSolver g s t)
+unfolding takeSolver
+take-same t g s =
+    record {
+      counts = refl;
+      globalFromUser = refl;
+      userFromGlobal = refl;
+      assignment = refl;
+      holders = λ k n. getD-set-other (t .globalFromSolver) s k 0 0 n;
+      held = λ h n. getD-set-other (t .solverFromGlobal) g h 0 0 n;
+      records = λ h n. refl;
+    }
+
+pub remove-held-same : (t : Table) (g s : ℕ) → SameButHeld t g s (removeHeld g s t .table)
+unfolding removeHeld
+remove-held-same t g s = held-then (take-same t g s) (same-held g s (delete-same (takeSolver g s t) g))
+
+pub sweep-held-same : (t : Table) (g s : ℕ) → SameButHeld t g s (sweepHeld g s (learn g s t) .table)
+unfolding sweepHeld
+sweep-held-same t g s =
+    held-then (same-held g s (learn-same t g s))
+    (by-choose (λ (x : Result (List ℕ)). SameButHeld (learn g s t) g s (x .table)) _
+    (λ e. remove-held-same (learn g s t) g s)
+    (λ e. same-held g s (stay-same (learn g s t) g)))
+
+-- after i turns: what stands at the indices from i up, and at the globals that hold them, is as it was
+pub record Swept (t : Table) (i : ℕ) (r : Table) : Type 0 where
+  pub sound : Sound r
+  pub counts : r .counts ≡ t .counts
+  pub globalFromUser : r .globalFromUser ≡ t .globalFromUser
+  pub userFromGlobal : r .userFromGlobal ≡ t .userFromGlobal
+  pub assignment : r .assignment ≡ t .assignment
+  pub holders : (s : ℕ) → i ≤ s → getD (r .globalFromSolver) s 0 ≡ getD (t .globalFromSolver) s 0
+  pub held : (s g : ℕ) → i ≤ s → getD (t .globalFromSolver) s 0 ≡ g + 1 → getD (r .solverFromGlobal) g 0 ≡ s + 1
+  pub records : (s g : ℕ) → i ≤ s → getD (t .globalFromSolver) s 0 ≡ g + 1 → recordOf r g ≡ recordOf t g
+
+sweep-one-passed : (t : Table) (i : ℕ) (r : Table) → Sound t → Swept t i r → Swept t (i + 1) (sweepOne i r .table)
+unfolding sweepOne
+sweep-one-passed t i r p o = by-word (λ (x : Result (List ℕ)). Swept t (i + 1) (x .table)) (getD (r .globalFromSolver) i 0)
+    (λ e. record {
+      sound = o .sound;
+      counts = o .counts;
+      globalFromUser = o .globalFromUser;
+      userFromGlobal = o .userFromGlobal;
+      assignment = o .assignment;
+      holders = λ s l. o .holders s (omega arith);
+      held = λ s g l. o .held s g (omega arith);
+      records = λ s g l. o .records s g (omega arith);
+    })
+    (λ g e.
+    let x = sweep-held-same r g i in
+    let q = reach-then (learn-reach r g i (o .sound) e) (sweep-held-reach (learn g i r) g i (learn-sound r g i (o .sound) e) (learn-holds r g i e)) in
+    -- another index is held by another global
+    let apart : (s h : ℕ) → i + 1 ≤ s → getD (t .globalFromSolver) s 0 ≡ h + 1 → h ≢ g = λ s h l w z.
+    let a = o .held s h (omega arith) w in
+    let b = o .sound .solver .inverse i g .0 e in
+    let c = ap (λ (k : ℕ). getD (r .solverFromGlobal) k 0) z in
+    omega arith in
+    record {
+      sound = reach-sound q (o .sound);
+      counts = x .counts ∙ o .counts;
+      globalFromUser = x .globalFromUser ∙ o .globalFromUser;
+      userFromGlobal = x .userFromGlobal ∙ o .userFromGlobal;
+      assignment = x .assignment ∙ o .assignment;
+      holders = λ s l. x .holders s (omega arith) ∙ o .holders s (omega arith);
+      held = λ s h l w. x .held h (apart s h l w) ∙ o .held s h (omega arith) w;
+      records = λ s h l w. x .records h (apart s h l w) ∙ o .records s h (omega arith) w;
+    })
+
+pub sweep-passed : (t : Table) → Sound t → (i : ℕ) → Swept t i (each i sweepOne t .table)
+sweep-passed t p i =
+    each-keeps sweepOne t (Swept t) i
+    (record {
+      sound = p;
+      counts = refl;
+      globalFromUser = refl;
+      userFromGlobal = refl;
+      assignment = refl;
+      holders = λ s l. refl;
+      held = λ s g l e. p .solver .inverse s g .0 e;
+      records = λ s g l e. refl;
+    })
+    (λ j r l o. sweep-one-passed t j r p o)
+    i (omega arith)

@@ -1,0 +1,213 @@
+-- Laws by which the loops of src/checks.rt are the tests of crates/scope/specs/Sound.antt. A loop gathers `allBelow i p`; where the tails
+-- are as they should be, p holds at or above the mark, so that the loop can stop there.
+use Prim.Native.Nat.{ℕ, zero, suc, _+_, _-_, _≤_, _<_}
+use mathlib.Core.Path.{_≡_, refl, sym, ap, _∙_}
+use mathlib.Core.Bool.{Bool, true, false, _&&_, _||_, true≢false}
+use mathlib.Core.Logic.{⊎-elim}
+use mathlib.Core.List.{List}
+use native.Mathlib.Nat.{eq-or-lt-of-le}
+use native.Mathlib.Numerals.{add-one}
+use native.Mathlib.Omega.{arith}
+use lib.Dec.{eqb, ltb, leb}
+use lib.ListN.{length, getD, List·getD-eq-default}
+use borrow.Author.Tests.{lt-ltb, le-ltb, ne-eqb, le-leb, eqb-true}
+use Rattle.base.specs.Bounded.{allBelow}
+use Rattle.base.proofs.BelowLaws.{all-at, all-fails, all-intro}
+use Rattle.base.proofs.Truth.{truth, and-iff, split}
+use Rattle.base.proofs.MemberLaws.{getD-default}
+use Rattle.scope.specs.Table.{Table, isShown}
+use Rattle.scope.specs.Sound.{Sizes, sizesb, marksb, atMostb, tailb, backb, namedb, deletedb, tailsb, pairsb, soundb}
+use Rattle.table.specs.Checks.{takesBack, rowb}
+
+-- ---- allBelow
+
+pub all-start : (p : ℕ → Bool) → true ≡ allBelow 0 p
+unfolding allBelow
+all-start p = refl
+
+pub all-step : (n : ℕ) (p : ℕ → Bool) (ok b : Bool) → ok ≡ allBelow n p → b ≡ p n → (ok && b) ≡ allBelow (n + 1) p
+unfolding allBelow
+all-step n p ok b e h = rw (add-one, e, h) refl
+
+-- tests that agree below n
+pub all-same : (n : ℕ) (p q : ℕ → Bool) → ((i : ℕ) → i < n → p i ≡ q i) → allBelow n p ≡ allBelow n q
+unfolding allBelow
+all-same zero p q h = refl
+all-same (suc n) p q h = rw (all-same n p q (λ i l. h i (omega arith)), h n (omega arith))
+
+and-true : (a : Bool) → a ≡ a && true
+and-true true = refl
+and-true false = refl
+
+-- a test that holds from the mark up is done at the mark
+pub all-mark : (n mark : ℕ) (p : ℕ → Bool) → mark ≤ n → ((i : ℕ) → mark ≤ i → p i ≡ true) → allBelow mark p ≡ allBelow n p
+unfolding allBelow
+all-mark zero mark p l h =
+    let e : mark ≡ zero = omega arith in
+    ap (λ (k : ℕ). allBelow k p) e
+all-mark (suc n) mark p l h = ⊎-elim
+    (λ (e : mark ≡ suc n). ap (λ (k : ℕ). allBelow k p) e)
+    (λ (e : mark < suc n). all-mark n mark p (omega arith) h ∙ and-true (allBelow n p) ∙ ap (λ (b : Bool). allBelow n p && b) (sym (h n (omega arith))))
+    (eq-or-lt-of-le l)
+
+and-swap : (a b c d : Bool) → a && b && (c && d) ≡ a && c && (b && d)
+and-swap false b c d = refl
+and-swap true true true d = refl
+and-swap true true false d = refl
+and-swap true false true d = refl
+and-swap true false false d = refl
+
+-- two tests in one pass
+pub all-and : (n : ℕ) (p q : ℕ → Bool) → allBelow n (λ i. p i && q i) ≡ allBelow n p && allBelow n q
+unfolding allBelow
+all-and zero p q = refl
+all-and (suc n) p q = ap (λ (b : Bool). b && (p n && q n)) (all-and n p q) ∙ and-swap (allBelow n p) (allBelow n q) (p n) (q n)
+
+-- ---- the tail of a list
+
+unfoldable pub tailAt : ℕ → ℕ → List ℕ → ℕ → Bool
+tailAt mark blank xs i = ltb i mark || eqb (getD xs i blank) blank
+
+pub tail-start : (mark blank : ℕ) (xs : List ℕ) → true ≡ allBelow mark (tailAt mark blank xs)
+unfolding tailAt
+tail-start mark blank xs = sym (all-intro mark (tailAt mark blank xs) (λ i l. rw (lt-ltb i mark l) refl))
+
+pub tail-step : (mark blank : ℕ) (xs : List ℕ) (i : ℕ) (ok : Bool) → mark ≤ i → i < length xs → ok ≡ allBelow i (tailAt mark blank xs)
+    → (ok && eqb (getD xs i 0) blank) ≡ allBelow (i + 1) (tailAt mark blank xs)
+unfolding tailAt
+tail-step mark blank xs i ok l m e =
+    all-step i (tailAt mark blank xs) ok _ e (rw (le-ltb i mark l, getD-default xs i 0 blank m) refl)
+
+pub tail-end : (mark blank : ℕ) (xs : List ℕ) (i : ℕ) (ok : Bool) → ok ≡ allBelow i (tailAt mark blank xs) → i ≡ length xs → ok ≡ tailb mark blank xs
+unfolding tailb tailAt
+tail-end mark blank xs i ok e q = e ∙ ap (λ (k : ℕ). allBelow k (tailAt mark blank xs)) q
+
+-- what it says of every index
+pub tail-has : (mark blank : ℕ) (xs : List ℕ) → tailb mark blank xs ≡ true → (i : ℕ) → mark ≤ i → getD xs i blank ≡ blank
+unfolding tailb tailAt
+tail-has mark blank xs h i l = ⊎-elim
+    (λ (m : i < length xs). eqb-true _ _ (rw (le-ltb i mark l) at (all-at (length xs) (tailAt mark blank xs) h i m)))
+    (λ (m : length xs ≤ i). List·getD-eq-default xs blank m)
+    (split i (length xs))
+
+-- ---- every word at most m
+
+abbrev pub mostAt : ℕ → List ℕ → ℕ → Bool
+mostAt m xs i = leb (getD xs i 0) m
+
+pub most-end : (m mark : ℕ) (xs : List ℕ) (i : ℕ) (ok : Bool) → mark ≤ length xs → tailb mark 0 xs ≡ true
+    → ok ≡ allBelow i (mostAt m xs) → i ≡ mark → ok ≡ atMostb m xs
+unfolding atMostb
+most-end m mark xs i ok l h e q =
+    e ∙ ap (λ (k : ℕ). allBelow k (mostAt m xs)) q
+    ∙ all-mark (length xs) mark (mostAt m xs) l (λ j k. rw (tail-has mark 0 xs h j k) (le-leb 0 m (omega arith)))
+
+-- ---- one map and the other
+
+abbrev pub backAt : List ℕ → List ℕ → ℕ → Bool
+backAt a b i = takesBack (getD a i 0) b i
+
+pub back-none : (x : ℕ) (b : List ℕ) (i : ℕ) → x ≡ 0 → true ≡ takesBack x b i
+unfolding takesBack
+back-none x b i z = rw z
+
+pub back-out : (x : ℕ) (b : List ℕ) (i : ℕ) → (x ≡ 0 → ⊥) → length b ≤ x - 1 → false ≡ takesBack x b i
+unfolding takesBack
+back-out x b i n l = rw (ne-eqb x 0 n, List·getD-eq-default b 0 l, ne-eqb 0 (i + 1) (λ q. omega arith)) refl
+
+pub back-in : (x : ℕ) (b : List ℕ) (i : ℕ) → (x ≡ 0 → ⊥) → eqb (getD b (x - 1) 0) (i + 1) ≡ takesBack x b i
+unfolding takesBack
+back-in x b i n = rw (ne-eqb x 0 n) refl
+
+pub back-fails : (a b : List ℕ) (i : ℕ) (ok : Bool) → i < length a → ok ≡ takesBack (getD a i 0) b i → ok ≡ false → false ≡ backb a b
+unfolding backb takesBack
+back-fails a b i ok l e n = sym (all-fails (length a) (backAt a b) i l (sym e ∙ n))
+
+pub back-end : (a b : List ℕ) (mark i : ℕ) → mark ≤ length a → tailb mark 0 a ≡ true → allBelow i (backAt a b) ≡ true → i ≡ mark → true ≡ backb a b
+unfolding backb takesBack
+back-end a b mark i l h e q =
+    sym e ∙ ap (λ (k : ℕ). allBelow k (backAt a b)) q
+    ∙ all-mark (length a) mark (backAt a b) l (λ j k. rw (tail-has mark 0 a h j k) refl)
+
+-- ---- the rows of the globals
+
+abbrev pub rowAt : List ℕ → List ℕ → List ℕ → ℕ → Bool
+rowAt records users solvers g = rowb (getD records g 47) (getD users g 0) (getD solvers g 0)
+
+pub row-step : (records users solvers : List ℕ) (i : ℕ) (ok b : Bool) → ok ≡ allBelow i (rowAt records users solvers)
+    → b ≡ rowb (getD records i 0) (getD users i 0) (getD solvers i 0) → i < length records → (ok && b) ≡ allBelow (i + 1) (rowAt records users solvers)
+row-step records users solvers i ok b e h l =
+    all-step i (rowAt records users solvers) ok b e (h ∙ ap (λ (r : ℕ). rowb r (getD users i 0) (getD solvers i 0)) (getD-default records i 0 47 l))
+
+rows-split : (records users solvers : List ℕ)
+    → allBelow (length records) (rowAt records users solvers) ≡ atMostb 71 records && namedb records users && deletedb records solvers
+unfolding rowb atMostb namedb deletedb
+rows-split records users solvers =
+    all-and (length records) _ _
+    ∙ ap (λ (b : Bool). b && deletedb records solvers)
+    (all-and (length records) _ _
+    ∙ ap (λ (b : Bool). b && namedb records users) (all-same (length records) _ _ (λ i l. ap (λ (r : ℕ). leb r 71) (getD-default records i 47 0 l))))
+
+pub rows-end : (records users solvers : List ℕ) (mark i : ℕ) (ok : Bool) → mark ≤ length records
+    → tailb mark 47 records ≡ true → tailb mark 0 users ≡ true → tailb mark 0 solvers ≡ true
+    → ok ≡ allBelow i (rowAt records users solvers) → i ≡ mark
+    → ok ≡ atMostb 71 records && namedb records users && deletedb records solvers
+unfolding rowb isShown
+rows-end records users solvers mark i ok l h hu hs e q =
+    e ∙ ap (λ (k : ℕ). allBelow k (rowAt records users solvers)) q
+    ∙ all-mark (length records) mark (rowAt records users solvers) l
+    (λ j k. rw (tail-has mark 47 records h j k, tail-has mark 0 users hu j k, tail-has mark 0 solvers hs j k) refl)
+    ∙ rows-split records users solvers
+
+-- ---- the table
+
+pub sizes-is : (t : Table) → sizesb t ≡ true → marksb (t .counts) ≡ true → Sizes t
+unfolding sizesb marksb
+sizes-is t h m = let k = simp truth at h in let l = simp truth at m in omega arith
+
+pub record Tails (t : Table) : Type 0 where
+  pub gu : tailb (t .counts .user) 0 (t .globalFromUser) ≡ true
+  pub ug : tailb (t .counts .global) 0 (t .userFromGlobal) ≡ true
+  pub sg : tailb (t .counts .global) 0 (t .solverFromGlobal) ≡ true
+  pub gs : tailb (t .counts .solver) 0 (t .globalFromSolver) ≡ true
+  pub assignment : tailb (t .counts .solver) 0 (t .assignment) ≡ true
+  pub records : tailb (t .counts .global) 47 (t .records) ≡ true
+
+pub tails-is : (t : Table) → tailsb t ≡ true → Tails t
+unfolding tailsb
+tails-is t h = let k = simp and-iff at h in search
+
+false-is : (x : Bool) → (x ≡ true → ⊥) → false ≡ x
+false-is true h = absurd (h refl)
+false-is false h = refl
+
+pub no-sizes : (t : Table) (b : Bool) → b ≡ sizesb t → b ≡ false → false ≡ soundb t
+unfolding soundb
+no-sizes t b e n = false-is (soundb t) (λ h. let k = simp and-iff at h in true≢false (cc))
+
+pub no-marks : (t : Table) (b : Bool) → b ≡ marksb (t .counts) → b ≡ false → false ≡ soundb t
+unfolding soundb
+no-marks t b e n = false-is (soundb t) (λ h. let k = simp and-iff at h in true≢false (cc))
+
+pub no-tails : (t : Table) (b : Bool) → b ≡ tailsb t → b ≡ false → false ≡ soundb t
+unfolding soundb
+no-tails t b e n = false-is (soundb t) (λ h. let k = simp and-iff at h in true≢false (cc))
+
+pub no-pairs : (t : Table) (b : Bool) → b ≡ pairsb t → b ≡ false → false ≡ soundb t
+unfolding soundb
+no-pairs t b e n = false-is (soundb t) (λ h. let k = simp and-iff at h in true≢false (cc))
+
+reorder : (a b c d : Bool) → b && (a && c && d) ≡ true && true && a && b && true && true && c && d
+reorder true true c d = refl
+reorder true false c d = refl
+reorder false true c d = refl
+reorder false false c d = refl
+
+pub sound-is : (t : Table) (a b : Bool) → sizesb t ≡ true → marksb (t .counts) ≡ true → tailsb t ≡ true → pairsb t ≡ true
+    → a ≡ atMostb 2 (t .assignment)
+    → b ≡ atMostb 71 (t .records) && namedb (t .records) (t .userFromGlobal) && deletedb (t .records) (t .solverFromGlobal)
+    → (a && b) ≡ soundb t
+unfolding soundb
+sound-is t a b s m h p e q =
+    rw (e, q, s, m, h, p)
+    (reorder (atMostb 71 (t .records)) (atMostb 2 (t .assignment)) _ _)

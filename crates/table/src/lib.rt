@@ -1,0 +1,150 @@
+// Whether a table is sound, the words of its maps, and the words of a note: what every call over a table begins with.
+mod checks;
+
+use checks::at_most;
+use checks::marks_ok;
+use checks::pairs_ok;
+use checks::rows_ok;
+use checks::tails_ok;
+use scope::Counts;
+use scope::Global;
+use scope::Solver;
+use scope::User;
+ghost use mathlib.Core.Path.{_≡_};
+ghost use mathlib.Core.List.{_∷_, []};
+ghost use Prim.Native.Nat.{_+_, _≤_};
+ghost use lib.ListN.{length, getD};
+ghost use Rattle.base.specs.Lent.{old, new, Fills};
+ghost use Rattle.scope.specs.Contract.{before};
+ghost use Rattle.scope.specs.Sound.{sizesb, soundb};
+ghost use Rattle.table.specs.Found.{foundUser, foundGlobal, foundSolver};
+
+pub enum FoundUser {
+    At(User),
+    Nothing,
+}
+
+pub enum FoundGlobal {
+    At(Global),
+    Nothing,
+}
+
+pub enum FoundSolver {
+    At(Solver),
+    Nothing,
+}
+
+// The word of an index, 0 past the end.
+pub fn word_at(xs: &[u32], i: u32) -> u32
+    ensures { λ r. ⌜ r ≡ getD (old xs) i 0 ⌝ }
+{
+    let j = i as usize;
+    if xs.len() <= j {
+        return 0;
+    }
+    xs[j]
+}
+
+// The global of a user.
+pub fn global_of(gu: &[u32], user: User) -> FoundGlobal
+    ensures { λ r. ⌜ r ≡ foundGlobal (getD (old gu) (user .0) 0) ⌝ }
+{
+    let w = word_at(gu, user.0);
+    if w == 0 {
+        return FoundGlobal::Nothing;
+    }
+    FoundGlobal::At(Global(w - 1))
+}
+
+// The user of a global.
+pub fn user_of(ug: &[u32], global: Global) -> FoundUser
+    ensures { λ r. ⌜ r ≡ foundUser (getD (old ug) (global .0) 0) ⌝ }
+{
+    let w = word_at(ug, global.0);
+    if w == 0 {
+        return FoundUser::Nothing;
+    }
+    FoundUser::At(User(w - 1))
+}
+
+// The solver index that a global holds.
+pub fn solver_of(sg: &[u32], global: Global) -> FoundSolver
+    ensures { λ r. ⌜ r ≡ foundSolver (getD (old sg) (global .0) 0) ⌝ }
+{
+    let w = word_at(sg, global.0);
+    if w == 0 {
+        return FoundSolver::Nothing;
+    }
+    FoundSolver::At(Solver(w - 1))
+}
+
+// The global that holds a solver index.
+pub fn holder(gs: &[u32], solver: Solver) -> FoundGlobal
+    ensures { λ r. ⌜ r ≡ foundGlobal (getD (old gs) (solver .0) 0) ⌝ }
+{
+    let w = word_at(gs, solver.0);
+    if w == 0 {
+        return FoundGlobal::Nothing;
+    }
+    FoundGlobal::At(Global(w - 1))
+}
+
+// A note: three words from `at` on.
+pub fn put_note(notes: &mut [u32], at: usize, kind: u32, global: u32, last: u32)
+    requires { ⌜ at + 3 ≤ length (now notes) ⌝ }
+    ensures { λ _. ⌜ Fills notes at (kind ∷ global ∷ last ∷ []) ⌝ }
+{
+    notes[at] = kind;
+    notes[at + 1] = global;
+    notes[at + 2] = last;
+}
+
+// The capacity is 1 to 4,096 and every slice has its length.
+pub fn sizes_ok(
+    c: Counts,
+    gu: &[u32],
+    ug: &[u32],
+    sg: &[u32],
+    gs: &[u32],
+    assignment: &[u32],
+    records: &[u32],
+) -> bool
+    ensures { λ r. ⌜ r ≡ sizesb (before c gu ug sg gs assignment records) ⌝ }
+{
+    let n = c.capacity as usize;
+    (1 <= c.capacity)
+        & (c.capacity <= 4096)
+        & (gu.len() == n)
+        & (ug.len() == n)
+        & (sg.len() == n)
+        & (gs.len() == n)
+        & (assignment.len() == n)
+        & (records.len() == n)
+}
+
+// Whether the table is sound (document 01, "Words used"). Definition: crates/scope/specs/Sound.antt, `soundb`.
+pub fn is_sound(
+    c: Counts,
+    gu: &[u32],
+    ug: &[u32],
+    sg: &[u32],
+    gs: &[u32],
+    assignment: &[u32],
+    records: &[u32],
+) -> bool
+    ensures { λ r. ⌜ r ≡ soundb (before c gu ug sg gs assignment records) ⌝ }
+{
+    if !sizes_ok(c, gu, ug, sg, gs, assignment, records) {
+        return false;
+    }
+    if !marks_ok(c) {
+        return false;
+    }
+    if !tails_ok(c, gu, ug, sg, gs, assignment, records) {
+        return false;
+    }
+    if !pairs_ok(c, gu, ug, sg, gs, assignment, records) {
+        return false;
+    }
+    at_most(2, assignment, c.solver) & rows_ok(records, ug, sg, c.global)
+}
