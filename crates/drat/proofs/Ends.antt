@@ -115,6 +115,18 @@ module _ (f : Format) (s codes ends kinds : List ℕ) where
           kinds-after = l .2 ∙ sym (ap (λ (x : Filling). sets kinds 0 (x .kinds)) a);
         }
 
+-- the answer's reading loses nothing
+pub read-one : (x y : Read) → read x ≡ read y → x ≡ y
+read-one (Filled n m) (Filled i j) e = cc
+read-one (Filled n m) (Broken p) e = let z : _≡_ {A = ℕ} 0 1 = cc in absurd (omega arith)
+read-one (Filled n m) Short e = let z : _≡_ {A = ℕ} 0 1 = cc in absurd (omega arith)
+read-one (Broken p) (Filled i j) e = let z : _≡_ {A = ℕ} 0 1 = cc in absurd (omega arith)
+read-one (Broken p) (Broken q) e = cc
+read-one (Broken p) Short e = let z : _≡_ {A = ℕ} 13 2 = cc in absurd (omega arith)
+read-one Short (Filled i j) e = let z : _≡_ {A = ℕ} 0 1 = cc in absurd (omega arith)
+read-one Short (Broken p) e = let z : _≡_ {A = ℕ} 2 13 = cc in absurd (omega arith)
+read-one Short Short e = refl
+
 -- the first step alone: its part is empty only where no step is whole
 pub first-part : (f : Format) (s : List ℕ) → Bytes s → first (take (endOf 0 (oneStep f 0 s)) s) ≡ firstOf f s
 unfolding endOf firstBy

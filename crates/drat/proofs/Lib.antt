@@ -11,5 +11,4 @@ pub mod Steps
 pub mod CodesLaws
 pub mod WritingLaws
 pub mod Shapes
-pub mod Numbers
 pub mod Complete

@@ -88,13 +88,3 @@ bytes-below r hb n h =
     let q = quotient (r .base) hb n h .0 in
     sym (numeral-bytes r hb (subst (λ (m : ℕ). Numeral r (r .below (n % r .base) (bytesOf r (n / r .base))) m) (mod-add-div n (r .base))
     (more (mod-lt n (omega arith)) (bytes-numeral r hb (n / r .base) q))))
-
-pub further-top : (b : ℕ) → 1 < b → (n : ℕ) → 0 < n → n < b → further b n n ≡ 0
-unfolding Digits
-further-top b hb n p q = digits-once b (further b n n) 0 n (further-digits b hb n n (omega arith) p) (p, q)
-
-pub further-below : (b : ℕ) → 1 < b → (n : ℕ) → b ≤ n → further b n n ≡ suc (further b (n / b) (n / b))
-unfolding Digits
-further-below b hb n h =
-    let q = quotient b hb n h .0 in
-    digits-once b (further b n n) (suc (further b (n / b) (n / b))) n (further-digits b hb n n (omega arith) (omega arith)) (further-digits b hb (n / b) (n / b) (omega arith) q)

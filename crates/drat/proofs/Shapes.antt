@@ -17,7 +17,6 @@ use Rattle.drat.specs.declared.Kind.{Kind}
 use Rattle.drat.specs.declared.Format.{Format}
 use Rattle.drat.specs.declared.Format.the-variants.{Text, Binary}
 use Rattle.drat.proofs.Numerals.{bytes-top, bytes-below}
-use Rattle.drat.proofs.Numbers.{number-code}
 use Rattle.drat.proofs.Steps.{step-length, opens-le, ends-le}
 
 -- a digit more in front of the blank
@@ -58,6 +57,10 @@ leb-1 n h k = bytes-top leb128 (omega arith) n h k
 
 pub leb-2 : (n : ℕ) → 128 ≤ n → n < 16384 → bytesOf leb128 n ≡ (128 + n % 128) ∷ (n / 128) ∷ []
 leb-2 n h k = bytes-below leb128 (omega arith) n h ∙ ap (λ (bs : List ℕ). (128 + n % 128) ∷ bs) (leb-1 (n / 128) (omega arith) (omega arith))
+
+pub number-code : (c : ℕ) → number Binary c ≡ bytesOf leb128 (c + 2)
+unfolding number
+number-code c = refl
 
 -- a byte more for each factor of 128, so at most five bytes for 32 bits
 leb-step : (k m : ℕ) → ((v : ℕ) → 0 < v → v < m → length (bytesOf leb128 v) ≤ k) → 0 < k → (n : ℕ) → 0 < n → n < 128 * m → length (bytesOf leb128 n) ≤ k + 1

@@ -1,13 +1,13 @@
 -- The bytes of a step's literals, one after another, and of a step.
-use Prim.Native.Nat.{ℕ, suc, _+_, _≤_, _<_}
-use mathlib.Core.Path.{_≡_, sym, ap, _∙_, subst}
+use Prim.Native.Nat.{ℕ, _+_, _≤_, _<_}
+use mathlib.Core.Path.{_≡_, sym, ap, _∙_}
 use mathlib.Core.List.{List, [], _∷_, _++_}
 use native.Mathlib.Omega.{arith}
 use native.Mathlib.Numerals.{add-one}
 use lib.ListN.{length, getD, drop, length-append, drop-of-length-le}
 use lib.Seq.{sets, drop-cons}
 use Rattle.base.proofs.SetsLaws.{sets-append}
-use Rattle.drat.specs.Grammar.{stepOf, opens, ends, number, numbers, encodeStep, Codes}
+use Rattle.drat.specs.Grammar.{stepOf, opens, ends, number, numbers, encodeStep}
 use Rattle.drat.specs.declared.Kind.{Kind}
 use Rattle.drat.specs.declared.Kind.the-variants.{Add, Delete}
 use Rattle.drat.specs.declared.Format.{Format}
@@ -16,11 +16,6 @@ use Rattle.drat.specs.declared.Format.the-variants.{Text, Binary}
 -- one literal more
 pub next : (l : List ℕ) (i : ℕ) → i < length l → drop i l ≡ getD l i 0 ∷ drop (i + 1) l
 next l i h = rw (add-one, drop-cons l i 0)
-
-pub codes-next : (l : List ℕ) (i : ℕ) → i < length l → Codes (drop i l) → (getD l i 0 < 8192) × Codes (drop (i + 1) l)
-codes-next l i h c =
-    let e = subst Codes (next l i h) c in
-    (e 0 (omega arith), λ j k. e (suc j) (omega arith))
 
 pub numbers-next : (f : Format) (l : List ℕ) (i : ℕ) → i < length l → numbers f (drop i l) ≡ number f (getD l i 0) ++ numbers f (drop (i + 1) l)
 unfolding numbers

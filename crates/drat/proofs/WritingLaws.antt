@@ -11,7 +11,9 @@ use borrow.Author.Tests.{ltb-false, lt-ltb, le-ltb}
 use Rattle.base.specs.Bounded.{allBelow}
 use Rattle.base.specs.Answer.{accepted, refused}
 use Rattle.drat.specs.Grammar.{stepOf, encodeStep, Codes}
-use Rattle.drat.specs.Writing.{part, codesTest, outside, writeOf}
+use Rattle.drat.specs.Writing.{part, codesTest, outside, writeOf, wrote}
+use Rattle.drat.specs.declared.Wrote.{Wrote}
+use Rattle.drat.specs.declared.Wrote.the-variants.{Done, Outside, Lacking}
 use Rattle.drat.specs.declared.Kind.{Kind}
 use Rattle.drat.specs.declared.Format.{Format}
 use Rattle.drat.proofs.CodesLaws.{codes-true}
@@ -72,3 +74,15 @@ module _ (f : Format) (k : Kind) (buf : List ℕ) (a b room at : ℕ) where
   pub write-done : outside buf a b ≡ false → at + length (encodeStep f (stepOf k (part a b buf))) ≤ room
       → writeOf f k buf a b room at ≡ record { answer = accepted ((at + length (encodeStep f (stepOf k (part a b buf)))) ∷ []); bytes = encodeStep f (stepOf k (part a b buf)) }
   write-done h l = rw (h, le-ltb room (at + length (encodeStep f (stepOf k (part a b buf)))) l)
+
+-- the answer's reading loses nothing
+pub wrote-one : (x y : Wrote) → wrote x ≡ wrote y → x ≡ y
+wrote-one (Done i) (Done j) e = cc
+wrote-one (Done i) Outside e = let z : _≡_ {A = ℕ} 0 1 = cc in absurd (omega arith)
+wrote-one (Done i) Lacking e = let z : _≡_ {A = ℕ} 0 1 = cc in absurd (omega arith)
+wrote-one Outside (Done j) e = let z : _≡_ {A = ℕ} 0 1 = cc in absurd (omega arith)
+wrote-one Outside Outside e = refl
+wrote-one Outside Lacking e = let z : _≡_ {A = ℕ} 3 2 = cc in absurd (omega arith)
+wrote-one Lacking (Done j) e = let z : _≡_ {A = ℕ} 0 1 = cc in absurd (omega arith)
+wrote-one Lacking Outside e = let z : _≡_ {A = ℕ} 2 3 = cc in absurd (omega arith)
+wrote-one Lacking Lacking e = refl

@@ -1,4 +1,5 @@
 pub mod CountsLaws
+pub mod BiMapLaws
 pub mod SoundLaws
 pub mod PairLaws
 pub mod MoveLaws
@@ -9,3 +10,6 @@ pub mod ModeLaws
 pub mod RemoveLaws
 pub mod MarkLaws
 pub mod OpenLaws
+pub mod WantedLaws
+pub mod PoseLaws
+pub mod WriteLaws

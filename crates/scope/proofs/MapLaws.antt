@@ -9,7 +9,7 @@ use native.Mathlib.Decide.{decLt, ℕ-discrete}
 use lib.Dec.{eqb, ltb, leb}
 use lib.ListN.{length, getD, set, length-append}
 use lib.Seq.{getD-set-same, getD-set-other}
-use borrow.Author.Tests.{eq-eqb, ne-eqb, le-leb, lt-leb, leb-true, leb-false, lt-ltb, le-ltb}
+use borrow.Author.Tests.{eq-eqb, ne-eqb, le-leb, lt-leb, leb-true, leb-false, lt-ltb, le-ltb, ltb-false}
 use Rattle.base.specs.Choice.{pick}
 use Rattle.base.specs.Bounded.{least, count}
 use Rattle.base.proofs.LeastLaws.{Least, least-has}
@@ -141,6 +141,10 @@ pub map-one-same : (t : Table) (u : ℕ) → SameSolvers t (mapOne u t .table)
 unfolding mapOne giveUser
 map-one-same t u = record { capacity = refl; solver = refl; solverFromGlobal = refl; globalFromSolver = refl; assignment = refl }
 
+pub map-one-value : (t : Table) (u : ℕ) → mapOne u t .value ≡ globalFor t u
+unfolding mapOne
+map-one-value t u = refl
+
 pub map-one-user : (t : Table) (u : ℕ) → mapOne u t .table .counts .user ≡ max (t .counts .user) (u + 1)
 unfolding mapOne giveUser
 map-one-user t u = refl
@@ -152,6 +156,37 @@ map-one-has t u p h = getD-set-same (t .globalFromUser) u (globalFor t u + 1) 0 
 pub map-one-other : (t : Table) (u v : ℕ) → v ≢ u → getD (mapOne u t .table .globalFromUser) v 0 ≡ getD (t .globalFromUser) v 0
 unfolding mapOne giveUser
 map-one-other t u v n = getD-set-other (t .globalFromUser) u v (globalFor t u + 1) 0 n
+
+-- the user v has no solver index
+unfoldable pub isUngranted : Table → ℕ → Bool
+isUngranted t v = word true (λ g. eqb (getD (t .solverFromGlobal) g 0) 0) (getD (t .globalFromUser) v 0)
+
+pub ungranted-free : (t : Table) (v : ℕ) → getD (t .globalFromUser) v 0 ≡ 0 → isUngranted t v ≡ true
+unfolding isUngranted
+ungranted-free t v e = word-none true (λ g. eqb (getD (t .solverFromGlobal) g 0) 0) _ e
+
+pub ungranted-has : (t : Table) (v g : ℕ) → getD (t .globalFromUser) v 0 ≡ g + 1 → isUngranted t v ≡ eqb (getD (t .solverFromGlobal) g 0) 0
+unfolding isUngranted
+ungranted-has t v g e = word-some true (λ g. eqb (getD (t .solverFromGlobal) g 0) 0) _ g e
+
+pub ungranted-same : (t s : Table) (v : ℕ) → getD (s .globalFromUser) v 0 ≡ getD (t .globalFromUser) v 0 → s .solverFromGlobal ≡ t .solverFromGlobal → isUngranted s v ≡ isUngranted t v
+unfolding isUngranted
+ungranted-same t s v a b = rw (a, b)
+
+-- mapping a user grants nobody a solver index, and takes none from anybody
+pub map-one-ungranted : (t : Table) (u : ℕ) → Mappable t u → (v : ℕ) → isUngranted (mapOne u t .table) v ≡ isUngranted t v
+map-one-ungranted t u m v = go (ℕ-discrete v u)
+  where
+    go : Dec (v ≡ u) → isUngranted (mapOne u t .table) v ≡ isUngranted t v
+    go (yes e) =
+        let f = map-one-fresh t u m in
+        let h = ap (λ (k : ℕ). getD (mapOne u t .table .globalFromUser) k 0) e ∙ map-one-has t u (m .sound) (m .within) in
+        let z = m .sound .rows .row (globalFor t u) .gone (f .gone) .2 in
+        let w = ap (λ (l : List ℕ). getD l (globalFor t u) 0) (map-one-same t u .solverFromGlobal) ∙ z in
+        ungranted-has (mapOne u t .table) v (globalFor t u) (h ∙ ap (λ (k : ℕ). k + 1) (map-one-value t u))
+        ∙ eq-eqb (getD (mapOne u t .table .solverFromGlobal) (globalFor t u) 0) 0 w
+        ∙ sym (ungranted-free t v (ap (λ (k : ℕ). getD (t .globalFromUser) k 0) e ∙ m .free))
+    go (no e) = ungranted-same t (mapOne u t .table) v (map-one-other t u v e) (map-one-same t u .solverFromGlobal)
 
 -- ---- the gap: i users from the watermark up
 
@@ -165,6 +200,7 @@ pub record Filled (t : Table) (i : ℕ) (s : Table) : Type 0 where
   pub undeleted : undeleted s ≡ undeleted t + i
   pub below : (v : ℕ) → v < t .counts .user → getD (s .globalFromUser) v 0 ≡ getD (t .globalFromUser) v 0
   pub filled : (v : ℕ) → t .counts .user ≤ v → v < t .counts .user + i → getD (s .globalFromUser) v 0 ≢ 0
+  pub ungranted : (v : ℕ) → isUngranted s v ≡ isUngranted t v
 
 -- there is room for n users from the watermark up
 pub record GapRoom (t : Table) (n : ℕ) : Type 0 where
@@ -198,6 +234,7 @@ gap-step t n i s r l f =
       undeleted = omega arith;
       below = λ v h. map-one-other s (t .counts .user + i) v (omega arith) ∙ f .below v h;
       filled = λ v a b. here v a b (ℕ-discrete v (t .counts .user + i));
+      ungranted = λ v. map-one-ungranted s (t .counts .user + i) m v ∙ f .ungranted v;
     }
   where
     here : (v : ℕ) → t .counts .user ≤ v → v < t .counts .user + (i + 1) → Dec (v ≡ t .counts .user + i) → getD (mapOne (t .counts .user + i) s .table .globalFromUser) v 0 ≢ 0
@@ -218,6 +255,7 @@ gap-filled t n r =
       undeleted = omega arith;
       below = λ v h. refl;
       filled = λ v a b. absurd (omega arith);
+      ungranted = λ v. refl;
     })
     (λ i s l f. gap-step t n i s r l f)
 
@@ -271,6 +309,10 @@ pub record MapRoom (t : Table) (u : ℕ) : Type 0 where
   pub within : u < t .counts .capacity
   pub room : undeleted t + toMap t u ≤ t .counts .capacity
 
+pub map-room-of : (t : Table) (u : ℕ) → Sound t → leb (t .counts .capacity) u ≡ false → ltb (t .counts .capacity) (undeleted t + toMap t u) ≡ false → MapRoom t u
+map-room-of t u p a b =
+    record { sound = p; within = leb-false (t .counts .capacity) u a; room = ltb-false (t .counts .capacity) (undeleted t + toMap t u) b }
+
 -- what Map comes to
 pub record Mapped (t : Table) (u : ℕ) (x : Result ℕ) : Type 0 where
   pub good : Good t x
@@ -281,6 +323,7 @@ pub record Mapped (t : Table) (u : ℕ) (x : Result ℕ) : Type 0 where
   pub has : getD (x .table .globalFromUser) u 0 ≡ x .value + 1
   pub gap : (v : ℕ) → t .counts .user ≤ v → v < u → getD (x .table .globalFromUser) v 0 ≢ 0
   pub other : (v : ℕ) → v ≢ u → v < t .counts .user → getD (x .table .globalFromUser) v 0 ≡ getD (t .globalFromUser) v 0
+  pub ungranted : (v : ℕ) → isUngranted (x .table) v ≡ isUngranted t v
   pub count : length (x .notes) ≡ toMap t u
 
 -- of a user without global: the gap below it, then itself
@@ -329,6 +372,7 @@ map-free-mapped t u m e =
       has = map-one-has s u (k .sound) (k .within);
       gap = λ v a b z. f .filled v a (omega arith) (sym (map-one-other s u v (omega arith)) ∙ z);
       other = λ v n b. map-one-other s u v n ∙ f .below v b;
+      ungranted = λ v. map-one-ungranted s u k v ∙ f .ungranted v;
       count = length-append (fillGap (u - t .counts .user) t .notes) (mapOne u s .notes) ∙ omega (arith, fill-gap-count (u - t .counts .user) t);
     }
 
@@ -345,6 +389,7 @@ map-has-mapped t u g p e =
       has = e;
       gap = λ v a b. absurd (omega arith);
       other = λ v n b. refl;
+      ungranted = λ v. refl;
       count = sym q;
     }
   where

@@ -20,7 +20,7 @@ use Rattle.scope.specs.Map.{nextUser}
 use Rattle.scope.specs.Modes.{isUnused, deleteIfUnused, show, hide, change, setMode, isHidden, observeOne, observe}
 use Rattle.scope.specs.Entries.{Entry, noted, hides}
 use Rattle.scope.proofs.PairLaws.{free-below}
-use Rattle.scope.proofs.MoveLaws.{Reach, stop, reach-one, reach-then, reach-sound, drops, gives-user, takes-user, puts-record, tells-mode, hides-again, undeleted-below}
+use Rattle.scope.proofs.MoveLaws.{Reach, stop, reach-one, reach-then, reach-sound, deletes-global, gives-user, takes-user, puts-record, tells-mode, hides-again, undeleted-below}
 use Rattle.scope.proofs.ResultLaws.{Good, entered, good-more, by-choose, choose-then, choose-else, safe-each, each-keeps}
 use Rattle.scope.proofs.MapLaws.{SameSolvers, same-solvers, next-user-free}
 
@@ -34,7 +34,7 @@ delete-reach t g p h = by-choose (Good t) _
     let bc = and-right (eqb (getD (t .userFromGlobal) g 0) 0) _ e in
     let b = and-left (eqb (getD (t .solverFromGlobal) g 0) 0) _ bc in
     let c = and-right (eqb (getD (t .solverFromGlobal) g 0) 0) _ bc in
-    reach-one (drops g)
+    reach-one (deletes-global g)
     (record {
       undeleted = h;
       hidden = nobody (eqb-true (getD (t .userFromGlobal) g 0) 0 a) (ℕ-discrete (modeOf (recordOf t g)) 2);

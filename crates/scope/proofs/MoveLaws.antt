@@ -22,7 +22,7 @@ pub data Move : Type 0 where
   gives-solver : (g s : ℕ) → Move
   takes-solver : (g s : ℕ) → Move
   puts-record : (g r : ℕ) → Move
-  drops : (g : ℕ) → Move
+  deletes-global : (g : ℕ) → Move
   puts-value : (s v : ℕ) → Move
   -- no change: a note C
   tells-mode : (g : ℕ) (sample : Bool) → Move
@@ -35,7 +35,7 @@ apply (takes-user g u r) t = takeUser g u r t
 apply (gives-solver g s) t = giveSolver g s t
 apply (takes-solver g s) t = takeSolver g s t
 apply (puts-record g r) t = putRecord g r t
-apply (drops g) t = putRecord g (recordOf t g + 36) t
+apply (deletes-global g) t = putRecord g (recordOf t g + 36) t
 apply (puts-value s v) t = putValue s v t
 apply (tells-mode g sample) t = t
 apply (hides-again g) t = t
@@ -46,7 +46,7 @@ entries (takes-user g u r) = hides g ∷ noted (user- g) ∷ []
 entries (gives-solver g s) = noted (solver+ g s) ∷ []
 entries (takes-solver g s) = noted (solver- g) ∷ []
 entries (puts-record g r) = []
-entries (drops g) = noted (deletes g) ∷ []
+entries (deletes-global g) = noted (deletes g) ∷ []
 entries (puts-value s v) = []
 entries (tells-mode g sample) = noted (changes g sample) ∷ []
 entries (hides-again g) = hides g ∷ []
@@ -78,7 +78,7 @@ pub record PutsRecord (t : Table) (g r : ℕ) : Type 0 where
   pub to : modeOf r ≢ 2 → modeOf (recordOf t g) ≢ 2
   pub from : modeOf (recordOf t g) ≢ 2 → modeOf r ≢ 2
 
-pub record Drops (t : Table) (g : ℕ) : Type 0 where
+pub record DeletesGlobal (t : Table) (g : ℕ) : Type 0 where
   pub undeleted : recordOf t g < 36
   pub hidden : modeOf (recordOf t g) ≡ 2
   pub isolated : isolatedOf (recordOf t g) ≡ 1
@@ -90,7 +90,7 @@ Legal (takes-user g u r) t = TakesUser t g u r
 Legal (gives-solver g s) t = GivesSolver t g s
 Legal (takes-solver g s) t = getD (t .solverFromGlobal) g 0 ≡ s + 1
 Legal (puts-record g r) t = PutsRecord t g r
-Legal (drops g) t = Drops t g
+Legal (deletes-global g) t = DeletesGlobal t g
 Legal (puts-value s v) t = (s < t .counts .solver) × (v ≤ 2)
 Legal (tells-mode g sample) t = Unit {0}
 Legal (hides-again g) t = ¬ (Shown (recordOf t g))
@@ -224,7 +224,7 @@ put-record-sound t g r p l =
     record-sound t g r p (undeleted-below t g p (l .old))
     (row-record (recordOf t g) r (getD (t .userFromGlobal) g 0) (getD (t .solverFromGlobal) g 0) (l .old) (l .new) (l .to) (l .from) (p .rows .row g))
 
-drop-sound : (t : Table) (g : ℕ) → Sound t → Drops t g → Sound (putRecord g (recordOf t g + 36) t)
+drop-sound : (t : Table) (g : ℕ) → Sound t → DeletesGlobal t g → Sound (putRecord g (recordOf t g + 36) t)
 drop-sound t g p l =
     record-sound t g (recordOf t g + 36) p (undeleted-below t g p (l .undeleted))
     (rw (l .noSolver) (row-drop (recordOf t g) (getD (t .userFromGlobal) g 0) (l .undeleted) (l .hidden) (l .isolated) (rw (l .noSolver) at (p .rows .row g))))
@@ -247,7 +247,7 @@ move-sound (takes-user g u r) t p l = take-user-sound t g u r p l
 move-sound (gives-solver g s) t p l = give-solver-sound t g s p l
 move-sound (takes-solver g s) t p l = take-solver-sound t g s p l
 move-sound (puts-record g r) t p l = put-record-sound t g r p l
-move-sound (drops g) t p l = drop-sound t g p l
+move-sound (deletes-global g) t p l = drop-sound t g p l
 move-sound (puts-value s v) t p l = put-value-sound t s v p (l .0) (l .1)
 move-sound (tells-mode g sample) t p l = p
 move-sound (hides-again g) t p l = p

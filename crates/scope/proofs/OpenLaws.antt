@@ -1,12 +1,17 @@
 -- Laws of Open: a freshly opened table is sound.
 use Prim.Native.Nat.{ℕ, zero, suc, _+_, _≤_}
-use mathlib.Core.Path.{_≡_, refl}
-use mathlib.Core.List.{List}
+use mathlib.Core.Path.{_≡_, refl, sym, subst}
+use mathlib.Core.List.{List, []}
+use mathlib.Core.Bool.{Bool, true, false, not}
 use native.Mathlib.Omega.{arith}
 use lib.ListN.{getD, length, length-replicate, replicate}
+use Rattle.base.specs.Choice.{pick}
+use Rattle.base.specs.Answer.{Answer, accepted, refused}
+use Rattle.base.proofs.Truth.{truth}
 use Rattle.scope.specs.Table.{Table}
-use Rattle.scope.specs.Sound.{Pair, Sound}
-use Rattle.scope.specs.Open.{emptyTable}
+use Rattle.scope.specs.Sound.{sizesb, Pair, Sound}
+use Rattle.scope.specs.Outcome.{unless, changing}
+use Rattle.scope.specs.Open.{emptyTable, openOf}
 
 -- every word of a blank list is the blank
 pub blank-at : (n d i : ℕ) → getD (replicate n d) i d ≡ d
@@ -30,3 +35,26 @@ empty-sound n h k =
       rows = record { row = λ g. rw (blank-at n 47 g, blank-at n 0 g) (omega arith); tail = λ g l. blank-at n 47 g };
       values = record { small = λ s. rw (blank-at n 0 s) (omega arith); tail = λ s l. blank-at n 0 s };
     }
+
+-- what an accepted Open was asked for, and what it leaves
+pub record Opened (t s : Table) : Type 0 where
+  pub positive : 1 ≤ t .counts .capacity
+  pub atMost : t .counts .capacity ≤ 4096
+  pub table : s ≡ emptyTable (t .counts .capacity)
+
+pub open-opened : (t : Table) (vs : List ℕ) → openOf t .answer ≡ accepted vs → Opened t (openOf t .table)
+unfolding openOf unless sizesb
+open-opened t vs e = go (sizesb t) refl e
+  where
+    never : refused 10 [] ≡ accepted vs → ⊥
+    never q = let z : _≡_ {A = ℕ} 0 1 = cc in omega arith
+
+    go : (b : Bool) → sizesb t ≡ b → unless (pick (not b) 10 0) t (changing (emptyTable (t .counts .capacity))) .answer ≡ accepted vs
+        → Opened t (unless (pick (not b) 10 0) t (changing (emptyTable (t .counts .capacity))) .table)
+    go true q e = let k = simp truth at q in record { positive = omega arith; atMost = omega arith; table = refl }
+    go false q e = absurd (never e)
+
+pub open-sound : (t : Table) (vs : List ℕ) → openOf t .answer ≡ accepted vs → Sound (openOf t .table)
+open-sound t vs e =
+    let o = open-opened t vs e in
+    subst (λ (s : Table). Sound s) (sym (o .table)) (empty-sound (t .counts .capacity) (o .positive) (o .atMost))

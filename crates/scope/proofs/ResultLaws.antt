@@ -114,3 +114,10 @@ safe-each f h zero t p = stop
 safe-each f h (suc n) t p =
     let g = safe-each f h n t p in
     good-more (each n f t .notes) (f n (each n f t .table) .notes) g (h n (each n f t .table) (reach-sound g p))
+
+-- ---- refusals
+
+-- a refusal that does not apply, where none does
+pub past : (b : Bool) (n rest : ℕ) → 0 < n → pick b n rest ≡ 0 → (b ≡ false) × (rest ≡ 0)
+past true n rest l e = absurd (omega arith)
+past false n rest l e = (refl, e)

@@ -1,5 +1,6 @@
 pub mod Literals
 pub mod Table
+pub mod BiMap
 pub mod Sound
 pub mod Notes
 pub mod Entries

@@ -4,6 +4,7 @@ ghost use Prim.Native.Nat.{_+_, _≤_, _<_, max};
 ghost use lib.ListN.{length, set};
 ghost use Rattle.base.specs.Lent.{old, new};
 ghost use Rattle.scope.specs.Table.{coverUser, coverSolver};
+ghost use Rattle.scope.specs.BiMap.{indexIn, coverName, Inserts};
 
 // The capacity and the three watermarks.
 pub struct Counts {
@@ -43,6 +44,96 @@ fn larger(a: u32, b: u32) -> u32
     if a < b { b } else { a }
 }
 
+// A name that is not global.
+pub enum Name {
+    User(User),
+    Solver(Solver),
+}
+
+// What an insertion answers: the refusal, 0 for none, and the counts.
+pub struct Put {
+    pub refusal: u32,
+    pub counts: Counts,
+}
+
+fn index_in(n: Name) -> u32
+    ensures { λ r. ⌜ r ≡ indexIn n ⌝ }
+{
+    match n {
+        Name::User(u) => u.0,
+        Name::Solver(s) => s.0,
+    }
+}
+
+fn cover_user(c: Counts, u: u32, g: u32) -> Counts
+    requires { ⌜ u < 4096 ⌝ }
+    requires { ⌜ g < 4096 ⌝ }
+    ensures { λ r. ⌜ r ≡ coverUser c u g ⌝ }
+{
+    let mut next = c;
+    next.user = larger(c.user, u + 1);
+    next.global = larger(c.global, g + 1);
+    next
+}
+
+fn cover_solver(c: Counts, s: u32) -> Counts
+    requires { ⌜ s < 4096 ⌝ }
+    ensures { λ r. ⌜ r ≡ coverSolver c s ⌝ }
+{
+    let mut next = c;
+    next.solver = larger(c.solver, s + 1);
+    next
+}
+
+fn cover(c: Counts, n: Name, g: u32) -> Counts
+    requires { ⌜ indexIn n < 4096 ⌝ }
+    requires { ⌜ g < 4096 ⌝ }
+    ensures { λ r. ⌜ r ≡ coverName n c g ⌝ }
+{
+    match n {
+        Name::User(u) => cover_user(c, u.0, g),
+        Name::Solver(s) => cover_solver(c, s.0),
+    }
+}
+
+// The insertion by value: `fwd` takes the name to the global, `bwd` the global to the name.
+fn put_pair(c: Counts, fwd: &mut [u32], bwd: &mut [u32], n: Name, g: Global) -> Put
+    ensures { λ r. ⌜ Inserts c (old fwd) (old bwd) n (g .0) (r .refusal) (r .counts) (new fwd) (new bwd) ⌝ }
+{
+    let i = index_in(n);
+    let j = g.0;
+    if !((i < 4096) & (j < 4096) & ((i as usize) < fwd.len()) & ((j as usize) < bwd.len())) {
+        return Put {
+            refusal: 3,
+            counts: c,
+        };
+    }
+    let counts = cover(c, n, j);
+    link(fwd, bwd, i, j);
+    Put { refusal: 0, counts }
+}
+
+// The insertion with the counts lent: they are advanced by it. The answer is the refusal, 0 for none.
+pub fn insert(counts: &mut Counts, fwd: &mut [u32], bwd: &mut [u32], n: Name, g: Global) -> u32
+    ensures { λ r. ⌜ Inserts (now (counts .entry)) (old fwd) (old bwd) n (g .0) r (now (counts .exit)) (new fwd) (new bwd) ⌝ }
+{
+    let p = put_pair(*counts, fwd, bwd, n, g);
+    *counts = p.counts;
+    p.refusal
+}
+
+// The same with plain parameters, for every other caller.
+pub fn inserted(counts: Counts, fwd: &mut [u32], bwd: &mut [u32], n: Name, g: Global) -> Put
+    ensures { λ r. ⌜ Inserts counts (old fwd) (old bwd) n (g .0) (r .refusal) (r .counts) (new fwd) (new bwd) ⌝ }
+{
+    let mut c = counts;
+    let refusal = insert(&mut c, fwd, bwd, n, g);
+    Put {
+        refusal: refusal,
+        counts: c,
+    }
+}
+
 impl Counts {
     // The user goes to the global.
     pub fn map(mut self, gu: &mut [u32], ug: &mut [u32], user: User, global: Global) -> Counts
@@ -54,9 +145,8 @@ impl Counts {
         ensures { λ _. ⌜ new gu ≡ set (old gu) (user .0) (global .0 + 1) ⌝ }
         ensures { λ _. ⌜ new ug ≡ set (old ug) (global .0) (user .0 + 1) ⌝ }
     {
-        self.user = larger(self.user, user.0 + 1);
-        self.global = larger(self.global, global.0 + 1);
-        link(gu, ug, user.0, global.0);
+        let p = inserted(self, gu, ug, Name::User(user), global);
+        self = p.counts;
         self
     }
 
@@ -82,8 +172,8 @@ impl Counts {
         ensures { λ _. ⌜ new sg ≡ set (old sg) (global .0) (solver .0 + 1) ⌝ }
         ensures { λ _. ⌜ new gs ≡ set (old gs) (solver .0) (global .0 + 1) ⌝ }
     {
-        self.solver = larger(self.solver, solver.0 + 1);
-        link(sg, gs, global.0, solver.0);
+        let p = inserted(self, gs, sg, Name::Solver(solver), global);
+        self = p.counts;
         self
     }
 

@@ -1,1 +1,6 @@
 pub mod WorkedCases
+pub mod HeldLaws
+pub mod LedgerLaws
+pub mod AgreeLaws
+pub mod CallLaws
+pub mod SessionLaws

@@ -1,3 +1,4 @@
+-- The invariant: the flag is the test of the codes passed.
 use Prim.Native.Nat.{ℕ, _-_, _≤_}
 use mathlib.Core.Path.{_≡_, ap, _∙_}
 use native.Mathlib.Omega.{arith}

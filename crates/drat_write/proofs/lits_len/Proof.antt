@@ -1,3 +1,4 @@
+-- The invariant: the count so far and the bytes of the literals left make up the bytes of all; six a literal bound the sum.
 use Prim.Native.Nat.{_+_, _-_, _*_, _≤_, _<_}
 use mathlib.Core.Path.{_≡_, ap}
 use native.Mathlib.Omega.{arith}

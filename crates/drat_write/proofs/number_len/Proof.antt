@@ -1,3 +1,4 @@
+-- The sums of tests are the lengths by `text-length` and `code-length`.
 use mathlib.Core.Path.{ap, _∙_}
 use native.Mathlib.Omega.{arith}
 use lib.ListN.{length}

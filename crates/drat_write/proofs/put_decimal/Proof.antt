@@ -1,3 +1,4 @@
+-- Each branch's bytes are the number's digits, by the law for its number of digits.
 use mathlib.Core.Path.{sym, ap, _∙_}
 use native.Mathlib.Omega.{arith}
 use lib.Seq.{sets}

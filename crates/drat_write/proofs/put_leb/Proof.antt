@@ -1,3 +1,4 @@
+-- The invariant: writing m at p gives what writing n at `at` gives; each turn takes the lowest digit off m.
 use Prim.Native.Nat.{_+_, _<_}
 use mathlib.Core.Path.{_≡_, sym, ap, _∙_}
 use native.Mathlib.Omega.{arith}

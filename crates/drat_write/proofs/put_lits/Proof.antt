@@ -1,3 +1,4 @@
+-- The invariant: writing the literals left at p gives what writing all of them at `at` gives, so each turn is one `sets-append`.
 use Prim.Native.Nat.{ℕ, _+_, _-_, _≤_, _<_}
 use mathlib.Core.List.{List}
 use mathlib.Core.Path.{_≡_, sym, ap, ap₂, _∙_}

@@ -3,7 +3,7 @@ use native.Mathlib.Omega.{arith}
 use lib.Seq.{sets}
 use lib.ListN.{length}
 use borrow.Author.Needs.{needs}
-use Rattle.drat.proofs.Numbers.{number-code}
+use Rattle.drat.proofs.Shapes.{number-code}
 use Rattle.drat.specs.declared.Format.{Format}
 use Rattle.drat.specs.Grammar.{number}
 use Rattle.drat_write.proofs.put_number.Statement.{statement}

@@ -1,3 +1,4 @@
+-- The three parts are laid one after another: `step-sets`.
 use Prim.Native.Nat.{ℕ, _+_}
 use mathlib.Core.List.{List}
 use mathlib.Core.Path.{ap, ap₂, _∙_}

@@ -1,3 +1,4 @@
+-- By `text-sets` the minus is either kept or gone over by the first digit.
 use mathlib.Core.Path.{_∙_}
 use native.Mathlib.Omega.{arith}
 use lib.ListN.{length-set}

@@ -1,3 +1,4 @@
+-- By `step-le` six bytes a literal and four are enough.
 use Prim.Native.Nat.{ℕ}
 use mathlib.Core.Path.{sym, ap}
 use native.Mathlib.Omega.{arith}

@@ -1,3 +1,4 @@
+-- What passes `no_clause` is a clause by `inside`; each way out is one law of the call.
 use Prim.Native.Nat.{ℕ, _-_}
 use mathlib.Core.List.{[], _∷_}
 use mathlib.Core.Path.{sym, ap, _∙_}

@@ -1,53 +1,29 @@
-use Rattle.scope.proofs.CountsLaws.{cover-user-is}
+use Rattle.scope.specs.declared.Name.the-variants.{User}
+use Rattle.scope.proofs.BiMapLaws.{insert-done}
 use borrow.Author.Needs.{needs}
 use Rattle.scope.proofs.Counts.map.Statement.{statement}
 use Rattle.scope.proofs.Counts.map.Tie as tie
 use Rattle.scope.proofs.Counts.map.Reads as reads
 use Rattle.scope.proofs.Counts.map.Lts as lts
-use Rattle.scope.proofs.larger.Reads as larger-reads
-use Rattle.scope.proofs.link.Reads as link-reads
+use Rattle.scope.proofs.inserted.Reads as inserted-reads
 
--- src/lib.rt:57:39
-add-larger : tie.Need-add-larger
-add-larger c = search needs
+-- src/lib.rt:148:13
+inserted-requires : tie.Need-inserted-requires
+inserted-requires c κs = search needs
 
--- src/lib.rt:57:9
-larger-requires : tie.Need-larger-requires
-larger-requires c κs = search needs
-
--- src/lib.rt:58:43
-add-larger-2 : tie.Need-add-larger-2
-add-larger-2 c = search needs
-
--- src/lib.rt:58:9
-larger-requires-2 : tie.Need-larger-requires-2
-larger-requires-2 c κs = search needs
-
--- src/lib.rt:59:9
-link-requires : tie.Need-link-requires
-link-requires c κs = search needs
-
--- src/lib.rt:48:5
+-- src/lib.rt:139:5
 same-length : tie.Need-same-length
 same-length c = search needs
 
--- src/lib.rt:48:5
+-- src/lib.rt:139:5
 same-length-2 : tie.Need-same-length-2
 same-length-2 c = search needs
 
--- src/lib.rt:48:5
+-- src/lib.rt:139:5
 returns : tie.Need-returns
-returns c = (cover-user-is _ _ _ _ _ (c .before .before .before .before .before .before .before .before .before .larger .ensures) (c .before .before .before .before .before .before .before .larger2 .ensures), c .before .before .before .before .link .ensures)
+returns c =
+    let p = insert-done _ _ _ _ _ _ (User (c .before .before .before .before .before .before .before .before .before .before .args .user)) _ _ (record { index = c .before .before .before .before .before .before .before .before .before .before .pre .1 .1 .0; global = c .before .before .before .before .before .before .before .before .before .before .pre .1 .1 .1; forward = c .before .before .before .before .before .before .before .before .before .before .pre .0; backward = c .before .before .before .before .before .before .before .before .before .before .pre .1 .0 }) (c .before .before .before .before .before .inserted .ensures) in
+    (p .counts, (p .forward, p .backward))
 
 pub map-spec : {M : Type 1} → statement M
-map-spec =
-    tie.close
-    (tie.spec
-    add-larger
-    larger-requires
-    add-larger-2
-    larger-requires-2
-    link-requires
-    same-length
-    same-length-2
-    returns)
+map-spec = tie.close (tie.spec inserted-requires same-length same-length-2 returns)
