@@ -1,18 +1,17 @@
 -- Laws of Grant: the index that is taken, that a grant keeps a table sound, and what it leaves alone.
-use Prim.Native.Nat.{ℕ, zero, suc, _+_, _-_, _<_, _≤_, max}
-use mathlib.Core.Path.{_≡_, refl, sym, ap, _∙_, subst}
+use Prim.Native.Nat.{ℕ, zero, suc, _+_, _<_, _≤_}
+use mathlib.Core.Path.{_≡_, refl, sym, subst}
 use mathlib.Core.Logic.{_≢_}
-use mathlib.Core.List.{List, [], _∷_}
 use native.Mathlib.Omega.{arith}
-use lib.ListN.{length, getD, set}
+use lib.ListN.{length, getD}
 use lib.Seq.{getD-set-same, getD-set-other}
 use Rattle.scope.specs.Table.{Table, word, recordOf, giveSolver}
 use Rattle.scope.specs.Sound.{Sound}
 use Rattle.scope.specs.Outcome.{Result, stay}
-use Rattle.scope.specs.Map.{leastFree, undeleted, toMap}
+use Rattle.scope.specs.Map.{undeleted}
 use Rattle.scope.specs.Grant.{nextSolver, grantOne, grant}
 use Rattle.scope.proofs.PairLaws.{free-at, free-most, free-before, free-below, below-mark}
-use Rattle.scope.proofs.MoveLaws.{Reach, stop, reach-one, reach-sound, gives-solver, undeleted-below}
+use Rattle.scope.proofs.MoveLaws.{stop, reach-one, reach-sound, gives-solver, undeleted-below}
 use Rattle.scope.proofs.ResultLaws.{Good, word-none, word-some}
 
 -- ---- the least unmapped solver index

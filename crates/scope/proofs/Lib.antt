@@ -13,3 +13,4 @@ pub mod OpenLaws
 pub mod WantedLaws
 pub mod PoseLaws
 pub mod WriteLaws
+pub mod RuledOut

@@ -3,7 +3,7 @@ use Prim.Native.Nat.{ℕ, zero, suc, _+_, _-_, _<_, _≤_, max}
 use mathlib.Core.Path.{_≡_, refl, sym, ap, _∙_, subst}
 use mathlib.Core.Bool.{Bool, true, false, _||_}
 use mathlib.Core.Logic.{_≢_}
-use mathlib.Core.List.{List, [], _∷_, _++_}
+use mathlib.Core.List.{List, [], _∷_}
 use native.Mathlib.Omega.{arith}
 use native.Mathlib.Decide.{decLt, ℕ-discrete}
 use lib.Dec.{eqb, ltb, leb}
@@ -14,13 +14,13 @@ use Rattle.base.specs.Choice.{pick}
 use Rattle.base.specs.Bounded.{least, count}
 use Rattle.base.proofs.LeastLaws.{Least, least-has}
 use Rattle.base.proofs.CountLaws.{count-least, count-more}
-use Rattle.scope.specs.Table.{Table, word, recordOf, isDeleted, userRecord, giveUser}
-use Rattle.scope.specs.Sound.{Row, Shown, Sound}
+use Rattle.scope.specs.Table.{Table, word, recordOf, isDeleted, giveUser}
+use Rattle.scope.specs.Sound.{Sound}
 use Rattle.scope.specs.Outcome.{Result, stay, _then_, giving, each}
-use Rattle.scope.specs.Map.{leastFree, globalFor, mapOne, fillGap, mapUser, nextUser, newUser, undeleted, toMap}
+use Rattle.scope.specs.Map.{globalFor, mapOne, fillGap, mapUser, nextUser, newUser, undeleted, toMap}
 use Rattle.scope.proofs.PairLaws.{free-at, free-most, free-before, no-gap}
-use Rattle.scope.proofs.MoveLaws.{Reach, stop, reach-one, reach-sound, gives-user}
-use Rattle.scope.proofs.ResultLaws.{Good, entered, good-more, word-none, word-some, each-keeps, each-good, each-notes}
+use Rattle.scope.proofs.MoveLaws.{stop, reach-one, reach-sound, gives-user}
+use Rattle.scope.proofs.ResultLaws.{Good, good-more, word-none, word-some, each-keeps, each-good}
 
 -- ---- the global that is taken
 
@@ -30,7 +30,8 @@ pub record Fresh (t : Table) (u g : ℕ) : Type 0 where
   pub within : g < t .counts .capacity
   pub mark : u < max (t .counts .global) (g + 1)
 
-pub fresh : (u : ℕ) (t : Table) → Sound t → u < t .counts .capacity → u ≤ t .counts .global → undeleted t < t .counts .capacity → Fresh t u (globalFor t u)
+pub fresh : (u : ℕ) (t : Table) → Sound t → u < t .counts .capacity → u ≤ t .counts .global → undeleted t < t .counts .capacity
+    → Fresh t u (globalFor t u)
 unfolding globalFor undeleted
 fresh u t p hu hw room = go (ℕ-discrete u (t .counts .global)) (decLt (recordOf t u) 36)
   where
@@ -169,7 +170,8 @@ pub ungranted-has : (t : Table) (v g : ℕ) → getD (t .globalFromUser) v 0 ≡
 unfolding isUngranted
 ungranted-has t v g e = word-some true (λ g. eqb (getD (t .solverFromGlobal) g 0) 0) _ g e
 
-pub ungranted-same : (t s : Table) (v : ℕ) → getD (s .globalFromUser) v 0 ≡ getD (t .globalFromUser) v 0 → s .solverFromGlobal ≡ t .solverFromGlobal → isUngranted s v ≡ isUngranted t v
+pub ungranted-same : (t s : Table) (v : ℕ) → getD (s .globalFromUser) v 0 ≡ getD (t .globalFromUser) v 0 → s .solverFromGlobal ≡ t .solverFromGlobal
+    → isUngranted s v ≡ isUngranted t v
 unfolding isUngranted
 ungranted-same t s v a b = rw (a, b)
 
@@ -237,7 +239,8 @@ gap-step t n i s r l f =
       ungranted = λ v. map-one-ungranted s (t .counts .user + i) m v ∙ f .ungranted v;
     }
   where
-    here : (v : ℕ) → t .counts .user ≤ v → v < t .counts .user + (i + 1) → Dec (v ≡ t .counts .user + i) → getD (mapOne (t .counts .user + i) s .table .globalFromUser) v 0 ≢ 0
+    here : (v : ℕ) → t .counts .user ≤ v → v < t .counts .user + (i + 1) → Dec (v ≡ t .counts .user + i)
+        → getD (mapOne (t .counts .user + i) s .table .globalFromUser) v 0 ≢ 0
     here v a b (yes e) z =
         let m = gap-mappable t n i s r l f in
         let h = map-one-has s (t .counts .user + i) (m .sound) (m .within) in
@@ -309,7 +312,8 @@ pub record MapRoom (t : Table) (u : ℕ) : Type 0 where
   pub within : u < t .counts .capacity
   pub room : undeleted t + toMap t u ≤ t .counts .capacity
 
-pub map-room-of : (t : Table) (u : ℕ) → Sound t → leb (t .counts .capacity) u ≡ false → ltb (t .counts .capacity) (undeleted t + toMap t u) ≡ false → MapRoom t u
+pub map-room-of : (t : Table) (u : ℕ) → Sound t → leb (t .counts .capacity) u ≡ false → ltb (t .counts .capacity) (undeleted t + toMap t u) ≡ false
+    → MapRoom t u
 map-room-of t u p a b =
     record { sound = p; within = leb-false (t .counts .capacity) u a; room = ltb-false (t .counts .capacity) (undeleted t + toMap t u) b }
 
@@ -347,11 +351,13 @@ map-last-mappable t u m e =
     let z = f .sound .sizes in
     record { sound = f .sound; free = free f (decLt u (t .counts .user)); within = omega arith; mark = omega arith; room = omega arith }
   where
-    free : Filled t (u - t .counts .user) (fillGap (u - t .counts .user) t .table) → Dec (u < t .counts .user) → getD (fillGap (u - t .counts .user) t .table .globalFromUser) u 0 ≡ 0
+    free : Filled t (u - t .counts .user) (fillGap (u - t .counts .user) t .table) → Dec (u < t .counts .user)
+        → getD (fillGap (u - t .counts .user) t .table .globalFromUser) u 0 ≡ 0
     free f (yes l) = f .below u l ∙ e
     free f (no n) = let x = f .user in f .sound .user .atail u (omega arith)
 
-map-free-mapped : (t : Table) (u : ℕ) → MapRoom t u → getD (t .globalFromUser) u 0 ≡ 0 → Mapped t u (fillGap (u - t .counts .user) t then (λ gs. mapOne u))
+map-free-mapped : (t : Table) (u : ℕ) → MapRoom t u → getD (t .globalFromUser) u 0 ≡ 0
+    → Mapped t u (fillGap (u - t .counts .user) t then (λ gs. mapOne u))
 unfolding mapOne
 map-free-mapped t u m e =
     let q = to-map-free t u e in

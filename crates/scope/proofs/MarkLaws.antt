@@ -1,14 +1,14 @@
 -- Laws of the marks and of Assign: that each keeps a table sound.
-use Prim.Native.Nat.{ℕ, _+_, _-_, _*_, _/_, _%_, _<_, _≤_}
-use mathlib.Core.Path.{_≡_, refl, sym, _∙_}
+use Prim.Native.Nat.{ℕ, _<_}
+use mathlib.Core.Path.{_≡_, sym, _∙_}
 use mathlib.Core.Logic.{_≢_}
 use mathlib.Core.List.{[]}
 use native.Mathlib.Omega.{arith}
 use lib.ListN.{getD}
 use Rattle.scope.specs.declared.Mark.{Mark}
 use Rattle.scope.specs.declared.Mark.the-variants.{Used, Assumed, Released}
-use Rattle.scope.specs.Literals.{indexOf, signOf}
-use Rattle.scope.specs.Table.{Table, recordOf, modeOf, putRecord, putValue}
+use Rattle.scope.specs.Literals.{indexOf}
+use Rattle.scope.specs.Table.{Table, recordOf, modeOf, putValue}
 use Rattle.scope.specs.Sound.{Sound}
 use Rattle.scope.specs.Marks.{holderOf, marked, mark, trueValue}
 use Rattle.scope.proofs.PairLaws.{below-mark}

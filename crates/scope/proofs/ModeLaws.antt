@@ -1,27 +1,26 @@
 -- Laws of Set mode and Observe: that each keeps a table sound, and what it leaves alone.
-use Prim.Native.Nat.{ℕ, zero, suc, _+_, _-_, _*_, _/_, _%_, _<_, _≤_, max}
-use mathlib.Core.Path.{_≡_, refl, sym, ap, _∙_, subst}
-use mathlib.Core.Bool.{Bool, true, false, _&&_}
+use Prim.Native.Nat.{ℕ, _+_, _-_, _<_, _≤_}
+use mathlib.Core.Path.{_≡_, refl, _∙_}
+use mathlib.Core.Bool.{true}
 use mathlib.Core.Logic.{_≢_}
 use mathlib.Core.List.{List, [], _∷_, _++_}
 use native.Mathlib.Omega.{arith}
-use native.Mathlib.Decide.{decLt, ℕ-discrete}
+use native.Mathlib.Decide.{ℕ-discrete}
 use lib.Dec.{eqb, ltb}
-use lib.ListN.{length, getD, set}
+use lib.ListN.{getD}
 use lib.Seq.{getD-set-same, getD-set-other}
-use borrow.Author.Tests.{eqb-true, eqb-false, eq-eqb, ne-eqb, ltb-true}
+use borrow.Author.Tests.{eqb-true, eq-eqb, ne-eqb, ltb-true}
 use Rattle.base.specs.Choice.{pick}
 use Rattle.base.proofs.BelowLaws.{and-left, and-right}
 use Rattle.scope.specs.Table.{Table, recordOf, modeOf, isolatedOf, withMode, giveUser, takeUser, putRecord}
 use Rattle.scope.specs.Sound.{Sound}
-use Rattle.scope.specs.Notes.{Note}
-use Rattle.scope.specs.Outcome.{Result, stay, choose, joined, each}
+use Rattle.scope.specs.Outcome.{Result, choose, each}
 use Rattle.scope.specs.Map.{nextUser}
 use Rattle.scope.specs.Modes.{isUnused, deleteIfUnused, show, hide, change, setMode, isHidden, observeOne, observe}
-use Rattle.scope.specs.Entries.{Entry, noted, hides}
+use Rattle.scope.specs.Entries.{Entry, hides}
 use Rattle.scope.proofs.PairLaws.{free-below}
 use Rattle.scope.proofs.MoveLaws.{Reach, stop, reach-one, reach-then, reach-sound, deletes-global, gives-user, takes-user, puts-record, tells-mode, hides-again, undeleted-below}
-use Rattle.scope.proofs.ResultLaws.{Good, entered, good-more, by-choose, choose-then, choose-else, safe-each, each-keeps}
+use Rattle.scope.proofs.ResultLaws.{Good, entered, by-choose, safe-each, each-keeps}
 use Rattle.scope.proofs.MapLaws.{SameSolvers, same-solvers, next-user-free}
 
 -- ---- deletion of an unused global
@@ -135,7 +134,8 @@ pub change-sound : (t : Table) (g m : ℕ) → Sound t → recordOf t g < 36 →
 change-sound t g m p h q k = reach-sound (change-reach t g m p h q k) p
 
 -- A call that hides what is shown enters that it does, before its notes.
-pub hide-reach : (t : Table) (g : ℕ) → Sound t → recordOf t g < 36 → modeOf (recordOf t g) ≢ 2 → Reach t (hides g ∷ entered (hide g t .notes)) (hide g t .table)
+pub hide-reach : (t : Table) (g : ℕ) → Sound t → recordOf t g < 36 → modeOf (recordOf t g) ≢ 2
+    → Reach t (hides g ∷ entered (hide g t .notes)) (hide g t .table)
 unfolding hide takeUser
 hide-reach t g p h n =
     let m = p .rows .row g .seen (h, n) in
@@ -151,7 +151,8 @@ pub hide-sound : (t : Table) (g : ℕ) → Sound t → recordOf t g < 36 → mod
 hide-sound t g p h n = reach-sound (hide-reach t g p h n) p
 
 -- the table between: the user is withdrawn
-pub hide-take-sound : (t : Table) (g : ℕ) → Sound t → recordOf t g < 36 → modeOf (recordOf t g) ≢ 2 → Sound (takeUser g (getD (t .userFromGlobal) g 0 - 1) (withMode (recordOf t g) 2) t)
+pub hide-take-sound : (t : Table) (g : ℕ) → Sound t → recordOf t g < 36 → modeOf (recordOf t g) ≢ 2
+    → Sound (takeUser g (getD (t .userFromGlobal) g 0 - 1) (withMode (recordOf t g) 2) t)
 hide-take-sound t g p h n =
     let m = p .rows .row g .seen (h, n) in
     reach-sound (reach-one {t = t} (takes-user g (getD (t .userFromGlobal) g 0 - 1) (withMode (recordOf t g) 2)) (record { has = omega arith; undeleted = omega arith; hidden = omega arith })) p
@@ -162,11 +163,13 @@ hide-take-sound t g p h n =
 abbrev pub hiding : ℕ → ℕ → List Entry
 hiding g m = pick (eqb m 2) (hides g ∷ []) []
 
-pub set-mode-reach : (t : Table) (g m : ℕ) → Sound t → recordOf t g < 36 → m < 3 → Reach t (hiding g m ++ entered (setMode g m t .notes)) (setMode g m t .table)
+pub set-mode-reach : (t : Table) (g m : ℕ) → Sound t → recordOf t g < 36 → m < 3
+    → Reach t (hiding g m ++ entered (setMode g m t .notes)) (setMode g m t .table)
 unfolding setMode choose
 set-mode-reach t g m p h k = go (ℕ-discrete (modeOf (recordOf t g)) m) (ℕ-discrete m 2) (ℕ-discrete (modeOf (recordOf t g)) 2)
   where
-    go : Dec (modeOf (recordOf t g) ≡ m) → Dec (m ≡ 2) → Dec (modeOf (recordOf t g) ≡ 2) → Reach t (hiding g m ++ entered (setMode g m t .notes)) (setMode g m t .table)
+    go : Dec (modeOf (recordOf t g) ≡ m) → Dec (m ≡ 2) → Dec (modeOf (recordOf t g) ≡ 2)
+        → Reach t (hiding g m ++ entered (setMode g m t .notes)) (setMode g m t .table)
     go (yes e) (yes q) d = rw (eq-eqb (modeOf (recordOf t g)) m e, eq-eqb m 2 q) (reach-one (hides-again g) (λ z. z .1 (e ∙ q)))
     go (yes e) (no q) d = rw (eq-eqb (modeOf (recordOf t g)) m e, ne-eqb m 2 q) stop
     go (no e) (yes q) d = rw (ne-eqb (modeOf (recordOf t g)) m e, eq-eqb m 2 q) (hide-reach t g p h (λ z. e (omega arith)))

@@ -1,17 +1,16 @@
 -- Moves, a device of the proofs: the single changes of a table of which every operation is made, each with what a ledger enters of it and
 -- when it is allowed. An allowed move keeps a table sound; so an operation that is a path of allowed moves does.
-use Prim.Native.Nat.{ℕ, zero, suc, _+_, _-_, _%_, _/_, _<_, _≤_, max}
-use mathlib.Core.Path.{_≡_, refl, sym, ap, _∙_, subst}
+use Prim.Native.Nat.{ℕ, _+_, _<_, _≤_, max}
+use mathlib.Core.Path.{_≡_, refl, subst}
 use mathlib.Core.Bool.{Bool}
 use mathlib.Core.Logic.{_≢_}
 use mathlib.Core.List.{List, [], _∷_, _++_, append-assoc, append-nil}
 use native.Mathlib.Omega.{arith}
-use native.Mathlib.Decide.{decLt, ℕ-discrete}
+use native.Mathlib.Decide.{decLt}
 use lib.ListN.{getD, length, length-set, set}
 use lib.Seq.{getD-set-same}
-use Rattle.scope.specs.declared.Counts.{Counts}
 use Rattle.scope.specs.Table.{Table, recordOf, modeOf, unitOf, isolatedOf, giveUser, takeUser, giveSolver, takeSolver, putRecord, putValue}
-use Rattle.scope.specs.Sound.{Sizes, Pair, Shown, Row, Sound}
+use Rattle.scope.specs.Sound.{Shown, Row, Sound}
 use Rattle.scope.specs.Notes.{user+, user-, solver+, solver-, deletes, changes}
 use Rattle.scope.specs.Entries.{Entry, noted, hides}
 use Rattle.scope.proofs.PairLaws.{pair-link, pair-cut, pair-grow, pair-flip, below-mark, off-set, off-same, rows-at, values-put}

@@ -4,9 +4,9 @@ use mathlib.Core.Path.{_≡_, refl, sym, subst}
 use mathlib.Core.List.{List, []}
 use mathlib.Core.Bool.{Bool, true, false, not}
 use native.Mathlib.Omega.{arith}
-use lib.ListN.{getD, length, length-replicate, replicate}
+use lib.ListN.{getD, length-replicate, replicate}
 use Rattle.base.specs.Choice.{pick}
-use Rattle.base.specs.Answer.{Answer, accepted, refused}
+use Rattle.base.specs.Answer.{accepted, refused}
 use Rattle.base.proofs.Truth.{truth}
 use Rattle.scope.specs.Table.{Table}
 use Rattle.scope.specs.Sound.{sizesb, Pair, Sound}

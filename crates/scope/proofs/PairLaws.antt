@@ -1,8 +1,7 @@
 -- How a single change of a word passes through the parts of soundness: two mutually inverse maps, the rows of globals, the values.
-use Prim.Native.Nat.{ℕ, zero, suc, _+_, _-_, _<_, _≤_}
+use Prim.Native.Nat.{ℕ, suc, _+_, _-_, _<_, _≤_}
 use mathlib.Core.Path.{_≡_, refl, sym, ap, _∙_}
-use mathlib.Core.Bool.{Bool, true, false}
-use mathlib.Core.Logic.{_↔_, _≢_, _⊎_, ⊎-elim}
+use mathlib.Core.Logic.{_↔_, _≢_}
 use mathlib.Core.List.{List}
 use native.Mathlib.Omega.{arith}
 use native.Mathlib.Decide.{decLt, ℕ-discrete}
@@ -10,11 +9,8 @@ use lib.Dec.{eqb}
 use lib.ListN.{getD, length, set}
 use lib.Seq.{getD-set-other, getD-set-same}
 use borrow.Author.Tests.{eqb-true, eqb-false}
-use Rattle.base.specs.Choice.{pick}
-use Rattle.base.specs.Bounded.{least}
 use Rattle.base.proofs.LeastLaws.{Least, least-has}
-use Rattle.base.proofs.Pigeon.{Into, pigeon}
-use Rattle.base.proofs.Truth.{split}
+use Rattle.base.proofs.Pigeon.{pigeon}
 use Rattle.scope.specs.Sound.{Inverse, Pair, Row, Rows, Values}
 use Rattle.scope.specs.Map.{leastFree}
 
@@ -50,7 +46,8 @@ inverse-cut a b i j inv hi hj ai x y = go (ℕ-discrete x i) (ℕ-discrete y j)
     go (no e) (no q) = rw (getD-set-other a i x 0 0 e, getD-set-other b j y 0 0 q) (inv x y)
 
 pub pair-link : {a b : List ℕ} {amark bmark : ℕ} (amark′ bmark′ i j : ℕ) → Pair a b amark bmark → i < length a → j < length b
-    → getD a i 0 ≡ 0 → getD b j 0 ≡ 0 → amark ≤ amark′ → i < amark′ → bmark ≤ bmark′ → j < bmark′ → Pair (set a i (j + 1)) (set b j (i + 1)) amark′ bmark′
+    → getD a i 0 ≡ 0 → getD b j 0 ≡ 0 → amark ≤ amark′ → i < amark′ → bmark ≤ bmark′ → j < bmark′
+    → Pair (set a i (j + 1)) (set b j (i + 1)) amark′ bmark′
 pair-link {a} {b} amark′ bmark′ i j p hi hj ai bj k l m n =
     record {
       inverse = inverse-link a b i j (p .inverse) hi hj ai bj;
@@ -111,7 +108,8 @@ unfolding leastFree
 free-before a amark i h = eqb-false (getD a i 0) 0 (least-has amark (λ i. eqb (getD a i 0) 0) .before i h)
 
 -- Of two mutually inverse maps, the second empty from n up: where the first is full below n, the second has no gap there.
-pub no-gap : {a b : List ℕ} {amark bmark : ℕ} (n g : ℕ) → Pair a b amark bmark → bmark ≤ n → ((i : ℕ) → i < n → getD a i 0 ≢ 0) → g < n → getD b g 0 ≢ 0
+pub no-gap : {a b : List ℕ} {amark bmark : ℕ} (n g : ℕ) → Pair a b amark bmark → bmark ≤ n → ((i : ℕ) → i < n → getD a i 0 ≢ 0) → g < n
+    → getD b g 0 ≢ 0
 no-gap {a} {b} {amark} {bmark} n g p hb full hg bg =
     let z = pigeon (suc n) n h (record { bound = λ i l. boundBy i (ℕ-discrete i n) l; one = λ i j l k e. oneBy i j (ℕ-discrete i n) (ℕ-discrete j n) l k e }) in
     omega arith

@@ -1,12 +1,12 @@
 -- Laws of Pose. After any prefix of the literals the table is sound; its free users, its watermark and its counts are told by the table at
 -- entry and the prefix. So the count that refusal 5 makes at entry is what is mapped.
-use Prim.Native.Nat.{ℕ, zero, suc, _+_, _-_, _*_, _/_, _%_, _<_, _≤_}
-use mathlib.Core.Path.{_≡_, refl, sym, ap, _∙_, subst}
+use Prim.Native.Nat.{ℕ, zero, suc, _+_, _<_, _≤_}
+use mathlib.Core.Path.{_≡_, refl, sym, ap, _∙_}
 use mathlib.Core.Bool.{Bool, true, false, _&&_, _||_, not, true≢false}
 use mathlib.Core.Logic.{_≢_}
-use mathlib.Core.List.{List, [], _∷_, _++_}
+use mathlib.Core.List.{List, [], _∷_}
 use native.Mathlib.Omega.{arith}
-use native.Mathlib.Decide.{decLt, ℕ-discrete}
+use native.Mathlib.Decide.{ℕ-discrete}
 use native.Mathlib.Numerals.{add-one}
 use lib.Dec.{eqb, ltb, leb}
 use lib.ListN.{length, getD, take, drop, length-append, take-append-drop}
@@ -14,19 +14,18 @@ use lib.Seq.{take-suc, take-length}
 use borrow.Author.Tests.{eq-eqb, ne-eqb, leb-false, ltb-false}
 use Rattle.base.specs.Choice.{pick}
 use Rattle.base.specs.Bounded.{count, anyOf}
-use Rattle.base.proofs.CountLaws.{count-same}
 use Rattle.base.proofs.MemberLaws.{any-append, or-first, any-none}
-use Rattle.scope.specs.Literals.{indexOf, signOf, codeOf}
-use Rattle.scope.specs.Table.{Table, word, recordOf}
+use Rattle.scope.specs.Literals.{indexOf}
+use Rattle.scope.specs.Table.{Table, word}
 use Rattle.scope.specs.Sound.{Sound}
-use Rattle.scope.specs.Outcome.{Result, _then_, giving, each}
+use Rattle.scope.specs.Outcome.{Result, giving, each}
 use Rattle.scope.specs.Map.{mapUser, undeleted, toMap}
 use Rattle.scope.specs.Grant.{grant}
 use Rattle.scope.specs.Pose.{poseOne, pose, wanted, usersToMap}
-use Rattle.scope.proofs.MoveLaws.{Reach, reach-sound}
-use Rattle.scope.proofs.ResultLaws.{Good, good-more, word-none, word-some, each-keeps, each-good, each-notes}
-use Rattle.scope.proofs.MapLaws.{MapRoom, Mapped, map-user-mapped, mapped-global, isUngranted, ungranted-free, ungranted-has, ungranted-same}
-use Rattle.scope.proofs.GrantLaws.{Granted, SameUsers, grant-granted, toGrant}
+use Rattle.scope.proofs.MoveLaws.{reach-sound}
+use Rattle.scope.proofs.ResultLaws.{Good, good-more, each-keeps, each-good}
+use Rattle.scope.proofs.MapLaws.{MapRoom, Mapped, map-user-mapped, mapped-global, isUngranted, ungranted-free, ungranted-has}
+use Rattle.scope.proofs.GrantLaws.{Granted, grant-granted, toGrant}
 use Rattle.scope.proofs.WantedLaws.{isFree, takesIn, to-map-count, map-frees, map-covers, count-either, count-within, count-never, count-point}
 
 -- ---- the literals of a prefix
@@ -171,7 +170,8 @@ to-map-part t lits i =
     part true false false P N′ P′ f g e = absurd (true≢false (sym e))
 
 -- there is room for the next literal's user
-pub pose-turn-room : (t : Table) (lits : List ℕ) (i : ℕ) (s : Table) → PoseRoom t lits → i < length lits → Posed t lits i s → MapRoom s (indexOf (getD lits i 0))
+pub pose-turn-room : (t : Table) (lits : List ℕ) (i : ℕ) (s : Table) → PoseRoom t lits → i < length lits → Posed t lits i s
+    → MapRoom s (indexOf (getD lits i 0))
 pose-turn-room t lits i s r l o =
     let a = to-map-more t lits i s r l o in
     let b = to-map-part t lits (i + 1) in
@@ -197,7 +197,8 @@ pose-one-posed s u m =
     }
 
 -- a grant to the global of u gives u a solver index, and no other user
-grant-ungranted : (t : Table) (u g : ℕ) (y : Result ℕ) → Sound t → getD (t .globalFromUser) u 0 ≡ g + 1 → Granted t g y → (v : ℕ) → isUngranted (y .table) v ≡ isUngranted t v && not (eqb u v)
+grant-ungranted : (t : Table) (u g : ℕ) (y : Result ℕ) → Sound t → getD (t .globalFromUser) u 0 ≡ g + 1 → Granted t g y → (v : ℕ)
+    → isUngranted (y .table) v ≡ isUngranted t v && not (eqb u v)
 grant-ungranted t u g y p h d v = go (ℕ-discrete u v) (getD (t .globalFromUser) v 0) refl
   where
     q : getD (y .table .globalFromUser) v 0 ≡ getD (t .globalFromUser) v 0
@@ -309,7 +310,8 @@ pub pose-one-sound : (c : ℕ) (s : Table) → MapRoom s (indexOf c) → Sound (
 pose-one-sound c s m = reach-sound (pose-one-reach c s m) (m .sound)
 
 -- at every turn there is room for the literal's user
-pub pose-room : (t : Table) (lits : List ℕ) → PoseRoom t lits → (i : ℕ) → i < length lits → MapRoom (each i (poseStep lits) t .table) (indexOf (getD lits i 0))
+pub pose-room : (t : Table) (lits : List ℕ) → PoseRoom t lits → (i : ℕ) → i < length lits
+    → MapRoom (each i (poseStep lits) t .table) (indexOf (getD lits i 0))
 pose-room t lits r i l = pose-turn-room t lits i (each i (poseStep lits) t .table) r l (pose-posed t lits r i (omega arith))
 
 -- a prefix is a path, and leaves a sound table
@@ -356,7 +358,8 @@ to-grant-word t u g h = rw (ungranted-has t u g h) (go (getD (t .solverFromGloba
     go (suc s) = rw (ne-eqb (suc s) 0 (omega arith))
 
 -- a note for each user that is mapped, and for each solver index that is granted
-pub pose-one-count : (c : ℕ) (s : Table) → MapRoom s (indexOf c) → length (poseOne c s .notes) ≡ toMap s (indexOf c) + pick (isUngranted s (indexOf c)) 1 0
+pub pose-one-count : (c : ℕ) (s : Table) → MapRoom s (indexOf c)
+    → length (poseOne c s .notes) ≡ toMap s (indexOf c) + pick (isUngranted s (indexOf c)) 1 0
 unfolding poseOne
 pose-one-count c s m =
     let u = indexOf c in

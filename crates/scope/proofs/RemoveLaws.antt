@@ -1,22 +1,23 @@
 -- Laws of Remove and Sweep: that each keeps a table sound, and what it leaves alone.
-use Prim.Native.Nat.{ℕ, zero, suc, _+_, _-_, _*_, _/_, _%_, _<_, _≤_}
-use mathlib.Core.Path.{_≡_, refl, sym, ap, _∙_, subst}
-use mathlib.Core.Bool.{Bool, true, false, _&&_}
+use Prim.Native.Nat.{ℕ, _+_, _<_, _≤_}
+use mathlib.Core.Path.{_≡_, refl, sym, ap, _∙_}
+use mathlib.Core.Bool.{Bool, false, _&&_}
 use mathlib.Core.Logic.{_≢_}
-use mathlib.Core.List.{List, [], _∷_, _++_}
+use mathlib.Core.List.{List, []}
 use native.Mathlib.Omega.{arith}
-use native.Mathlib.Decide.{decLt}
-use lib.ListN.{length, getD, set}
+use native.Mathlib.Decide.{decLt, ℕ-discrete}
+use lib.Dec.{eqb}
+use lib.ListN.{getD}
 use lib.Seq.{getD-set-same, getD-set-other}
 use Rattle.scope.specs.declared.Counts.{Counts}
-use Rattle.scope.specs.Table.{Table, word, recordOf, modeOf, withUnit, takeSolver, putRecord}
+use Rattle.scope.specs.Table.{Table, recordOf, modeOf, isolatedOf, assumedOf, withUnit, takeSolver}
 use Rattle.scope.specs.Sound.{Sound}
-use Rattle.scope.specs.Outcome.{Result, stay, choose, joined, each}
+use Rattle.scope.specs.Outcome.{Result, each}
 use Rattle.scope.specs.Marks.{holderOf}
-use Rattle.scope.specs.Modes.{deleteIfUnused}
 use Rattle.scope.specs.Remove.{removeHeld, remove, learn, sweepHeld, sweepOne, sweep}
-use Rattle.scope.proofs.MoveLaws.{Reach, stop, reach-one, reach-then, reach-sound, takes-solver, puts-record, undeleted-below}
-use Rattle.scope.proofs.ResultLaws.{Good, entered, by-choose, by-word, safe-each, each-keeps}
+use Rattle.scope.proofs.PairLaws.{below-mark}
+use Rattle.scope.proofs.MoveLaws.{Reach, stop, reach-one, reach-then, reach-sound, takes-solver, puts-record}
+use Rattle.scope.proofs.ResultLaws.{Good, by-choose, by-word, safe-each, each-keeps}
 use Rattle.scope.proofs.ModeLaws.{delete-reach, delete-same, put-record-same, stay-same, SameButRecord}
 
 -- a global that holds a solver index is undeleted
@@ -103,7 +104,7 @@ sweep-one-sound t s p = reach-sound (sweep-one-reach t s p) p
 
 pub sweep-reach : (t : Table) → Sound t → Good t (sweep t)
 unfolding sweep
-sweep-reach t p = safe-each sweepOne (λ s r q. sweep-one-reach r s q) (t .counts .solver) t p
+sweep-reach t p = safe-each sweepOne (λ s r q. sweep-one-reach r s q) _ t p
 
 pub sweep-sound : (t : Table) → Sound t → Sound (sweep t .table)
 sweep-sound t p = reach-sound (sweep-reach t p) p
@@ -227,3 +228,71 @@ sweep-passed t p i =
     })
     (λ j r l o. sweep-one-passed t j r p o)
     i (omega arith)
+
+-- ---- a sweep is complete: an index that is still held is held by a global that is not isolated, or is assumed
+
+-- isolated and not assumed
+abbrev pub isDue : ℕ → Bool
+isDue r = eqb (isolatedOf r) 1 && eqb (assumedOf r) 0
+
+pub record Kept (i : ℕ) (r : Table) : Type 0 where
+  pub due : (s g : ℕ) → s < i → getD (r .globalFromSolver) s 0 ≡ g + 1 → isDue (recordOf r g) ≡ false
+
+removed-free : (t : Table) (g s : ℕ) → Sound t → getD (t .globalFromSolver) s 0 ≡ g + 1 → getD (removeHeld g s t .table .globalFromSolver) s 0 ≡ 0
+unfolding removeHeld takeSolver
+removed-free t g s p e =
+    let z = p .sizes in
+    let l = below-mark s g (p .solver) e in
+    ap (λ (xs : List ℕ). getD xs s 0) (delete-same (takeSolver g s t) g .globalFromSolver) ∙ getD-set-same (t .globalFromSolver) s 0 0 (omega arith)
+
+-- the turn at s itself
+turn-kept : (t : Table) (g s : ℕ) → Sound t → getD (t .globalFromSolver) s 0 ≡ g + 1
+    → (h : ℕ) → getD (sweepHeld g s t .table .globalFromSolver) s 0 ≡ h + 1 → isDue (recordOf (sweepHeld g s t .table) h) ≡ false
+unfolding sweepHeld
+turn-kept t g s p e = by-choose (λ (x : Result (List ℕ)). (h : ℕ) → getD (x .table .globalFromSolver) s 0 ≡ h + 1 → isDue (recordOf (x .table) h) ≡ false) _
+    (λ z h q. let w = removed-free t g s p e in absurd (omega arith))
+    (λ z h q. let x : h ≡ g = omega arith in rw x z)
+
+kept-turn : (i : ℕ) (r : Table) → Sound r → Kept i r → Kept (i + 1) (sweepOne i r .table)
+unfolding sweepOne
+kept-turn i r p k = by-word (λ (x : Result (List ℕ)). Kept (i + 1) (x .table)) (getD (r .globalFromSolver) i 0)
+    (λ e. record { due = λ s g l q. k .due s g (other s g l q e) q })
+    (λ g e.
+    record { due = λ s h l w. go s h l g e w (ℕ-discrete s i) })
+  where
+    other : (s g : ℕ) → s < i + 1 → getD (r .globalFromSolver) s 0 ≡ g + 1 → getD (r .globalFromSolver) i 0 ≡ 0 → s < i
+    other s g l q e = apart (ℕ-discrete s i)
+      where
+        apart : Dec (s ≡ i) → s < i
+        apart (yes z) = let w = ap (λ (k : ℕ). getD (r .globalFromSolver) k 0) z in absurd (omega arith)
+        apart (no z) = omega arith
+
+    go : (s h : ℕ) → s < i + 1 → (g : ℕ) → getD (r .globalFromSolver) i 0 ≡ g + 1
+        → getD (sweepHeld g i (learn g i r) .table .globalFromSolver) s 0 ≡ h + 1 → Dec (s ≡ i)
+        → isDue (recordOf (sweepHeld g i (learn g i r) .table) h) ≡ false
+    go s h l g e w (yes z) = turn-kept (learn g i r) g i (learn-sound r g i p e) (learn-holds r g i e) h (ap (λ (k : ℕ). getD (sweepHeld g i (learn g i r) .table .globalFromSolver) k 0) (sym z) ∙ w)
+    go s h l g e w (no z) =
+        let x = sweep-held-same r g i in
+        let y = sym (x .holders s z) ∙ w in
+        let apart : h ≢ g = λ q.
+        let a = p .solver .inverse s h .0 y in
+        let b = p .solver .inverse i g .0 e in
+        let c = ap (λ (k : ℕ). getD (r .solverFromGlobal) k 0) q in
+        omega arith in
+        rw (x .records h apart) (k .due s h (omega arith) y)
+
+pub sweep-complete : (t : Table) → Sound t → (s g : ℕ) → getD (sweep t .table .globalFromSolver) s 0 ≡ g + 1
+    → isDue (recordOf (sweep t .table) g) ≡ false
+unfolding sweep
+sweep-complete t p s g e =
+    let o = sweep-passed t p _ in
+    let l = below-mark s g (o .sound .solver) e in
+    let c = ap (λ (c : Counts). c .solver) (o .counts) in
+    kept-all _ .due s g (omega arith) e
+  where
+    kept-all : (i : ℕ) → Kept i (each i sweepOne t .table)
+    kept-all i =
+        each-keeps sweepOne t (λ (i : ℕ) (r : Table). Sound r × Kept i r) i
+        (p, record { due = λ s g l q. absurd (omega arith) })
+        (λ j r l q. (sweep-one-sound r j (q .0), kept-turn j r (q .0) (q .1)))
+        i (omega arith) .1

@@ -1,18 +1,17 @@
 -- Laws of results: of choices, of one operation after another, of one for each index. An operation is `Good` if it is a path of allowed
 -- moves of which a ledger enters its notes: it then keeps a table sound.
 use Prim.Native.Nat.{ℕ, zero, suc, _+_, _<_, _≤_}
-use mathlib.Core.Path.{_≡_, refl, sym, ap, _∙_, subst}
+use mathlib.Core.Path.{_≡_, refl, ap}
 use mathlib.Core.Bool.{Bool, true, false}
 use mathlib.Core.List.{List, [], _∷_, _++_, map}
 use native.Mathlib.Omega.{arith}
-use native.Mathlib.Nat.{not-suc-le-zero}
 use native.Mathlib.Numerals.{add-one}
 use Rattle.base.specs.Choice.{pick}
 use Rattle.scope.specs.Table.{Table, word}
 use Rattle.scope.specs.Sound.{Sound}
 use Rattle.scope.specs.Notes.{Note}
-use Rattle.scope.specs.Outcome.{Result, stay, _then_, giving, choose, joined, each}
-use Rattle.scope.specs.Entries.{Entry, noted, hides}
+use Rattle.scope.specs.Outcome.{Result, stay, choose, joined, each}
+use Rattle.scope.specs.Entries.{Entry, noted}
 use Rattle.scope.proofs.MoveLaws.{Reach, stop, reach-then, reach-sound}
 
 -- ---- by cases
@@ -95,7 +94,8 @@ module _ (f : ℕ → Table → Result (List ℕ)) (t : Table) where
   each-keeps P n a b (suc i) l = rw add-one at (b i (each i f t .table) l (each-keeps P n a b i (omega arith)))
 
   -- turns that are good make a good whole
-  pub each-good : (P : ℕ → Table → Type 0) (n : ℕ) → ((i : ℕ) → i ≤ n → P i (each i f t .table)) → ((i : ℕ) (s : Table) → i < n → P i s → Good s (f i s))
+  pub each-good : (P : ℕ → Table → Type 0) (n : ℕ) → ((i : ℕ) → i ≤ n → P i (each i f t .table))
+      → ((i : ℕ) (s : Table) → i < n → P i s → Good s (f i s))
       → (i : ℕ) → i ≤ n → Good t (each i f t)
   unfolding each
   each-good P n a b zero l = stop

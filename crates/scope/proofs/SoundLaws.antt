@@ -1,21 +1,19 @@
 -- The test of soundness and the facts of soundness say the same. Each small test is taken apart once, over plain lists; a word past the end
 -- of a list reads as the blank, so that what holds of every index below the length holds of every index.
-use Prim.Native.Nat.{ℕ, zero, suc, _+_, _-_, _%_, _/_, _≤_, _<_}
-use mathlib.Core.Path.{_≡_, refl, sym, ap, _∙_}
-use mathlib.Core.Bool.{Bool, true, false, _&&_, _||_, not}
-use mathlib.Core.Logic.{_↔_, _≢_, _⊎_, ⊎-elim}
+use Prim.Native.Nat.{ℕ, _+_, _-_, _≤_, _<_}
+use mathlib.Core.Path.{_≡_, refl}
+use mathlib.Core.Bool.{Bool, true, false}
+use mathlib.Core.Logic.{_≢_, ⊎-elim}
 use mathlib.Core.List.{List}
 use native.Mathlib.Omega.{arith}
-use native.Mathlib.Decide.{decLt, ℕ-discrete}
-use lib.Dec.{eqb, ltb, leb}
+use lib.Dec.{ltb}
 use lib.ListN.{length, getD, List·getD-eq-default}
-use borrow.Author.Tests.{ltb-true, ltb-false, lt-ltb, le-ltb, eq-eqb, ne-eqb, eqb-true}
-use Rattle.base.specs.Bounded.{allBelow}
-use Rattle.base.proofs.BelowLaws.{and-left, and-right, and-both, all-at, all-intro}
+use borrow.Author.Tests.{ltb-true, lt-ltb, ne-eqb}
+use Rattle.base.proofs.BelowLaws.{and-left, all-at, all-intro}
 use Rattle.base.proofs.MemberLaws.{getD-default}
-use Rattle.base.proofs.Truth.{truth, equal-of, split}
+use Rattle.base.proofs.Truth.{truth, split}
 use Rattle.scope.specs.Table.{Table, modeOf, isolatedOf, isShown}
-use Rattle.scope.specs.Sound.{sizesb, marksb, atMostb, tailb, backb, namedb, deletedb, tailsb, pairsb, soundb, Sizes, Inverse, Pair, Shown, Row, Rows, Values, Sound}
+use Rattle.scope.specs.Sound.{sizesb, marksb, atMostb, tailb, backb, namedb, deletedb, tailsb, pairsb, soundb, Sizes, Pair, Shown, Row, Sound}
 
 -- ---- shown
 
@@ -37,7 +35,8 @@ hidden-to r n = go (isShown r) refl
 -- ---- the tests of lists
 
 -- what holds of each index below the length, and of the blank, holds of every index
-everywhere : (P : ℕ → ℕ → Type 0) (xs : List ℕ) (d : ℕ) → ((i : ℕ) → i < length xs → P i (getD xs i d)) → ((i : ℕ) → length xs ≤ i → P i d) → (i : ℕ) → P i (getD xs i d)
+everywhere : (P : ℕ → ℕ → Type 0) (xs : List ℕ) (d : ℕ) → ((i : ℕ) → i < length xs → P i (getD xs i d)) → ((i : ℕ) → length xs ≤ i → P i d) → (i : ℕ)
+    → P i (getD xs i d)
 everywhere P xs d f g i = ⊎-elim (λ (l : i < length xs). f i l) (λ (l : length xs ≤ i). rw (List·getD-eq-default xs d l) (g i l)) (split i (length xs))
 
 atMost-of : (m d : ℕ) (xs : List ℕ) → d ≤ m → atMostb m xs ≡ true → (i : ℕ) → getD xs i d ≤ m
@@ -92,7 +91,8 @@ marks-to t s = simp truth (omega arith)
 
 -- ---- the parts
 
-pair-of : (a b : List ℕ) (amark bmark : ℕ) → backb a b ≡ true → backb b a ≡ true → tailb amark 0 a ≡ true → tailb bmark 0 b ≡ true → Pair a b amark bmark
+pair-of : (a b : List ℕ) (amark bmark : ℕ) → backb a b ≡ true → backb b a ≡ true → tailb amark 0 a ≡ true → tailb bmark 0 b ≡ true
+    → Pair a b amark bmark
 pair-of a b amark bmark f g p q =
     record { inverse = λ i j. (back-of a b f i j, back-of b a g j i); atail = tail-of amark 0 a p; btail = tail-of bmark 0 b q }
 
@@ -114,11 +114,14 @@ row-of records users solvers lu ls m n d g = ⊎-elim
     rw (List·getD-eq-default records 47 l, List·getD-eq-default users 0 {n = g} (omega arith), List·getD-eq-default solvers 0 {n = g} (omega arith)) (omega arith))
     (split g (length records))
 
-named-to : (records users : List ℕ) → ((g : ℕ) → getD users g 0 ≢ 0 → Shown (getD records g 47)) → ((g : ℕ) → Shown (getD records g 47) → getD users g 0 ≢ 0) → namedb records users ≡ true
+named-to : (records users : List ℕ) → ((g : ℕ) → getD users g 0 ≢ 0 → Shown (getD records g 47))
+    → ((g : ℕ) → Shown (getD records g 47) → getD users g 0 ≢ 0) → namedb records users ≡ true
 unfolding namedb
 named-to records users f k = all-intro (length records) _ (λ g l. simp truth (λ n. shown-to (getD records g 47) (f g n), λ e. k g (shown-of (getD records g 47) e)))
 
-deleted-to : (records solvers : List ℕ) → ((g : ℕ) → 36 ≤ getD records g 47 → (modeOf (getD records g 47) ≡ 2) × (isolatedOf (getD records g 47) ≡ 1) × (getD solvers g 0 ≡ 0)) → deletedb records solvers ≡ true
+deleted-to : (records solvers : List ℕ)
+    → ((g : ℕ) → 36 ≤ getD records g 47 → (modeOf (getD records g 47) ≡ 2) × (isolatedOf (getD records g 47) ≡ 1) × (getD solvers g 0 ≡ 0))
+    → deletedb records solvers ≡ true
 unfolding deletedb
 deleted-to records solvers f = all-intro (length records) _ (λ g l. simp truth (λ k. let z = f g k in ((z .0, z .1), z .2)))
 

@@ -1,35 +1,28 @@
 -- The users that are to be mapped, counted: for one user, and for one literal more.
 use Prim.Native.Nat.{ℕ, zero, suc, _+_, _-_, _<_, _≤_, min, max}
-use mathlib.Core.Path.{_≡_, refl, sym, ap, _∙_, subst}
+use mathlib.Core.Path.{_≡_, refl, sym}
 use mathlib.Core.Bool.{Bool, true, false, _&&_, _||_, not, true≢false}
-use mathlib.Core.Logic.{_≢_, _↔_, _⊎_, ⊎-elim}
-use mathlib.Core.List.{List, [], _∷_, _++_}
 use native.Mathlib.Omega.{arith}
 use native.Mathlib.Decide.{decLe, decLt, ℕ-discrete}
-use native.Mathlib.Numerals.{add-one}
 use lib.Dec.{eqb, ltb, leb}
-use lib.ListN.{length, getD, take, drop, take-append-drop}
-use lib.Seq.{take-suc}
-use borrow.Author.Tests.{eq-eqb, ne-eqb, eqb-true, eqb-false, le-leb, lt-leb, leb-true, leb-false, lt-ltb, le-ltb, ltb-true, ltb-false}
+use lib.ListN.{getD}
+use borrow.Author.Tests.{eq-eqb, ne-eqb, le-leb, lt-leb, lt-ltb, le-ltb, ltb-true}
 use Rattle.base.specs.Choice.{pick}
-use Rattle.base.specs.Bounded.{count, anyOf}
-use Rattle.base.proofs.BelowLaws.{and-left, and-right, and-both, and-not-right}
+use Rattle.base.specs.Bounded.{count}
+use Rattle.base.proofs.BelowLaws.{and-not-right}
 use Rattle.base.proofs.CountLaws.{count-same}
-use Rattle.base.proofs.MemberLaws.{any-append, or-first}
-use Rattle.base.proofs.Truth.{split}
-use Rattle.scope.specs.Literals.{indexOf}
 use Rattle.scope.specs.Table.{Table}
 use Rattle.scope.specs.Sound.{Sound}
 use Rattle.scope.specs.Outcome.{Result}
-use Rattle.scope.specs.Map.{mapUser, toMap}
-use Rattle.scope.specs.Pose.{wanted, usersToMap}
+use Rattle.scope.specs.Map.{toMap}
 use Rattle.scope.proofs.PairLaws.{below-mark}
 use Rattle.scope.proofs.MapLaws.{Mapped, to-map-free, to-map-has}
 
 -- ---- counts
 
 -- two tests of which never both pass
-pub count-either : (n : ℕ) (p q r : ℕ → Bool) → ((i : ℕ) → r i ≡ p i || q i) → ((i : ℕ) → p i ≡ true → q i ≡ false) → count n r ≡ count n p + count n q
+pub count-either : (n : ℕ) (p q r : ℕ → Bool) → ((i : ℕ) → r i ≡ p i || q i) → ((i : ℕ) → p i ≡ true → q i ≡ false)
+    → count n r ≡ count n p + count n q
 unfolding count
 count-either zero p q r h d = refl
 count-either (suc n) p q r h d = rw (h n) (go (p n) (q n) (d n) (count-either n p q r h d))
@@ -86,7 +79,8 @@ abbrev pub takesIn : ℕ → ℕ → ℕ → Bool
 takesIn mark u v = eqb u v || (leb mark v && ltb v u)
 
 -- the users to be mapped for u are the free ones that it takes in
-pub to-map-count : (t : Table) (u : ℕ) → Sound t → u < t .counts .capacity → toMap t u ≡ count (t .counts .capacity) (λ v. isFree t v && takesIn (t .counts .user) u v)
+pub to-map-count : (t : Table) (u : ℕ) → Sound t → u < t .counts .capacity
+    → toMap t u ≡ count (t .counts .capacity) (λ v. isFree t v && takesIn (t .counts .user) u v)
 to-map-count t u p h = go (getD (t .globalFromUser) u 0) refl
   where
     n : ℕ
@@ -133,7 +127,8 @@ to-map-count t u p h = go (getD (t .globalFromUser) u 0) refl
         omega arith
 
 -- after it these are mapped, and the others as they were
-pub map-frees : (t : Table) (u : ℕ) (x : Result ℕ) → Sound t → Mapped t u x → (v : ℕ) → isFree (x .table) v ≡ isFree t v && not (takesIn (t .counts .user) u v)
+pub map-frees : (t : Table) (u : ℕ) (x : Result ℕ) → Sound t → Mapped t u x → (v : ℕ)
+    → isFree (x .table) v ≡ isFree t v && not (takesIn (t .counts .user) u v)
 map-frees t u x p m v = go (ℕ-discrete v u) (decLt v (t .counts .user)) (decLt v u)
   where
     go : Dec (v ≡ u) → Dec (v < t .counts .user) → Dec (v < u) → isFree (x .table) v ≡ isFree t v && not (takesIn (t .counts .user) u v)
@@ -157,10 +152,12 @@ map-frees t u x p m v = go (ℕ-discrete v u) (decLt v (t .counts .user)) (decLt
         rw (a, d, ne-eqb u v (λ q. e (sym q)), le-ltb v u (omega arith), and-not-right (leb (t .counts .user) v) false refl)
 
 -- and the watermark covers it
-pub map-covers : (t : Table) (u : ℕ) (x : Result ℕ) → Mapped t u x → (v : ℕ) → leb (x .table .counts .user) v ≡ leb (t .counts .user) v && not (eqb u v || ltb v u)
+pub map-covers : (t : Table) (u : ℕ) (x : Result ℕ) → Mapped t u x → (v : ℕ)
+    → leb (x .table .counts .user) v ≡ leb (t .counts .user) v && not (eqb u v || ltb v u)
 map-covers t u x m v = rw (m .user) (go (decLt v (t .counts .user)) (ℕ-discrete v u) (decLt v u))
   where
-    go : Dec (v < t .counts .user) → Dec (v ≡ u) → Dec (v < u) → leb (max (t .counts .user) (u + 1)) v ≡ leb (t .counts .user) v && not (eqb u v || ltb v u)
+    go : Dec (v < t .counts .user) → Dec (v ≡ u) → Dec (v < u)
+        → leb (max (t .counts .user) (u + 1)) v ≡ leb (t .counts .user) v && not (eqb u v || ltb v u)
     go (yes a) b c = rw (lt-leb (max (t .counts .user) (u + 1)) v (omega arith), lt-leb (t .counts .user) v a)
     go (no a) (yes b) c = rw (lt-leb (max (t .counts .user) (u + 1)) v (omega arith), le-leb (t .counts .user) v (omega arith), eq-eqb u v (sym b))
     go (no a) (no b) (yes c) =

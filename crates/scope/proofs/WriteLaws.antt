@@ -1,22 +1,22 @@
 -- What Simplify and Write write can be read: every literal under its global name has an index below 4,096.
-use Prim.Native.Nat.{ℕ, zero, suc, _+_, _-_, _*_, _/_, _%_, _<_, _≤_}
-use mathlib.Core.Path.{_≡_, refl, sym, ap, _∙_}
-use mathlib.Core.Bool.{Bool, true, false, _&&_, _||_, not}
+use Prim.Native.Nat.{ℕ, suc, _<_}
+use mathlib.Core.Path.{_≡_}
+use mathlib.Core.Bool.{Bool, true, false}
 use mathlib.Core.Logic.{_≢_}
-use mathlib.Core.List.{List, [], _∷_, _++_, map}
+use mathlib.Core.List.{List, [], _∷_, map}
 use native.Mathlib.Omega.{arith}
-use lib.Dec.{eqb, ltb, leb}
+use lib.Dec.{ltb, leb}
 use lib.ListN.{length, getD}
 use borrow.Author.Tests.{eqb-false, leb-false}
 use Rattle.base.specs.Choice.{pick}
 use Rattle.base.specs.Bounded.{anyOf, keepOf}
 use Rattle.base.proofs.MemberLaws.{or-left, or-right, or-neither}
-use Rattle.drat.specs.Grammar.{Step, stepOf, Codes, Valid}
+use Rattle.drat.specs.Grammar.{stepOf, Codes, Valid}
 use Rattle.drat.specs.declared.Kind.the-variants.{Add as add}
 use Rattle.drat.proofs.CodesLaws.{codes-nil, codes-cons}
 use Rattle.scope.specs.declared.Writes.{Writes}
 use Rattle.scope.specs.declared.Writes.the-variants.{Add, AddEach, Delete, Nothing, Refused}
-use Rattle.scope.specs.Literals.{indexOf, signOf, codeOf}
+use Rattle.scope.specs.Literals.{indexOf}
 use Rattle.scope.specs.Table.{Table}
 use Rattle.scope.specs.Sound.{Sound}
 use Rattle.scope.specs.Marks.{notHeld, holderOf}
@@ -46,7 +46,8 @@ solver-codes t (c ∷ lits) p e =
     (solver-code t c p (or-left (notHeld t (indexOf c)) _ e))
     (solver-codes t lits p (or-right (notHeld t (indexOf c)) _ e))
 
-pub global-codes : (t : Table) (lits : List ℕ) → Sound t → anyOf (λ c. leb (t .counts .capacity) (indexOf c)) lits ≡ false → Codes (renameLits (holders t) false lits)
+pub global-codes : (t : Table) (lits : List ℕ) → Sound t → anyOf (λ c. leb (t .counts .capacity) (indexOf c)) lits ≡ false
+    → Codes (renameLits (holders t) false lits)
 unfolding anyOf renameLits
 global-codes t [] p e = codes-nil
 global-codes t (c ∷ lits) p e =

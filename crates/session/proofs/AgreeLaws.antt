@@ -1,10 +1,10 @@
 -- What a ledger enters of an allowed move tells what the move does to the holders and to what is shown. So along a path of moves the ledger
 -- and the table agree.
-use Prim.Native.Nat.{ℕ, zero, suc, _+_, _%_, _<_}
+use Prim.Native.Nat.{ℕ, zero, suc, _+_, _<_}
 use mathlib.Core.Path.{_≡_, refl, sym, ap, _∙_}
 use mathlib.Core.Bool.{Bool, true, false, _&&_, _||_, not}
 use mathlib.Core.Logic.{_≢_}
-use mathlib.Core.List.{List, [], _∷_, _++_}
+use mathlib.Core.List.{List, [], _++_}
 use native.Mathlib.Omega.{arith}
 use native.Mathlib.Decide.{ℕ-discrete}
 use lib.Dec.{eqb}
@@ -12,11 +12,10 @@ use lib.ListN.{getD, length, set}
 use lib.Seq.{getD-set-other, getD-set-same}
 use borrow.Author.Tests.{eq-eqb, ne-eqb}
 use Rattle.base.specs.Choice.{pick}
-use Rattle.base.specs.Bounded.{anyOf}
 use Rattle.scope.specs.Table.{Table, word, recordOf, modeOf, isShown, giveUser, takeUser, giveSolver, takeSolver, putRecord, putValue}
-use Rattle.scope.specs.Sound.{Inverse, Shown, Sound}
+use Rattle.scope.specs.Sound.{Inverse, Sound}
 use Rattle.scope.specs.Notes.{Note, heldBy}
-use Rattle.scope.specs.Entries.{Entry, noted, hides}
+use Rattle.scope.specs.Entries.{Entry}
 use Rattle.scope.specs.Open.{emptyTable}
 use Rattle.scope.proofs.SoundLaws.{shown-to, hidden-to}
 use Rattle.scope.proofs.PairLaws.{below-mark, pair-flip}
@@ -89,7 +88,8 @@ unfolding word
 lost-none zero = refl
 lost-none (suc w) = refl
 
-give-held : (gs : List ℕ) (g s k : ℕ) → s < length gs → pick (eqb s k) (g + 1) (pick (lost (λ h. false) (getD gs k 0)) 0 (getD gs k 0)) ≡ getD (set gs s (g + 1)) k 0
+give-held : (gs : List ℕ) (g s k : ℕ) → s < length gs
+    → pick (eqb s k) (g + 1) (pick (lost (λ h. false) (getD gs k 0)) 0 (getD gs k 0)) ≡ getD (set gs s (g + 1)) k 0
 give-held gs g s k h = go (ℕ-discrete k s)
   where
     go : Dec (k ≡ s) → pick (eqb s k) (g + 1) (pick (lost (λ h. false) (getD gs k 0)) 0 (getD gs k 0)) ≡ getD (set gs s (g + 1)) k 0
@@ -117,7 +117,8 @@ take-held gs sg g s k inv h e = go (ℕ-discrete k s) (getD gs k 0) refl
             let w : getD sg g 0 ≡ k + 1 = rw y z in
             q (omega arith)
 
-hold-move : (m : Move) (t : Table) → Sound t → Legal m t → (k : ℕ) → holdAll (notesOf (entries m)) k (getD (t .globalFromSolver) k 0) ≡ getD (apply m t .globalFromSolver) k 0
+hold-move : (m : Move) (t : Table) → Sound t → Legal m t → (k : ℕ)
+    → holdAll (notesOf (entries m)) k (getD (t .globalFromSolver) k 0) ≡ getD (apply m t .globalFromSolver) k 0
 unfolding notesOf giveUser takeUser giveSolver takeSolver putRecord putValue
 hold-move (gives-user g u r) t p l k = lost-none (getD (t .globalFromSolver) k 0)
 hold-move (takes-user g u r) t p l k = lost-none (getD (t .globalFromSolver) k 0)
@@ -133,7 +134,8 @@ hold-move (hides-again g) t p l k = refl
 
 -- ---- along a path
 
-reach-hold : {t t′ : Table} {es : List Entry} → Reach t es t′ → Sound t → (k : ℕ) → holdAll (notesOf es) k (getD (t .globalFromSolver) k 0) ≡ getD (t′ .globalFromSolver) k 0
+reach-hold : {t t′ : Table} {es : List Entry} → Reach t es t′ → Sound t → (k : ℕ)
+    → holdAll (notesOf es) k (getD (t .globalFromSolver) k 0) ≡ getD (t′ .globalFromSolver) k 0
 unfolding notesOf
 reach-hold stop p k = refl
 reach-hold (move {t = t} {es = es} m l r) p k =

@@ -1,21 +1,19 @@
 -- What every call owes a session: if it is refused, the table as it was; if it is accepted, a path of allowed moves of which the ledger
 -- enters what it does, and the bytes of the ledger's clause steps.
-use Prim.Native.Nat.{ℕ, zero, suc, _+_, _-_, _<_, _≤_}
-use mathlib.Core.Path.{_≡_, refl, sym, ap, _∙_}
-use mathlib.Core.Bool.{Bool, true, false, _&&_, _||_, not}
-use mathlib.Core.Logic.{_≢_}
-use mathlib.Core.List.{List, [], _∷_, _++_, map}
+use Prim.Native.Nat.{ℕ, zero, suc, _+_, _<_}
+use mathlib.Core.Path.{_≡_, refl, ap}
+use mathlib.Core.Bool.{Bool, true, _&&_, _||_, not}
+use mathlib.Core.List.{List, [], _∷_, map}
 use native.Mathlib.Omega.{arith}
-use lib.Dec.{eqb, ltb, leb}
+use lib.Dec.{ltb, leb}
 use lib.ListN.{length, getD}
 use borrow.Author.Tests.{eqb-false, leb-false, ltb-false, not-false}
-use Rattle.base.specs.Choice.{pick}
-use Rattle.base.specs.Bounded.{anyOf, keepOf}
-use Rattle.base.specs.Answer.{Answer, accepted, refused}
-use Rattle.base.proofs.MemberLaws.{or-left, or-right}
+use Rattle.base.specs.Bounded.{anyOf}
+use Rattle.base.specs.Answer.{accepted}
+use Rattle.base.proofs.MemberLaws.{or-right}
 use Rattle.drat.specs.Grammar.{Step, stepOf, Codes, Valid, encode}
 use Rattle.drat.specs.declared.Format.{Format}
-use Rattle.drat.specs.declared.Kind.the-variants.{Add, Delete}
+use Rattle.drat.specs.declared.Kind.the-variants.{Add}
 use Rattle.scope.specs.declared.SamplingMode.{SamplingMode}
 use Rattle.scope.specs.declared.SamplingMode.the-variants.{Sample, Witness, Hide}
 use Rattle.scope.specs.declared.Mark.{Mark}
@@ -27,8 +25,8 @@ use Rattle.scope.specs.declared.Simplified.the-variants.{Kept, Dropped, Shorten
 use Rattle.scope.specs.Literals.{indexOf}
 use Rattle.scope.specs.Table.{Table, recordOf, isDeleted}
 use Rattle.scope.specs.Sound.{soundb, Sound}
-use Rattle.scope.specs.Entries.{Entry, noted, hides}
-use Rattle.scope.specs.Outcome.{Result, Outcome, orElse, unless, short, noting, changing, telling, refusal}
+use Rattle.scope.specs.Entries.{noted, hides}
+use Rattle.scope.specs.Outcome.{Outcome, orElse, unless, noting, refusal}
 use Rattle.scope.specs.Lookup.{lookupOf, globalFromUserOf, userFromGlobalOf, solverFromGlobalOf, globalFromSolverOf, recordWordOf, assignmentWordOf}
 use Rattle.scope.specs.Map.{undeleted, toMap, unsampled, mapRefusal, mapOf, newUserRefusal, newUserOf}
 use Rattle.scope.specs.Grant.{grantRefusal, grantOf}
@@ -38,9 +36,9 @@ use Rattle.scope.specs.Modes.{modeNumber, setModeRefusal, setModeOf, observeRef
 use Rattle.scope.specs.Marks.{notHeld, markRefusal, markOf, assignRefusal, assignOf}
 use Rattle.scope.specs.Remove.{removeRefusal, removeOf, sweepRefusal, sweepOf}
 use Rattle.scope.specs.Steps.{ruleOf, literalsOf, written}
-use Rattle.scope.specs.Write.{renameLit, renameLits, holders, unmatched, outside, unheld, stepRefusal, renameRefusal, renameOf, lacked, stepBytes, writeRefusal, writeOf}
+use Rattle.scope.specs.Write.{renameLit, renameLits, holders, unmatched, outside, unheld, stepRefusal, renameOf, stepBytes, writeRefusal, writeOf}
 use Rattle.scope.specs.Simplify.{unfalse, simplified, restOf, simplifySteps, simplifyBytes, simplifyRefusal, simplifiedNumber, simplifyOf}
-use Rattle.scope.specs.Models.{modelRefusal, modelOf}
+use Rattle.scope.specs.Models.{modelOf}
 use Rattle.scope.proofs.SoundLaws.{sound-of}
 use Rattle.scope.proofs.MoveLaws.{Reach, stop}
 use Rattle.scope.proofs.ResultLaws.{past}
@@ -51,7 +49,7 @@ use Rattle.scope.proofs.ModeLaws.{set-mode-reach, observe-reach}
 use Rattle.scope.proofs.MarkLaws.{mark-reach, assign-reach}
 use Rattle.scope.proofs.RemoveLaws.{remove-reach, sweep-reach}
 use Rattle.scope.proofs.WriteLaws.{solver-codes, rename-codes, keep-none, written-valid}
-use Rattle.session.specs.Ledger.{Line, line, entered}
+use Rattle.session.specs.Ledger.{entered}
 use Rattle.session.specs.Calls
 
 -- ---- what is owed
@@ -85,7 +83,8 @@ record Quiet (call : Calls.Call) : Type 0 where
   hides : Calls.hiddenBy call ≡ []
   lines : (vs ws : List ℕ) → Calls.linesOf call vs ws ≡ []
 
-quiet-lawful : (f : Format) (call : Calls.Call) (t : Table) (vs : List ℕ) (o : Outcome) → Quiet call → o .bytes ≡ [] → Reach t (map noted (o .notes)) (o .table) → Lawful f call t vs o
+quiet-lawful : (f : Format) (call : Calls.Call) (t : Table) (vs : List ℕ) (o : Outcome) → Quiet call → o .bytes ≡ []
+    → Reach t (map noted (o .notes)) (o .table) → Lawful f call t vs o
 unfolding Calls.entriesOf encode Valid
 quiet-lawful f call t vs o q b r =
     record {
@@ -114,7 +113,8 @@ new-user-owed f t room = owed f _ t _ _ (λ e.
     let (a, e2) = past (ltb (t .counts .capacity) (undeleted t + 1)) 5 _ (omega arith) e1 in
     accepting refl (quiet-lawful f _ t _ _ (record { hides = refl; lines = λ vs ws. refl }) refl (new-user-reach t p (ltb-false (t .counts .capacity) (undeleted t + 1) a))))
 
-pose-owed : (f : Format) (t : Table) (lits : List ℕ) (sampling : Bool) (outs room : ℕ) → Owed f (Calls.pose lits sampling outs room) t (poseOf t lits sampling outs room)
+pose-owed : (f : Format) (t : Table) (lits : List ℕ) (sampling : Bool) (outs room : ℕ)
+    → Owed f (Calls.pose lits sampling outs room) t (poseOf t lits sampling outs room)
 unfolding poseOf poseRefusal Calls.linesOf
 pose-owed f t lits sampling outs room = owed f _ t _ _ (λ e.
     let (p, e1) = first-sound t _ e in
@@ -196,7 +196,8 @@ set-mode-owed f t g m room = owed f _ t _ _ (λ e.
 -- ---- the writing calls
 
 -- the lines of a step kind, renamed, are the steps that are written
-lines-written : (h : ℕ → ℕ) (solverVars : Bool) (w : Writes) (lits : List ℕ) → map (entered h) (Calls.writeLines w solverVars lits) ≡ written w (renameLits h solverVars lits)
+lines-written : (h : ℕ → ℕ) (solverVars : Bool) (w : Writes) (lits : List ℕ)
+    → map (entered h) (Calls.writeLines w solverVars lits) ≡ written w (renameLits h solverVars lits)
 unfolding renameLits
 lines-written h solverVars adds lits = refl
 lines-written h solverVars AddEach [] = refl

@@ -1,11 +1,10 @@
 -- The function that computes a holder says what document 01's sentence says: the latest S grant of s was to g, and no S(g,-) came later.
-use Prim.Native.Nat.{ℕ, zero, suc, _+_}
-use mathlib.Core.Path.{_≡_, refl, sym, ap, _∙_}
+use Prim.Native.Nat.{ℕ, _+_}
+use mathlib.Core.Path.{_≡_, refl}
 use mathlib.Core.Logic.{_↔_}
-use mathlib.Core.Bool.{Bool, true, false, not, _&&_, _||_, false≢true}
+use mathlib.Core.Bool.{Bool, true, false, not, _&&_, false≢true}
 use mathlib.Core.List.{List, [], _∷_}
 use native.Mathlib.Omega.{arith}
-use lib.Dec.{eqb}
 use borrow.Author.Tests.{eq-eqb, eqb-true}
 use Rattle.base.specs.Choice.{pick}
 use Rattle.base.specs.Bounded.{anyOf}
@@ -28,7 +27,8 @@ computed {s} {g} (older {n = n} {ns = ns} h) = rw (held-granted h) (skip (grants
     skip false q = q
 
 -- a note that grants s is S(globalOf n, s)
-at-grant : (s : ℕ) (n : Note) (ns : List Note) → grants s n ≡ true → anyOf (grants s) ns ≡ false → anyOf (withdraws (globalOf n)) ns ≡ false → Held s (globalOf n) (n ∷ ns)
+at-grant : (s : ℕ) (n : Note) (ns : List Note) → grants s n ≡ true → anyOf (grants s) ns ≡ false → anyOf (withdraws (globalOf n)) ns ≡ false
+    → Held s (globalOf n) (n ∷ ns)
 at-grant s (user+ g u) ns h a b = absurd (false≢true h)
 at-grant s (user- g) ns h a b = absurd (false≢true h)
 at-grant s (solver+ g k) ns h a b = rw (eqb-true k s h) (latest a b)

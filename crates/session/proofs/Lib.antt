@@ -4,3 +4,4 @@ pub mod LedgerLaws
 pub mod AgreeLaws
 pub mod CallLaws
 pub mod SessionLaws
+pub mod OneSession

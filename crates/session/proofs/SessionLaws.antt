@@ -2,32 +2,29 @@
 -- its inverse, a global has a user name exactly when it is undeleted and not hidden, and the joined proof bytes have one reading, the
 -- ledger's steps. Each call keeps an invariant of the session: the table is sound, the entries tell its names, the bytes are the encoding of
 -- the ledger's steps.
-use Prim.Native.Nat.{ℕ, _≤_}
+use Prim.Native.Nat.{ℕ, _+_}
 use mathlib.Core.Path.{_≡_, refl, sym, ap, _∙_, subst}
-use mathlib.Core.Bool.{Bool, true, false, not}
+use mathlib.Core.Logic.{_↔_}
 use mathlib.Core.List.{List, [], _∷_, _++_, map}
-use native.Mathlib.Omega.{arith}
 use lib.ListN.{getD}
-use borrow.Author.Tests.{not-false}
-use Rattle.base.specs.Answer.{Answer, accepted, refused}
-use Rattle.base.proofs.Truth.{truth}
-use Rattle.drat.specs.Grammar.{Step, Spells, Valid, encode}
+use Rattle.base.specs.Answer.{accepted}
+use Rattle.drat.specs.Grammar.{Spells, Valid, encode}
 use Rattle.drat.specs.declared.Format.{Format}
 use Rattle.drat.proofs.Written.{encode-spells}
 use Rattle.drat.proofs.Complete.{one-reading, encode-append}
 use Rattle.drat.proofs.CodesLaws.{valid-append}
 use Rattle.scope.specs.Table.{Table}
-use Rattle.scope.specs.Sound.{sizesb, Sound}
-use Rattle.scope.specs.Notes.{heldBy}
-use Rattle.scope.specs.Entries.{Entry}
-use Rattle.scope.specs.Outcome.{Outcome, orElse, unless, refusal}
-use Rattle.scope.specs.Open.{emptyTable, openOf}
+use Rattle.scope.specs.Sound.{Sound}
+use Rattle.scope.specs.Notes.{Held, heldBy}
+use Rattle.scope.specs.Outcome.{Outcome}
+use Rattle.scope.specs.Open.{openOf}
 use Rattle.scope.specs.Write.{holders}
 use Rattle.scope.proofs.MoveLaws.{reach-sound}
 use Rattle.scope.proofs.OpenLaws.{open-opened, open-sound}
 use Rattle.session.specs.Ledger.{notesOf, entered}
 use Rattle.session.specs.Calls.{Call, perform, entriesOf, linesOf}
 use Rattle.session.specs.Session.{State, start, enter, after, run, Holds}
+use Rattle.session.proofs.HeldLaws.{held-says}
 use Rattle.session.proofs.AgreeLaws.{Agrees, reach-agrees, empty-agrees}
 use Rattle.session.proofs.CallLaws.{Lawful, Owed, refusing, accepting, stepsOf, call-owed}
 
@@ -38,7 +35,8 @@ pub record Invariant (f : Format) (σ : State) : Type 0 where
   pub valid : Valid (σ .steps)
 
 -- an accepted call: its steps under the holders by the notes are its steps under the holders of the table
-accepted-keeps : (f : Format) (σ : State) (call : Call) (vs : List ℕ) (o : Outcome) → Lawful f call (σ .table) vs o → Invariant f σ → Invariant f (enter σ call o (accepted vs))
+accepted-keeps : (f : Format) (σ : State) (call : Call) (vs : List ℕ) (o : Outcome) → Lawful f call (σ .table) vs o → Invariant f σ
+    → Invariant f (enter σ call o (accepted vs))
 unfolding enter
 accepted-keeps f σ call vs o l i =
     let log = σ .log ++ entriesOf call (o .notes) in
@@ -52,7 +50,8 @@ accepted-keeps f σ call vs o l i =
       valid = rw e (valid-append (σ .steps) (stepsOf call vs o) (i .valid) (l .valid));
     }
 
-enter-keeps : (f : Format) (σ : State) (call : Call) (o : Outcome) → Owed f call (σ .table) o → Invariant f σ → Invariant f (enter σ call o (o .answer))
+enter-keeps : (f : Format) (σ : State) (call : Call) (o : Outcome) → Owed f call (σ .table) o → Invariant f σ
+    → Invariant f (enter σ call o (o .answer))
 unfolding enter
 enter-keeps f σ call o refusing i = i
 enter-keeps f σ call o (accepting {vs = vs} e l) i = rw e (accepted-keeps f σ call vs o l i)
@@ -93,5 +92,13 @@ open-start f t vs e =
     }
 
 -- Demand 3: any list of calls after one accepted Open, in one format throughout.
-pub demand3 : (f : Format) (t : Table) (vs : List ℕ) → openOf t .answer ≡ accepted vs → (calls : List Call) → Holds f (run f (start (openOf t .table)) calls)
+pub demand3 : (f : Format) (t : Table) (vs : List ℕ) → openOf t .answer ≡ accepted vs → (calls : List Call)
+    → Holds f (run f (start (openOf t .table)) calls)
 demand3 f t vs e calls = invariant-holds f _ (run-keeps f (start (openOf t .table)) calls (open-start f t vs e))
+
+-- Who holds an index, in document 01's words: the latest S grant of s was to g and no S(g,-) came later, exactly if the table says so.
+pub session-holder : (f : Format) (σ : State) → Holds f σ → (s g : ℕ) → Held s g (notesOf (σ .log)) ↔ (getD (σ .table .globalFromSolver) s 0 ≡ g + 1)
+session-holder f σ h s g =
+    let e = h .holder s in
+    let k = held-says s g (notesOf (σ .log)) in
+    (λ x. sym e ∙ k .0 x, λ x. k .1 (e ∙ x))

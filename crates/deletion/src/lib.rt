@@ -1,0 +1,40 @@
+// Deletion of a global that is used no more.
+use scope::Counts;
+use scope::Global;
+use table::put_note;
+ghost use mathlib.Core.Path.{_≡_};
+ghost use Prim.Native.Nat.{_≤_, _<_};
+ghost use lib.ListN.{length};
+ghost use Rattle.base.specs.Lent.{old, new};
+ghost use Rattle.scope.specs.Contract.{given, before, after};
+ghost use Rattle.scope.specs.Modes.{deleteIfUnused};
+ghost use Rattle.deletion.specs.Leaving.{Leaves, Room, Live};
+
+// A global with neither user nor solver index that is isolated is deleted: D (01, "Set mode"). The place after the note is returned.
+// Definition: crates/scope/specs/Modes.antt, `deleteIfUnused`.
+pub fn delete_global_if_unused(
+    c: Counts,
+    gu: &[u32],
+    ug: &[u32],
+    sg: &[u32],
+    gs: &[u32],
+    assignment: &[u32],
+    records: &mut [u32],
+    global: Global,
+    at: usize,
+    notes: &mut [u32],
+) -> usize
+    requires { ⌜ Live (given c gu ug sg gs assignment records) (global .0) ⌝ }
+    requires { ⌜ Room (deleteIfUnused (global .0) (given c gu ug sg gs assignment records)) at (length (now notes)) ⌝ }
+    ensures { λ r. ⌜ Leaves (deleteIfUnused (global .0) (before c gu ug sg gs assignment records)) at r
+        (after c gu ug sg gs assignment records) (old notes) (new notes) ⌝ }
+{
+    let g = global.0 as usize;
+    let r = records[g];
+    if (ug[g] == 0) & ((sg[g] == 0) & (r / 9 % 2 == 1)) {
+        records[g] = r + 36;
+        put_note(notes, at, 2, global.0, 0);
+        return at + 3;
+    }
+    at
+}

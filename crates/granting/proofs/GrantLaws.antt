@@ -1,0 +1,232 @@
+-- Laws of Grant.
+use Prim.Native.Nat.{ℕ, zero, suc, _+_, _-_, _*_, _/_, _%_, _^_, _≤_, _<_, max}
+use mathlib.Core.Path.{_≡_, refl, sym, ap, _∙_, subst}
+use mathlib.Core.Bool.{Bool, true, false, _&&_, not}
+use mathlib.Core.List.{List, [], _∷_}
+use mathlib.Core.Logic.{⊎-elim}
+use native.Mathlib.Omega.{arith}
+use lib.Dec.{eqb, ltb, leb}
+use lib.ListN.{length, getD, set}
+use lib.Seq.{sets, getD-set-same, getD-set-other}
+use borrow.Author.Tests.{lt-ltb, le-ltb, le-leb, lt-leb, ne-eqb, leb-false, ltb-false, not-false}
+use Rattle.base.specs.Answer.{Answer, accepted, refused, numberOf, valuesOf}
+use Rattle.base.proofs.Truth.{same}
+use Rattle.base.proofs.MemberLaws.{getD-default}
+use Rattle.scope.specs.declared.Counts.{Counts}
+use Rattle.scope.specs.declared.Solver.{Solver}
+use Rattle.scope.specs.Table.{Table, tableOf, word, unitOf, recordOf, isDeleted, coverSolver, giveSolver}
+use Rattle.scope.specs.Sound.{Sound, soundb}
+use Rattle.scope.specs.Notes.{notesWords}
+use Rattle.scope.specs.Outcome.{Result, stay, short, noting}
+use Rattle.scope.specs.Map.{leastFree}
+use Rattle.scope.specs.Grant.{nextSolver, grantOne, grant, grantRefusal, grantOf}
+use Rattle.scope.specs.Contract.{Said, Does}
+use Rattle.scope.proofs.SoundLaws.{sound-of}
+use Rattle.scope.proofs.PairLaws.{free-below, free-most}
+use Rattle.inner.specs.Cursor.{Passed}
+use Rattle.inner.specs.Leaves.{Leaves}
+use Rattle.inner.proofs.CursorLaws.{passed-least}
+use Rattle.inner.proofs.LeavesLaws.{leaves-stay, does-refused, does-noting, no-refusal}
+use Rattle.granting.specs.declared.Granted.{Granted}
+use Rattle.granting.specs.declared.Granted.the-variants.{Done, Refused}
+use Rattle.granting.specs.Grants.{GrantAsks, granted}
+
+-- ---- which case it is
+
+pub grant-new : (t : Table) (g : ℕ) → getD (t .solverFromGlobal) g 0 ≡ 0 → grant g t ≡ grantOne g t
+unfolding grant word
+grant-new t g e = rw e
+
+pub grant-kept : (t : Table) (g s : ℕ) → getD (t .solverFromGlobal) g 0 ≡ s + 1 → grant g t ≡ stay s t
+unfolding grant word
+grant-kept t g s e =
+    let q : getD (t .solverFromGlobal) g 0 ≡ suc s = omega arith in
+    rw q
+
+-- ---- what a fresh grant asks
+
+-- A global without solver index: a solver index is free, and there is room for a note.
+pub record Fresh (t : Table) (g at room : ℕ) : Type 0 where
+  pub sound : Sound t
+  pub below : g < t .counts .capacity
+  pub free : leastFree (t .globalFromSolver) (t .counts .solver) < t .counts .capacity
+  pub words : at + 3 ≤ room
+
+pub fresh-of : (t : Table) (g at room : ℕ) → GrantAsks t g at room → getD (t .solverFromGlobal) g 0 ≡ 0 → Fresh t g at room
+unfolding grantOne
+fresh-of t g at room h e =
+    let s = sound-of t (h .sound) in
+    let z = s .sizes in
+    let f = free-below g (s .solver) (h .below) e in
+    let b = h .below in
+    let w : at + 3 * 1 ≤ room = rw (grant-new t g e) at (h .words) in
+    record { sound = s; below = omega arith; free = omega arith; words = omega arith }
+
+abbrev pub NextAsks : Table → ℕ → ℕ → ℕ → ℕ → Type 0
+NextAsks t g from at room =
+    let s = leastFree (t .globalFromSolver) (t .counts .solver) in
+    (t .counts .solver ≤ length (t .globalFromSolver))
+    × ((Passed (λ i. eqb (getD (t .globalFromSolver) i 0) 0) (t .counts .solver) from)
+    × ((g < length (t .solverFromGlobal))
+    × ((g < 4096)
+    × ((s < length (t .globalFromSolver))
+    × ((s < length (t .assignment))
+    × ((s < 4096)
+    × (at + 3 ≤ room)))))))
+
+pub next-asks : (t : Table) (g from at room : ℕ) → Fresh t g at room → Passed (λ i. eqb (getD (t .globalFromSolver) i 0) 0) (t .counts .solver) from → NextAsks t g from at room
+next-asks t g from at room f p =
+    let z = f .sound .sizes in
+    let a = f .below in
+    let b = f .free in
+    (omega arith, (p, (omega arith, (omega arith, (omega arith, (omega arith, (omega arith, f .words)))))))
+
+-- ---- what it leaves
+
+abbrev pub NextLeft : Table → ℕ → ℕ → ℕ → Solver → Counts → ℕ → ℕ → List ℕ → List ℕ → List ℕ → List ℕ → List ℕ → Type 0
+NextLeft t g unit at solver c from next sg gs a notes noted =
+    let s = leastFree (t .globalFromSolver) (t .counts .solver) in
+    (solver .0 ≡ s)
+    × ((c ≡ coverSolver (t .counts) s)
+    × ((from ≡ s)
+    × ((next ≡ at + 3)
+    × ((sg ≡ set (t .solverFromGlobal) g (s + 1))
+    × ((gs ≡ set (t .globalFromSolver) s (g + 1))
+    × ((a ≡ set (t .assignment) s unit)
+    × (noted ≡ sets notes at (1 ∷ g ∷ (s + 1) ∷ []))))))))
+
+next-leaves : (t : Table) (g unit at : ℕ) (solver : Solver) (c : Counts) (from next : ℕ) (sg gs a notes noted : List ℕ)
+    → unit ≡ unitOf (recordOf t g)
+    → getD (t .solverFromGlobal) g 0 ≡ 0
+    → NextLeft t g unit at solver c from next sg gs a notes noted
+    → Leaves (grant g t) at (solver .0) next (tableOf c (t .globalFromUser) (t .userFromGlobal) sg gs a (t .records)) notes noted
+unfolding grantOne nextSolver giveSolver notesWords
+next-leaves t g unit at solver c from next sg gs a notes noted u e h =
+    rw (grant-new t g e)
+    (record {
+      value = h .0;
+      table = λ i. tableOf (h .1 .0 i) (t .globalFromUser) (t .userFromGlobal) (h .1 .1 .1 .1 .0 i) (h .1 .1 .1 .1 .1 .0 i)
+          ((h .1 .1 .1 .1 .1 .1 .0 ∙ ap (λ (v : ℕ). set (t .assignment) (leastFree (t .globalFromSolver) (t .counts .solver)) v) u) i) (t .records);
+      noted = h .1 .1 .1 .1 .1 .1 .1;
+      moved = let x = h .1 .1 .1 .0 in omega arith;
+    })
+
+-- the cursor goes to the index granted, below which all are taken
+next-passed : (t : Table) (g unit at : ℕ) (solver : Solver) (c : Counts) (from next : ℕ) (sg gs a notes noted : List ℕ)
+    → NextLeft t g unit at solver c from next sg gs a notes noted
+    → Passed (λ i. eqb (getD gs i 0) 0) (c .solver) from
+unfolding leastFree
+next-passed t g unit at solver c from next sg gs a notes noted h =
+    let s = leastFree (t .globalFromSolver) (t .counts .solver) in
+    let m : c .solver ≡ max (t .counts .solver) (s + 1) = ap (λ (d : Counts). d .solver) (h .1 .0) in
+    passed-least (λ i. eqb (getD (t .globalFromSolver) i 0) 0) (λ i. eqb (getD gs i 0) 0) (t .counts .solver) (c .solver) from (h .1 .1 .0) (omega arith)
+    (λ k l n. rw (h .1 .1 .1 .1 .1 .0, getD-set-other (t .globalFromSolver) s k (g + 1) 0 (λ q. omega (arith, h .1 .1 .0))) n)
+
+-- the index held
+pub kept-leaves : (t : Table) (g at s : ℕ) (notes : List ℕ) → getD (t .solverFromGlobal) g 0 ≡ s + 1 → Leaves (grant g t) at s at t notes notes
+kept-leaves t g at s notes e = rw (grant-kept t g s e) (leaves-stay s at t notes)
+
+pub reads-below : (t : Table) (g at room : ℕ) → GrantAsks t g at room → g < length (t .records)
+reads-below t g at room h = let z = sound-of t (h .sound) .sizes in let b = h .below in omega arith
+
+unit-is : (t : Table) (g at room : ℕ) → GrantAsks t g at room → unitOf (getD (t .records) g 0) ≡ unitOf (recordOf t g)
+unit-is t g at room h = ap unitOf (getD-default (t .records) g 0 47 (reads-below t g at room h))
+
+pub next-done : (t : Table) (g at room : ℕ) (solver : Solver) (c : Counts) (from next : ℕ) (sg gs a notes noted : List ℕ)
+    → GrantAsks t g at room
+    → getD (t .solverFromGlobal) g 0 ≡ 0
+    → NextLeft t g (unitOf (getD (t .records) g 0)) at solver c from next sg gs a notes noted
+    → Leaves (grant g t) at (solver .0) next (tableOf c (t .globalFromUser) (t .userFromGlobal) sg gs a (t .records)) notes noted × Passed (λ i. eqb (getD gs i 0) 0) (c .solver) from
+next-done t g at room solver c from next sg gs a notes noted h e n =
+    (next-leaves t g _ at solver c from next sg gs a notes noted (unit-is t g at room h) e n, next-passed t g _ at solver c from next sg gs a notes noted n)
+
+-- ---- refusals
+
+short-is : (t : Table) (g room : ℕ) → short room (grant g t .notes) ≡ eqb (getD (t .solverFromGlobal) g 0) 0 && ltb room 3
+unfolding grant word grantOne
+short-is t g room = go (getD (t .solverFromGlobal) g 0) refl
+  where
+    go : (w : ℕ) → getD (t .solverFromGlobal) g 0 ≡ w → ltb room (3 * length (word (grantOne g t) (λ s. stay s t) w .notes)) ≡ eqb w 0 && ltb room 3
+    go zero e = refl
+    go (suc s) e = rw (ne-eqb (suc s) 0 (λ z. omega arith), le-ltb room 0 (omega arith))
+
+module _ (t : Table) (g room : ℕ) where
+  pub refuse-1 : soundb t ≡ false → 1 ≡ grantRefusal t g room
+  unfolding grantRefusal
+  refuse-1 n = rw n
+
+  module _ (y : soundb t ≡ true) where
+    pub refuse-3 : t .counts .global ≤ g → 3 ≡ grantRefusal t g room
+    unfolding grantRefusal
+    refuse-3 l = rw (y, le-leb (t .counts .global) g l)
+
+    module _ (l : g < t .counts .global) where
+      pub below-records : g < length (t .records)
+      below-records = let z = sound-of t y .sizes in omega arith
+
+      pub below-solvers : g < length (t .solverFromGlobal)
+      below-solvers = let z = sound-of t y .sizes in omega arith
+
+      deleted-is : leb 36 (getD (t .records) g 0) ≡ isDeleted (recordOf t g)
+      deleted-is = ap isDeleted (getD-default (t .records) g 0 47 below-records)
+
+      pub refuse-6 : 36 ≤ getD (t .records) g 0 → 6 ≡ grantRefusal t g room
+      unfolding grantRefusal
+      refuse-6 d = rw (y, lt-leb (t .counts .global) g l, ← deleted-is, le-leb 36 (getD (t .records) g 0) d)
+
+      module _ (d : getD (t .records) g 0 < 36) where
+        pub refuse-2 : eqb (getD (t .solverFromGlobal) g 0) 0 && ltb room 3 ≡ true → 2 ≡ grantRefusal t g room
+        unfolding grantRefusal
+        refuse-2 e = rw (y, lt-leb (t .counts .global) g l, ← deleted-is, lt-leb 36 (getD (t .records) g 0) d, short-is t g room, e)
+
+        pub refuse-0 : eqb (getD (t .solverFromGlobal) g 0) 0 && ltb room 3 ≡ false → 0 ≡ grantRefusal t g room
+        unfolding grantRefusal
+        refuse-0 e = rw (y, lt-leb (t .counts .global) g l, ← deleted-is, lt-leb 36 (getD (t .records) g 0) d, short-is t g room, e)
+
+-- no refusal is what the inner grant asks
+pub asks-of : (t : Table) (g n room : ℕ) → n ≡ grantRefusal t g room → n ≡ 0 → GrantAsks t g 0 room
+unfolding grantRefusal
+asks-of t g n room q e =
+    let a = no-refusal (not (soundb t)) 1 _ (λ z. omega arith) (sym q ∙ e) in
+    let b = no-refusal (leb (t .counts .global) g) 3 _ (λ z. omega arith) (a .1) in
+    let d = no-refusal (isDeleted (recordOf t g)) 6 _ (λ z. omega arith) (b .1) in
+    let f = no-refusal (short room (grant g t .notes)) 2 0 (λ z. omega arith) (d .1) in
+    record {
+      sound = not-false (soundb t) (a .0);
+      below = leb-false (t .counts .global) g (b .0);
+      alive = leb-false 36 (recordOf t g) (d .0);
+      words = let w = ltb-false room (3 * length (grant g t .notes)) (f .0) in omega arith;
+    }
+
+notes-few : (t : Table) (g : ℕ) → length (grant g t .notes) ≤ 1
+unfolding grant word grantOne
+notes-few t g = go (getD (t .solverFromGlobal) g 0)
+  where
+    go : (w : ℕ) → length (word (grantOne g t) (λ s. stay s t) w .notes) ≤ 1
+    go zero = omega arith
+    go (suc s) = omega arith
+
+-- the count of notes fits a word
+pub count-small : (t : Table) (g v at : ℕ) (left : Table) (words words' : List ℕ) → Leaves (grant g t) 0 v at left words words' → at / 3 < 2 ^ 32
+count-small t g v at left words words' h = let x = notes-few t g in let y = h .moved in omega arith
+
+-- ---- the call
+
+pub grant-refused : (t : Table) (g n : ℕ) (words : List ℕ) → n ≡ grantRefusal t g (length words) → (n ≡ 0 → ⊥) → Does (grantOf t g (length words)) (granted (Refused n) (t .counts)) t words words
+unfolding grantOf
+grant-refused t g n words q e = rw (← q) (does-refused n t _ words e)
+
+pub grant-done : (t : Table) (g n at : ℕ) (s : Solver) (left : Table) (words words' : List ℕ) → n ≡ grantRefusal t g (length words) → n ≡ 0
+    → Leaves (grant g t) 0 (s .0) at left words words'
+    → Does (grantOf t g (length words)) (granted (Done s (left .counts) (at / 3)) (t .counts)) left words words'
+unfolding grantOf
+grant-done t g n at s left words words' q e h = rw (← q) (does-noting (λ s. s ∷ []) n t (grant g t) (s .0) at left words words' e h)
+
+-- The number and the values tell the answer.
+pub granted-one : (x y : Granted) (c : Counts) → granted x c ≡ granted y c → x ≡ y
+granted-one (Done s d n) (Done s' d' n') c e =
+    let v = ap (λ (k : Said). valuesOf (k .answer)) e in
+    λ i. Done (record { 0 = getD (v i) 0 0 }) (e i .counts) (getD (v i) 1 0)
+granted-one (Done s d n) (Refused m) c e = let z = ap (λ (k : Said). length (valuesOf (k .answer))) e in absurd (omega arith)
+granted-one (Refused n) (Done s d m) c e = let z = ap (λ (k : Said). length (valuesOf (k .answer))) e in absurd (omega arith)
+granted-one (Refused n) (Refused m) c e = λ i. Refused (numberOf (e i .answer))

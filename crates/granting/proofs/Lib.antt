@@ -1,0 +1,2 @@
+pub mod FoundLaws
+pub mod GrantLaws

@@ -1,0 +1,74 @@
+use Rattle.granting.proofs.GrantLaws.{grant-refused, asks-of, count-small, grant-done}
+use Rattle.inner.proofs.CursorLaws.{passed-none}
+use borrow.Author.Needs.{needs}
+use Rattle.granting.proofs.solver_from_global.Statement.{statement}
+use Rattle.granting.proofs.solver_from_global.Tie as tie
+use Rattle.granting.proofs.solver_from_global.Reads as reads
+use Rattle.granting.proofs.solver_from_global.Lts as lts
+use Rattle.granting.proofs.grant_index.Reads as grant-index-reads
+use Rattle.granting.proofs.grant_refusal.Reads as grant-refusal-reads
+
+-- src/lib.rt:161:9
+grant-refusal-requires : tie.Need-grant-refusal-requires
+grant-refusal-requires c κs = search needs
+
+-- src/lib.rt:173:9
+same-length : tie.Need-same-length
+same-length c = search needs
+
+-- src/lib.rt:173:9
+same-length-2 : tie.Need-same-length-2
+same-length-2 c = search needs
+
+-- src/lib.rt:173:9
+same-length-3 : tie.Need-same-length-3
+same-length-3 c = search needs
+
+-- src/lib.rt:173:9
+returns : tie.Need-returns
+returns c = grant-refused _ _ _ _ (c .before .grant-refusal .ensures) (c .if1 .taken)
+
+-- src/lib.rt:175:9
+grant-index-requires : tie.Need-grant-index-requires
+grant-index-requires c κs = (asks-of _ _ _ _ (c .before .before .before .before .before .grant-refusal .ensures) (c .before .before .before .before .if1 .left), passed-none _ _)
+
+-- src/lib.rt:180:35
+cast-t30 : tie.Need-cast-t30
+cast-t30 c = record { fits = count-small _ _ _ _ _ _ _ (c .before .before .before .before .before .before .before .before .before .before .before .grant-index .ensures .0) }
+
+-- src/lib.rt:147:1
+same-length-4 : tie.Need-same-length-4
+same-length-4 c = search needs
+
+-- src/lib.rt:147:1
+same-length-5 : tie.Need-same-length-5
+same-length-5 c = search needs
+
+-- src/lib.rt:147:1
+same-length-6 : tie.Need-same-length-6
+same-length-6 c = search needs
+
+-- src/lib.rt:147:1
+same-length-7 : tie.Need-same-length-7
+same-length-7 c = search needs
+
+-- src/lib.rt:147:1
+returns-2 : tie.Need-returns-2
+returns-2 c = grant-done _ _ _ _ _ _ _ _ (c .before .before .before .before .before .before .before .before .before .before .before .before .before .before .before .before .before .grant-refusal .ensures) (c .before .before .before .before .before .before .before .before .before .before .before .before .before .before .before .before .if1 .left) (c .before .before .before .before .before .before .before .before .before .before .before .grant-index .ensures .0)
+
+pub solver-from-global-spec : {M : Type 1} → statement M
+solver-from-global-spec =
+    tie.close
+    (tie.spec
+    grant-refusal-requires
+    same-length
+    same-length-2
+    same-length-3
+    returns
+    grant-index-requires
+    cast-t30
+    same-length-4
+    same-length-5
+    same-length-6
+    same-length-7
+    returns-2)

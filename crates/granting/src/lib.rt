@@ -1,0 +1,169 @@
+// Grant. How the contracts read: crates/scope/specs/Contract.antt.
+use inner::least_free;
+use scope::Counts;
+use scope::Global;
+use scope::Solver;
+use table::FoundSolver;
+use table::is_sound;
+use table::put_note;
+use table::solver_of;
+ghost use mathlib.Core.Path.{_≡_};
+ghost use mathlib.Core.Bool.{true};
+ghost use mathlib.Core.List.{_∷_, []};
+ghost use Prim.Native.Nat.{_+_, _≤_, _<_};
+ghost use lib.Dec.{eqb};
+ghost use lib.ListN.{length, getD, set};
+ghost use Rattle.base.specs.Lent.{old, new, Fills};
+ghost use Rattle.scope.specs.Contract.{given, before, after, lent, Meets};
+ghost use Rattle.scope.specs.Table.{coverSolver};
+ghost use Rattle.scope.specs.Map.{leastFree};
+ghost use Rattle.scope.specs.Grant.{grant, grantRefusal, grantOf};
+ghost use Rattle.inner.specs.Cursor.{Passed};
+ghost use Rattle.inner.specs.Leaves.{Leaves};
+ghost use Rattle.granting.specs.Grants.{GrantAsks, granted};
+
+// A global's solver index, with the counts, the cursor of free solver indices and the place in the notes after it.
+pub struct Held {
+    pub counts: Counts,
+    pub solver: Solver,
+    pub from: u32,
+    pub at: usize,
+}
+
+// The answer: the solver index, the counts and how many notes were written.
+pub enum Granted {
+    Done(Solver, Counts, u32),
+    Refused(u32),
+}
+
+// The least free solver index goes to a global that has none; its assignment becomes the unit; note S.
+fn grant_next(
+    c: Counts,
+    sg: &mut [u32],
+    gs: &mut [u32],
+    assignment: &mut [u32],
+    global: Global,
+    unit: u32,
+    from: u32,
+    at: usize,
+    notes: &mut [u32],
+) -> Held
+    requires { ⌜ c .solver ≤ length (now gs) ⌝ }
+    requires { ⌜ Passed (λ i. eqb (getD (now gs) i 0) 0) (c .solver) from ⌝ }
+    requires { ⌜ global .0 < length (now sg) ⌝ }
+    requires { ⌜ global .0 < 4096 ⌝ }
+    requires { let s = leastFree (now gs) (c .solver) in
+        ⌜ s < length (now gs) ⌝ ∗ ⌜ s < length (now assignment) ⌝ ∗ ⌜ s < 4096 ⌝ }
+    requires { ⌜ at + 3 ≤ length (now notes) ⌝ }
+    ensures { λ r. let s = leastFree (old gs) (c .solver) in
+        ⌜ r .solver .0 ≡ s ⌝
+        ∗ ⌜ r .counts ≡ coverSolver c s ⌝
+        ∗ ⌜ r .from ≡ s ⌝
+        ∗ ⌜ r .at ≡ at + 3 ⌝ }
+    ensures { λ _. let s = leastFree (old gs) (c .solver) in
+        ⌜ new sg ≡ set (old sg) (global .0) (s + 1) ⌝
+        ∗ ⌜ new gs ≡ set (old gs) s (global .0 + 1) ⌝
+        ∗ ⌜ new assignment ≡ set (old assignment) s unit ⌝
+        ∗ ⌜ Fills notes at (1 ∷ global .0 ∷ (s + 1) ∷ []) ⌝ }
+{
+    let s = least_free(gs, c.solver, from);
+    let solver = Solver(s);
+    let next = at + 3;
+    assignment[s as usize] = unit;
+    put_note(notes, at, 1, global.0, s + 1);
+    let counts = c.grant(sg, gs, global, solver);
+    Held {
+        counts,
+        solver,
+        from: s,
+        at: next,
+    }
+}
+
+// The solver index of an undeleted global of a sound table: the one held, else the least free one, searched from the cursor on.
+pub fn grant_index(
+    c: Counts,
+    gu: &[u32],
+    ug: &[u32],
+    sg: &mut [u32],
+    gs: &mut [u32],
+    assignment: &mut [u32],
+    records: &[u32],
+    global: Global,
+    from: u32,
+    at: usize,
+    notes: &mut [u32],
+) -> Held
+    requires { ⌜ GrantAsks (given c gu ug sg gs assignment records) (global .0) at (length (now notes)) ⌝ }
+    requires { ⌜ Passed (λ i. eqb (getD (now gs) i 0) 0) (c .solver) from ⌝ }
+    ensures { λ r. ⌜ Leaves (grant (global .0) (before c gu ug sg gs assignment records)) at (r .solver .0) (r .at)
+        (after (r .counts) gu ug sg gs assignment records) (old notes) (new notes) ⌝ }
+    ensures { λ r. ⌜ Passed (λ i. eqb (getD (new gs) i 0) 0) (r .counts .solver) (r .from) ⌝ }
+{
+    let FoundSolver::At(solver) = solver_of(sg, global) else {
+        let unit = records[global.0 as usize] / 3 % 3;
+        return grant_next(c, sg, gs, assignment, global, unit, from, at, notes);
+    };
+    Held {
+        counts: c,
+        solver,
+        from,
+        at,
+    }
+}
+
+// The first refusal of Grant that applies, 0 for none.
+fn grant_refusal(
+    c: Counts,
+    gu: &[u32],
+    ug: &[u32],
+    sg: &[u32],
+    gs: &[u32],
+    assignment: &[u32],
+    records: &[u32],
+    global: Global,
+    room: usize,
+) -> u32
+    ensures { λ r. ⌜ r ≡ grantRefusal (before c gu ug sg gs assignment records) (global .0) room ⌝ }
+{
+    if !is_sound(c, gu, ug, sg, gs, assignment, records) {
+        return 1;
+    }
+    if c.global <= global.0 {
+        return 3;
+    }
+    let g = global.0 as usize;
+    if 36 <= records[g] {
+        return 6;
+    }
+    if (sg[g] == 0) & (room < 3) {
+        return 2;
+    }
+    0
+}
+
+// Grant (01, `solver_from_global`; refusals 1, 3, 6, 2): the index held, else the least unmapped solver index.
+// Definition: crates/scope/specs/Grant.antt, `grantOf`; its answer: specs/Grants.antt, `granted`.
+pub fn solver_from_global(
+    c: Counts,
+    gu: &[u32],
+    ug: &[u32],
+    sg: &mut [u32],
+    gs: &mut [u32],
+    assignment: &mut [u32],
+    records: &[u32],
+    global: Global,
+    notes: &mut [u32],
+) -> Granted
+    ensures { λ r. ⌜ Meets (λ t room. grantOf t (global .0) room) (granted r c)
+        (lent c gu ug sg gs assignment records notes) ⌝ }
+{
+    let n = grant_refusal(c, gu, ug, sg, gs, assignment, records, global, notes.len());
+    if n != 0 {
+        return Granted::Refused(n);
+    }
+    let h = grant_index(c, gu, ug, sg, gs, assignment, records, global, 0, 0, notes);
+    let solver = h.solver;
+    let counts = h.counts;
+    Granted::Done(solver, counts, (h.at / 3) as u32)
+}

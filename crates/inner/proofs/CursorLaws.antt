@@ -1,0 +1,54 @@
+-- Laws of the cursor.
+use Prim.Native.Nat.{ℕ, _+_, _≤_, _<_, max}
+use mathlib.Core.Path.{_≡_, refl, sym, ap, _∙_, subst}
+use mathlib.Core.Bool.{Bool, true, false}
+use mathlib.Core.List.{List}
+use mathlib.Core.Logic.{⊎-elim}
+use native.Mathlib.Omega.{arith}
+use lib.Dec.{eqb, leb}
+use lib.ListN.{length, getD}
+use borrow.Author.Tests.{eq-eqb, ne-eqb, le-leb, lt-leb}
+use Rattle.base.specs.Bounded.{least}
+use Rattle.base.proofs.LeastLaws.{least-is, least-has}
+use Rattle.scope.specs.Map.{leastFree}
+use Rattle.inner.specs.Cursor.{Passed}
+
+-- a search starts at 0
+pub passed-none : (free : ℕ → Bool) (mark : ℕ) → Passed free mark 0
+passed-none free mark = record { within = omega arith; below = λ k l. absurd (omega arith) }
+
+-- and goes on
+pub passed-more : (free : ℕ → Bool) (mark from : ℕ) → from < mark → Passed free mark from → free from ≡ false → Passed free mark (from + 1)
+passed-more free mark from l h n =
+    record {
+      within = omega arith;
+      below = λ k m. ⊎-elim
+          (λ (e : k ≡ from). rw e n)
+          (λ (e : k ≡ from → ⊥). h .below k (omega arith))
+          (Rattle.base.proofs.Truth.same k from);
+    }
+
+-- up to what is free, or to the mark
+pub passed-found : (free : ℕ → Bool) (mark from : ℕ) → Passed free mark from → free from ≡ true → from ≡ least mark free
+passed-found free mark from h e = sym (least-is mark free from (h .within) (h .below) (λ l. e))
+
+pub passed-end : (free : ℕ → Bool) (mark from : ℕ) → Passed free mark from → mark ≤ from → from ≡ least mark free
+passed-end free mark from h l = sym (least-is mark free from (h .within) (h .below) (λ k. absurd (omega arith)))
+
+-- the cursor goes to what was found, where nothing below it became free
+pub passed-least : (free free′ : ℕ → Bool) (mark mark′ s : ℕ) → s ≡ least mark free → mark ≤ mark′ → ((k : ℕ) → k < s → free k ≡ false → free′ k ≡ false) → Passed free′ mark′ s
+passed-least free free′ mark mark′ s e m h =
+    let w = least-has mark free in
+    record { within = omega (arith, w .within); below = λ k l. h k l (w .before k (omega arith)) }
+
+pub passed-kept : (free free′ : ℕ → Bool) (mark mark′ s : ℕ) → Passed free mark s → mark ≤ mark′ → ((k : ℕ) → k < s → free k ≡ false → free′ k ≡ false) → Passed free′ mark′ s
+passed-kept free free′ mark mark′ s p m h = record { within = omega (arith, p .within); below = λ k l. h k l (p .below k l) }
+
+-- the least free index of a map
+pub free-found : (xs : List ℕ) (mark i : ℕ) → Passed (λ k. eqb (getD xs k 0) 0) mark i → getD xs i 0 ≡ 0 → i ≡ leastFree xs mark
+unfolding leastFree
+free-found xs mark i h z = passed-found (λ k. eqb (getD xs k 0) 0) mark i h (eq-eqb _ 0 z)
+
+pub free-end : (xs : List ℕ) (mark i : ℕ) → Passed (λ k. eqb (getD xs k 0) 0) mark i → mark ≤ i → i ≡ leastFree xs mark
+unfolding leastFree
+free-end xs mark i h l = passed-end (λ k. eqb (getD xs k 0) 0) mark i h l

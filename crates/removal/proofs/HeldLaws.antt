@@ -1,0 +1,25 @@
+-- What is known of a held solver index of a sound table.
+use Prim.Native.Nat.{ℕ, _+_, _≤_, _<_}
+use mathlib.Core.Path.{_≡_}
+use native.Mathlib.Omega.{arith}
+use lib.ListN.{length, getD}
+use Rattle.scope.specs.Table.{Table}
+use Rattle.scope.specs.Sound.{Sound}
+use Rattle.scope.proofs.PairLaws.{below-mark}
+use Rattle.scope.proofs.MoveLaws.{undeleted-below}
+use Rattle.scope.proofs.RemoveLaws.{held-undeleted}
+use Rattle.deletion.specs.Leaving.{Live}
+use Rattle.removal.specs.Asks.{Holding, Sweepable}
+
+pub holding-of : (t : Table) → Sound t → (s : ℕ) → Sweepable t s
+holding-of t h s g e =
+    let z = h .sizes in
+    let u = held-undeleted t g s h e in
+    let k = undeleted-below t g h u in
+    let l = below-mark s g (h .solver) e in
+    record {
+      live = record { user = omega arith; solver = omega arith; words = omega arith; small = omega arith; undeleted = u };
+      solver = omega arith;
+      value = omega arith;
+      small = h .values .small s;
+    }

@@ -1,0 +1,126 @@
+-- The removal of a held solver index: S(g,-), then D if unused.
+use Prim.Native.Nat.{ℕ, zero, suc, _+_, _*_, _/_, _≤_, _<_, _^_}
+use mathlib.Core.Path.{_≡_, refl, sym, ap, _∙_, subst}
+use mathlib.Core.Bool.{Bool, true, false, not}
+use mathlib.Core.List.{List, [], _∷_, _++_}
+use native.Mathlib.Omega.{arith}
+use lib.Dec.{eqb, ltb}
+use lib.ListN.{length, getD, set, length-set, length-append}
+use lib.Seq.{sets, length-sets}
+use borrow.Author.Tests.{eqb-false, ltb-false, not-false}
+use Rattle.base.specs.Choice.{pick}
+use Rattle.scope.specs.declared.Counts.{Counts}
+use Rattle.scope.specs.declared.Global.{Global}
+use Rattle.scope.specs.Table.{Table, tableOf, recordOf, takeSolver}
+use Rattle.scope.specs.Sound.{soundb}
+use Rattle.scope.specs.Notes.{solver-, notesWords}
+use Rattle.scope.specs.Outcome.{Result, joined, noting}
+use Rattle.scope.specs.Modes.{deleteIfUnused}
+use Rattle.scope.specs.Marks.{notHeld}
+use Rattle.scope.specs.Remove.{removeHeld, remove, removeRefusal, removeOf}
+use Rattle.scope.specs.Contract.{Said, Does}
+use Rattle.base.specs.Answer.{accepted}
+use Rattle.table.specs.Found.{foundGlobal}
+use Rattle.table.specs.declared.FoundGlobal.{FoundGlobal}
+use Rattle.table.specs.declared.FoundGlobal.the-variants.{At, Nothing}
+use Rattle.scope.proofs.ResultLaws.{past}
+use Rattle.deletion.specs.Leaving.{Leaves, Room, Live}
+use Rattle.deletion.proofs.LeavingLaws.{leaves-then}
+use Rattle.deletion.proofs.CallLaws.{call-refused, call-accepted, call-noted}
+use Rattle.removal.specs.Counting.{removalNotes}
+use Rattle.removal.specs.Asks.{Holding}
+use Rattle.removal.specs.declared.Removed.{Removed}
+use Rattle.removal.specs.declared.Removed.the-variants.{Done, Refused}
+use Rattle.removal.specs.Answers.{removed}
+use Rattle.removal.proofs.CountingLaws.{removal-notes, removal-few}
+use Rattle.removal.proofs.RefusalLaws.{found-nothing, remove-is, remove-holding}
+
+-- S(g,-) alone
+abbrev taken : ℕ → ℕ → Table → Result (List ℕ)
+taken g s t = record { value = []; table = takeSolver g s t; notes = solver- g ∷ [] }
+
+module _ (t : Table) (g s : ℕ) (d : Counts) (sg gs : List ℕ) (e : (d ≡ t .counts) × ((sg ≡ set (t .solverFromGlobal) g 0) × (gs ≡ set (t .globalFromSolver) s 0))) where
+  mid : Table
+  mid = tableOf d (t .globalFromUser) (t .userFromGlobal) sg gs (t .assignment) (t .records)
+
+  mid-is : mid ≡ takeSolver g s t
+  unfolding mid takeSolver
+  mid-is =
+      λ i. tableOf (e .0 i) (t .globalFromUser) (t .userFromGlobal) (e .1 .0 i) (e .1 .1 i) (t .assignment) (t .records)
+
+  taken-leaves : (at : ℕ) (words words2 : List ℕ) → words2 ≡ sets words at (1 ∷ g ∷ 0 ∷ []) → Leaves (taken g s t) at (at + 3) mid words words2
+  unfolding notesWords
+  taken-leaves at words words2 q = record { table = mid-is; noted = q; moved = omega arith }
+
+  pub remove-leaves : (at next : ℕ) (left : Table) (words words2 words3 : List ℕ) → words2 ≡ sets words at (1 ∷ g ∷ 0 ∷ [])
+      → Leaves (deleteIfUnused g (tableOf d (t .globalFromUser) (t .userFromGlobal) sg gs (t .assignment) (t .records))) (at + 3) next left words2 words3
+      → Leaves (removeHeld g s t) at next left words words3
+  unfolding removeHeld mid
+  remove-leaves at next left words words2 words3 q k = leaves-then (deleteIfUnused g) (taken-leaves at words words2 q) k
+
+  pub remove-asks : (at room room2 : ℕ) → Holding t g s → Room (removeHeld g s t) at room → room2 ≡ room
+      → Live (tableOf d (t .globalFromUser) (t .userFromGlobal) sg gs (t .assignment) (t .records)) g
+      × Room (deleteIfUnused g (tableOf d (t .globalFromUser) (t .userFromGlobal) sg gs (t .assignment) (t .records))) (at + 3) room2
+  unfolding removeHeld mid
+  remove-asks at room room2 h r q = (live, subst (λ (u : Table). Room (deleteIfUnused g u) (at + 3) room2) (sym mid-is) words)
+    where
+      live : Live mid g
+      live =
+          let l = h .live in
+          let x : length sg ≡ length (t .solverFromGlobal) = ap length (e .1 .0) ∙ length-set (t .solverFromGlobal) g 0 in
+          record { user = l .user; solver = omega arith; words = l .words; small = l .small; undeleted = l .undeleted }
+
+      words : Room (deleteIfUnused g (takeSolver g s t)) (at + 3) room2
+      words = let a = r .words in record { words = omega arith }
+
+-- there is room for S(g,-)
+pub remove-room : (t : Table) (g s at room : ℕ) → Room (removeHeld g s t) at room → at + 3 ≤ room
+unfolding removeHeld
+remove-room t g s at room r = let a = r .words in omega arith
+
+-- ---- the call
+
+-- what an accepted call knows
+pub record Removable (t : Table) (s room : ℕ) : Type 0 where
+  pub sound : soundb t ≡ true
+  pub held : getD (t .globalFromSolver) s 0 ≡ 0 → ⊥
+  pub words : 3 * length (remove s t .notes) ≤ room
+
+pub removable : (t : Table) (s room n : ℕ) → n ≡ removeRefusal t s room → n ≡ 0 → Removable t s room
+unfolding removeRefusal notHeld
+removable t s room n e z =
+    let a = past (not (soundb t)) 1 _ (omega arith) (sym e ∙ z) in
+    let b = past (eqb (getD (t .globalFromSolver) s 0) 0) 8 _ (omega arith) (a .1) in
+    let k = past (ltb room (3 * length (remove s t .notes))) 2 0 (omega arith) (b .1) in
+    record { sound = not-false (soundb t) (a .0); held = eqb-false _ _ (b .0); words = ltb-false _ _ (k .0) }
+
+module _ (t : Table) (s room : ℕ) (h : Removable t s room) where
+  -- nothing found is no case of it
+  pub never-nothing : Nothing ≡ foundGlobal (getD (t .globalFromSolver) s 0) → ⊥
+  never-nothing e = h .held (found-nothing _ e)
+
+  module _ (g : Global) (e : At g ≡ foundGlobal (getD (t .globalFromSolver) s 0)) where
+    pub held-asks : Holding t (g .0) s × Room (removeHeld (g .0) s t) 0 room
+    held-asks =
+        (remove-holding t s g e (h .sound), subst (λ (x : Result (List ℕ)). Room x 0 room) (remove-is t s g e) (let w = h .words in record { words = omega arith }))
+
+    -- its notes are at most two
+    pub held-fits : (next : ℕ) (left : Table) (words words2 : List ℕ) → Leaves (removeHeld (g .0) s t) 0 next left words words2 → next / 3 < 2 ^ 32
+    held-fits next left words words2 k =
+        let m = k .moved in
+        let n = removal-notes (g .0) s t in
+        let b = removal-few (getD (t .userFromGlobal) (g .0) 0) (recordOf t (g .0)) in
+        omega arith
+
+    held-leaves : (next : ℕ) (left : Table) (words words2 : List ℕ) → Leaves (removeHeld (g .0) s t) 0 next left words words2 → Leaves (remove s t) 0 next left words words2
+    held-leaves next left words words2 k = subst (λ (x : Result (List ℕ)). Leaves x 0 next left words words2) (sym (remove-is t s g e)) k
+
+    pub remove-does : (n next : ℕ) (d : Counts) (left : Table) (words words2 : List ℕ) → n ≡ removeRefusal t s room → n ≡ 0 → Leaves (removeHeld (g .0) s t) 0 next left words words2
+        → Does (removeOf t s room) (removed (Done d (next / 3)) d) left words words2
+    unfolding removeOf
+    remove-does n next d left words words2 p q k =
+        call-accepted (removeRefusal t s room) n t _ _ left words words2 p q (call-noted (λ us. []) [] (remove s t) next d left words words2 (held-leaves next left words words2 k) refl)
+
+pub remove-refused : (t : Table) (s n : ℕ) (words : List ℕ) → n ≡ removeRefusal t s (length words) → (n ≡ 0 → ⊥) → Does (removeOf t s (length words)) (removed (Refused n) (t .counts)) t words words
+unfolding removeOf
+remove-refused t s n words e z = call-refused (removeRefusal t s (length words)) n t _ words e z

@@ -1,0 +1,115 @@
+-- The loop of a sweep, and the call.
+use Prim.Native.Nat.{ℕ, zero, suc, _+_, _*_, _/_, _≤_, _<_, _^_}
+use mathlib.Core.Path.{_≡_, refl, sym, ap, _∙_, subst}
+use mathlib.Core.Bool.{Bool, true, false, not}
+use mathlib.Core.List.{List, []}
+use native.Mathlib.Omega.{arith}
+use lib.Dec.{ltb}
+use lib.ListN.{length}
+use borrow.Author.Tests.{ltb-false, not-false, lt-ltb, le-ltb}
+use Rattle.scope.specs.declared.Counts.{Counts}
+use Rattle.scope.specs.Table.{Table}
+use Rattle.scope.specs.Sound.{soundb}
+use Rattle.scope.specs.Outcome.{Result, each}
+use Rattle.scope.specs.Remove.{sweepOne, sweep, sweepRefusal, sweepOf}
+use Rattle.scope.specs.Contract.{Said, Does}
+use Rattle.scope.proofs.SoundLaws.{sound-of}
+use Rattle.scope.proofs.ResultLaws.{past}
+use Rattle.scope.proofs.RemoveLaws.{sweep-passed}
+use Rattle.deletion.specs.Leaving.{Leaves, Room}
+use Rattle.deletion.proofs.LeavingLaws.{leaves-length, turns-none, turns-more, turns-room}
+use Rattle.deletion.proofs.CallLaws.{call-refused, call-accepted, call-noted}
+use Rattle.removal.specs.Asks.{Sweepable}
+use Rattle.removal.specs.declared.Removed.{Removed}
+use Rattle.removal.specs.declared.Removed.the-variants.{Done, Refused}
+use Rattle.removal.specs.Answers.{removed}
+use Rattle.removal.proofs.SweepLaws.{sweep-few}
+use Rattle.removal.proofs.HeldLaws.{holding-of}
+
+-- ---- the loop
+
+pub sweep-start : (t : Table) (words : List ℕ) → Leaves (each 0 sweepOne t) 0 0 t words words
+sweep-start t words = turns-none sweepOne t words
+
+pub sweep-turn : (t : Table) (s at next : ℕ) (left left2 : Table) (words words2 words3 : List ℕ)
+    → Leaves (each s sweepOne t) 0 at left words words2 → Leaves (sweepOne s left) at next left2 words2 words3
+    → Leaves (each (s + 1) sweepOne t) 0 next left2 words words3
+sweep-turn t s at next left left2 words words2 words3 h k = turns-more s sweepOne t at next left left2 words words2 words3 h k
+
+pub sweep-end : (t : Table) (s at : ℕ) (left : Table) (words words2 : List ℕ) → s ≡ t .counts .solver
+    → Leaves (each s sweepOne t) 0 at left words words2 → Leaves (sweep t) 0 at left words words2
+unfolding sweep
+sweep-end t s at left words words2 e h = subst (λ (i : ℕ). Leaves (each i sweepOne t) 0 at left words words2) e h
+
+-- the lengths are as they were
+pub record SameSizes (t left : Table) (words words2 : List ℕ) : Type 0 where
+  pub solvers : length (left .solverFromGlobal) ≡ length (t .solverFromGlobal)
+  pub holders : length (left .globalFromSolver) ≡ length (t .globalFromSolver)
+  pub records : length (left .records) ≡ length (t .records)
+  pub notes : length words2 ≡ length words
+
+module _ (t : Table) (y : soundb t ≡ true) (s at : ℕ) (left : Table) (words words2 : List ℕ) (h : Leaves (each s sweepOne t) 0 at left words words2) where
+  pub sweep-asks : (room : ℕ) → s < t .counts .solver → Room (sweep t) 0 room → room ≡ length words → Sweepable left s × Room (sweepOne s left) at (length words2)
+  unfolding sweep
+  sweep-asks room l r e = (
+    subst (λ (u : Table). Sweepable u s) (sym (h .table)) (holding-of (each s sweepOne t .table) (sweep-passed t (sound-of t y) s .sound) s),
+    turns-room s (t .counts .solver) sweepOne t at left words words2 (subst (λ (n : ℕ). Room (each (t .counts .solver) sweepOne t) 0 n) e r) l h,
+  )
+
+  pub sweep-sizes : SameSizes t left words words2
+  sweep-sizes =
+      let a = sweep-passed t (sound-of t y) s in
+      let z = sound-of t y .sizes in
+      let x = a .sound .sizes in
+      let c = ap (λ (d : Counts). d .capacity) (a .counts) in
+      let sizes : (length (each s sweepOne t .table .solverFromGlobal) ≡ length (t .solverFromGlobal)) × (length (each s sweepOne t .table .globalFromSolver) ≡ length (t .globalFromSolver)) × (length (each s sweepOne t .table .records) ≡ length (t .records)) = omega arith in
+      record {
+        solvers = ap (λ (u : Table). length (u .solverFromGlobal)) (h .table) ∙ sizes .0;
+        holders = ap (λ (u : Table). length (u .globalFromSolver)) (h .table) ∙ sizes .1;
+        records = ap (λ (u : Table). length (u .records)) (h .table) ∙ sizes .2;
+        notes = leaves-length (each s sweepOne t) 0 at left words words2 h;
+      }
+
+-- ---- the call
+
+module _ (t : Table) (room : ℕ) where
+  pub sweep-1 : soundb t ≡ false → 1 ≡ sweepRefusal t room
+  unfolding sweepRefusal
+  sweep-1 n = rw n
+
+  module _ (y : soundb t ≡ true) (n : ℕ) (e : n ≡ length (sweep t .notes)) where
+    pub sweep-2 : room < 3 * n → 2 ≡ sweepRefusal t room
+    unfolding sweepRefusal
+    sweep-2 l = rw (y, lt-ltb room (3 * length (sweep t .notes)) (omega arith))
+
+    pub sweep-0 : 3 * n ≤ room → 0 ≡ sweepRefusal t room
+    unfolding sweepRefusal
+    sweep-0 l = rw (y, le-ltb room (3 * length (sweep t .notes)) (omega arith))
+
+pub sweep-refused : (t : Table) (n : ℕ) (words : List ℕ) → n ≡ sweepRefusal t (length words) → (n ≡ 0 → ⊥) → Does (sweepOf t (length words)) (removed (Refused n) (t .counts)) t words words
+unfolding sweepOf
+sweep-refused t n words e z = call-refused (sweepRefusal t (length words)) n t _ words e z
+
+module _ (t : Table) (room n : ℕ) (e : n ≡ sweepRefusal t room) (z : n ≡ 0) where
+  passed : (soundb t ≡ true) × (3 * length (sweep t .notes) ≤ room)
+  unfolding sweepRefusal
+  passed =
+      let a = past (not (soundb t)) 1 _ (omega arith) (sym e ∙ z) in
+      let b = past (ltb room (3 * length (sweep t .notes))) 2 0 (omega arith) (a .1) in
+      (not-false (soundb t) (a .0), ltb-false room (3 * length (sweep t .notes)) (b .0))
+
+  pub all-asks : (soundb t ≡ true) × Room (sweep t) 0 room
+  all-asks = let w = passed .1 in (passed .0, record { words = omega arith })
+
+  pub all-fits : (next : ℕ) (left : Table) (words words2 : List ℕ) → Leaves (sweep t) 0 next left words words2 → next / 3 < 2 ^ 32
+  all-fits next left words words2 k =
+      let m = k .moved in
+      let f = sweep-few t (sound-of t (passed .0)) in
+      let s = sound-of t (passed .0) .sizes in
+      omega arith
+
+  pub sweep-does : (next : ℕ) (d : Counts) (left : Table) (words words2 : List ℕ) → Leaves (sweep t) 0 next left words words2
+      → Does (sweepOf t room) (removed (Done d (next / 3)) d) left words words2
+  unfolding sweepOf
+  sweep-does next d left words words2 k =
+      call-accepted (sweepRefusal t room) n t _ _ left words words2 e z (call-noted (λ us. []) [] (sweep t) next d left words words2 k refl)

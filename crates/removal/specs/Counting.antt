@@ -1,0 +1,28 @@
+-- How many notes a removal and a sweep make, told before anything is written.
+use Prim.Native.Nat.{ℕ}
+use mathlib.Core.Bool.{Bool, _&&_}
+use lib.Dec.{eqb}
+use lib.ListN.{getD}
+use Rattle.base.specs.Choice.{pick}
+use Rattle.scope.specs.Table.{Table, word, isolatedOf, assumedOf, recordOf, withUnit}
+
+-- Of the removal of a solver index, by the user word and the record of its global: S, and D if there is no user and it is isolated.
+unfoldable pub removalNotes : ℕ → ℕ → ℕ
+removalNotes user r = pick (eqb user 0 && eqb (isolatedOf r) 1) 2 1
+
+-- the record r after the value v was learnt
+unfoldable pub learnt : ℕ → ℕ → ℕ
+learnt r v = word r (λ i. withUnit r v) v
+
+-- isolated and not assumed
+abbrev pub isLoose : ℕ → Bool
+isLoose r = eqb (isolatedOf r) 1 && eqb (assumedOf r) 0
+
+-- Of the sweep of a held solver index, by the user word and the record of its global, and its value.
+unfoldable pub sweptNotes : ℕ → ℕ → ℕ → ℕ
+sweptNotes user r v = pick (isLoose (learnt r v)) (removalNotes user (learnt r v)) 0
+
+-- Of the sweep of a solver index.
+unfoldable pub notesAt : Table → ℕ → ℕ
+notesAt t s =
+    word 0 (λ g. sweptNotes (getD (t .userFromGlobal) g 0) (recordOf t g) (getD (t .assignment) s 0)) (getD (t .globalFromSolver) s 0)

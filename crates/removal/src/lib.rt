@@ -1,0 +1,341 @@
+// Remove and Sweep. How the contracts read: crates/scope/specs/Contract.antt, and inside a call crates/deletion/specs/Leaving.antt.
+use deletion::delete_global_if_unused;
+use scope::Counts;
+use scope::Global;
+use scope::Solver;
+use table::FoundGlobal;
+use table::holder;
+use table::is_sound;
+use table::put_note;
+ghost use mathlib.Core.Path.{_≡_};
+ghost use mathlib.Core.Bool.{true};
+ghost use Prim.Native.Nat.{_+_, _*_, _≤_, _<_};
+ghost use lib.ListN.{length, getD};
+ghost use Rattle.base.specs.Lent.{old, new};
+ghost use Rattle.scope.specs.Contract.{given, before, after, lent, Meets};
+ghost use Rattle.scope.specs.Sound.{soundb};
+ghost use Rattle.scope.specs.Outcome.{each};
+ghost use Rattle.scope.specs.Remove.{removeHeld, removeRefusal, removeOf, learn, sweepOne, sweep, sweepRefusal, sweepOf};
+ghost use Rattle.deletion.specs.Leaving.{Leaves, Room};
+ghost use Rattle.removal.specs.Counting.{removalNotes, learnt, isLoose, sweptNotes, notesAt};
+ghost use Rattle.removal.specs.Asks.{Holding, Sweepable};
+ghost use Rattle.removal.specs.Answers.{removed};
+
+// The counts after, and how many notes were made; or the number of the refusal.
+pub enum Removed {
+    Done(Counts, u32),
+    Refused(u32),
+}
+
+// The counts after an operation, and the place after its notes.
+pub struct Passed {
+    pub counts: Counts,
+    pub at: usize,
+}
+
+// S(g,-), then D if unused. The assignment word stays.
+fn remove_held(
+    c: Counts,
+    gu: &[u32],
+    ug: &[u32],
+    sg: &mut [u32],
+    gs: &mut [u32],
+    assignment: &[u32],
+    records: &mut [u32],
+    global: Global,
+    solver: Solver,
+    at: usize,
+    notes: &mut [u32],
+) -> Passed
+    requires { ⌜ Holding (given c gu ug sg gs assignment records) (global .0) (solver .0) ⌝ }
+    requires { ⌜ Room (removeHeld (global .0) (solver .0) (given c gu ug sg gs assignment records)) at (length (now notes)) ⌝ }
+    ensures { λ r. ⌜ Leaves (removeHeld (global .0) (solver .0) (before c gu ug sg gs assignment records)) at (r .at)
+        (after (r .counts) gu ug sg gs assignment records) (old notes) (new notes) ⌝ }
+{
+    let next = at + 3;
+    let counts = c.remove(sg, gs, global, solver);
+    put_note(notes, at, 1, global.0, 0);
+    let past = delete_global_if_unused(
+        counts,
+        gu,
+        ug,
+        sg,
+        gs,
+        assignment,
+        records,
+        global,
+        next,
+        notes,
+    );
+    Passed { counts, at: past }
+}
+
+// How many notes a removal makes, by the user word and the record of the global.
+fn removal_notes(user: u32, w: u32) -> u32
+    ensures { λ r. ⌜ r ≡ removalNotes user w ⌝ }
+{
+    if (user == 0) & (w / 9 % 2 == 1) {
+        return 2;
+    }
+    1
+}
+
+fn remove_refusal(
+    c: Counts,
+    gu: &[u32],
+    ug: &[u32],
+    sg: &[u32],
+    gs: &[u32],
+    assignment: &[u32],
+    records: &[u32],
+    solver: Solver,
+    room: usize,
+) -> u32
+    ensures { λ r. ⌜ r ≡ removeRefusal (before c gu ug sg gs assignment records) (solver .0) room ⌝ }
+{
+    if !is_sound(c, gu, ug, sg, gs, assignment, records) {
+        return 1;
+    }
+    let FoundGlobal::At(global) = holder(gs, solver) else {
+        return 8;
+    };
+    let g = global.0 as usize;
+    let n = removal_notes(ug[g], records[g]) as usize;
+    if room < 3 * n {
+        return 2;
+    }
+    0
+}
+
+// Remove (01, `remove_solver_var`; refusals 1, 8, 2): the solver index is withdrawn, and its global deleted if unused.
+// Definition: crates/scope/specs/Remove.antt, `removeOf`; its answer: `removed`.
+pub fn remove_solver_var(
+    c: Counts,
+    gu: &[u32],
+    ug: &[u32],
+    sg: &mut [u32],
+    gs: &mut [u32],
+    assignment: &[u32],
+    records: &mut [u32],
+    solver: Solver,
+    notes: &mut [u32],
+) -> Removed
+    ensures { λ r. ⌜ Meets (λ t room. removeOf t (solver .0) room) (removed r c)
+        (lent c gu ug sg gs assignment records notes) ⌝ }
+{
+    let n = remove_refusal(c, gu, ug, sg, gs, assignment, records, solver, notes.len());
+    if n != 0 {
+        return Removed::Refused(n);
+    }
+    let FoundGlobal::At(global) = holder(gs, solver) else {
+        return Removed::Refused(8);
+    };
+    let p = remove_held(
+        c,
+        gu,
+        ug,
+        sg,
+        gs,
+        assignment,
+        records,
+        global,
+        solver,
+        0,
+        notes,
+    );
+    let counts = p.counts;
+    Removed::Done(counts, (p.at / 3) as u32)
+}
+
+// The record w after the value v was learnt: it becomes the unit and sets isolated.
+fn learnt_record(w: u32, v: u32) -> u32
+    requires { ⌜ w < 36 ⌝ }
+    requires { ⌜ v ≤ 2 ⌝ }
+    ensures { λ r. ⌜ r ≡ learnt w v ⌝ }
+{
+    if v == 0 {
+        return w;
+    }
+    w / 18 * 18 + 9 + 3 * v + w % 3
+}
+
+// Isolated and not assumed.
+fn is_loose(w: u32) -> bool
+    ensures { λ r. ⌜ r ≡ isLoose w ⌝ }
+{
+    (w / 9 % 2 == 1) & (w / 18 % 2 == 0)
+}
+
+// How many notes the sweep of a solver index makes.
+fn notes_at(
+    c: Counts,
+    gu: &[u32],
+    ug: &[u32],
+    sg: &[u32],
+    gs: &[u32],
+    assignment: &[u32],
+    records: &[u32],
+    solver: Solver,
+) -> u32
+    requires { ⌜ Sweepable (given c gu ug sg gs assignment records) (solver .0) ⌝ }
+    ensures { λ r. ⌜ r ≡ notesAt (before c gu ug sg gs assignment records) (solver .0) ⌝ }
+{
+    let FoundGlobal::At(global) = holder(gs, solver) else {
+        return 0;
+    };
+    let g = global.0 as usize;
+    let w = learnt_record(records[g], assignment[solver.0 as usize]);
+    if !is_loose(w) {
+        return 0;
+    }
+    removal_notes(ug[g], w)
+}
+
+// How many notes a sweep makes. Nothing is written.
+fn count_notes(
+    c: Counts,
+    gu: &[u32],
+    ug: &[u32],
+    sg: &[u32],
+    gs: &[u32],
+    assignment: &[u32],
+    records: &[u32],
+) -> u32
+    requires { ⌜ soundb (given c gu ug sg gs assignment records) ≡ true ⌝ }
+    ensures { λ r. ⌜ r ≡ length (sweep (before c gu ug sg gs assignment records) .notes) ⌝ }
+{
+    let last = c.solver;
+    let mut n: u32 = 0;
+    let mut s: u32 = 0;
+    while s < last {
+        n += notes_at(c, gu, ug, sg, gs, assignment, records, Solver(s));
+        s += 1;
+    }
+    n
+}
+
+fn sweep_refusal(
+    c: Counts,
+    gu: &[u32],
+    ug: &[u32],
+    sg: &[u32],
+    gs: &[u32],
+    assignment: &[u32],
+    records: &[u32],
+    room: usize,
+) -> u32
+    ensures { λ r. ⌜ r ≡ sweepRefusal (before c gu ug sg gs assignment records) room ⌝ }
+{
+    if !is_sound(c, gu, ug, sg, gs, assignment, records) {
+        return 1;
+    }
+    let n = count_notes(c, gu, ug, sg, gs, assignment, records) as usize;
+    if room < 3 * n {
+        return 2;
+    }
+    0
+}
+
+// A solver index that is held: a value becomes the unit; then isolated and not assumed is removed.
+fn sweep_one(
+    c: Counts,
+    gu: &[u32],
+    ug: &[u32],
+    sg: &mut [u32],
+    gs: &mut [u32],
+    assignment: &[u32],
+    records: &mut [u32],
+    solver: Solver,
+    at: usize,
+    notes: &mut [u32],
+) -> Passed
+    requires { ⌜ Sweepable (given c gu ug sg gs assignment records) (solver .0) ⌝ }
+    requires { ⌜ Room (sweepOne (solver .0) (given c gu ug sg gs assignment records)) at (length (now notes)) ⌝ }
+    ensures { λ r. ⌜ Leaves (sweepOne (solver .0) (before c gu ug sg gs assignment records)) at (r .at)
+        (after (r .counts) gu ug sg gs assignment records) (old notes) (new notes) ⌝ }
+{
+    let FoundGlobal::At(global) = holder(gs, solver) else {
+        return Passed { counts: c, at };
+    };
+    let g = global.0 as usize;
+    let w = learnt_record(records[g], assignment[solver.0 as usize]);
+    records[g] = w;
+    if !is_loose(w) {
+        return Passed { counts: c, at };
+    }
+    remove_held(
+        c,
+        gu,
+        ug,
+        sg,
+        gs,
+        assignment,
+        records,
+        global,
+        solver,
+        at,
+        notes,
+    )
+}
+
+// Every solver index in ascending order, on a sound table with room for the notes.
+fn sweep_all(
+    c: Counts,
+    gu: &[u32],
+    ug: &[u32],
+    sg: &mut [u32],
+    gs: &mut [u32],
+    assignment: &[u32],
+    records: &mut [u32],
+    notes: &mut [u32],
+) -> Passed
+    requires { ⌜ soundb (given c gu ug sg gs assignment records) ≡ true ⌝ }
+    requires { ⌜ Room (sweep (given c gu ug sg gs assignment records)) 0 (length (now notes)) ⌝ }
+    ensures { λ r. ⌜ Leaves (sweep (before c gu ug sg gs assignment records)) 0 (r .at)
+        (after (r .counts) gu ug sg gs assignment records) (old notes) (new notes) ⌝ }
+{
+    let last = c.solver;
+    let mut p = Passed { counts: c, at: 0 };
+    let mut s: u32 = 0;
+    while s < last {
+        let counts = p.counts;
+        p = sweep_one(
+            counts,
+            gu,
+            ug,
+            sg,
+            gs,
+            assignment,
+            records,
+            Solver(s),
+            p.at,
+            notes,
+        );
+        s += 1;
+    }
+    p
+}
+
+// Sweep (01, last loop of `unit_simplify`; refusals 1, 2): each held solver index learns its value, and is removed if isolated and not assumed.
+// Definition: crates/scope/specs/Remove.antt, `sweepOf`; its answer: `removed`.
+pub fn sweep(
+    c: Counts,
+    gu: &[u32],
+    ug: &[u32],
+    sg: &mut [u32],
+    gs: &mut [u32],
+    assignment: &[u32],
+    records: &mut [u32],
+    notes: &mut [u32],
+) -> Removed
+    ensures { λ r. ⌜ Meets (λ t room. sweepOf t room) (removed r c)
+        (lent c gu ug sg gs assignment records notes) ⌝ }
+{
+    let n = sweep_refusal(c, gu, ug, sg, gs, assignment, records, notes.len());
+    if n != 0 {
+        return Removed::Refused(n);
+    }
+    let p = sweep_all(c, gu, ug, sg, gs, assignment, records, notes);
+    let counts = p.counts;
+    Removed::Done(counts, (p.at / 3) as u32)
+}

@@ -1,0 +1,3 @@
+pub mod LookupLaws
+pub mod OpenLaws
+pub mod AnswerLaws
