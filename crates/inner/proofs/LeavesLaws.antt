@@ -53,13 +53,14 @@ after : (n m : List Note) (at at1 at2 : ℕ) (words words1 words2 : List ℕ)
 after n m at at1 at2 words words1 words2 a p b q =
     let l = words-length n in
     let z : length (n ++ m) ≡ length n + length m = simp length-append in
-    let e : at1 ≡ at + length (notesWords n) = omega arith in
-    (b
-    ∙ ap (λ (y : List ℕ). sets y at1 (notesWords m)) a
-    ∙ ap (λ (i : ℕ). sets (sets words at (notesWords n)) i (notesWords m)) e
-    ∙ sym (sets-append (notesWords n) (notesWords m) words at)
-    ∙ ap (λ (y : List ℕ). sets words at y) (sym (words-append n m)),
-    omega arith)
+    let e : at1 ≡ at + length (notesWords n) = omega arith in (
+      b
+          ∙ ap (λ (y : List ℕ). sets y at1 (notesWords m)) a
+          ∙ ap (λ (i : ℕ). sets (sets words at (notesWords n)) i (notesWords m)) e
+          ∙ sym (sets-append (notesWords n) (notesWords m) words at)
+          ∙ ap (λ (y : List ℕ). sets words at y) (sym (words-append n m)),
+      omega arith,
+    )
 
 -- one after the other, the second with the value and the table of the first
 pub leaves-then : {A B : Type 0} (x : Result A) (f : A → Table → Result B) (at : ℕ) (v : A) (at1 : ℕ) (w : B) (at2 : ℕ) (t1 t2 : Table) (words words1 words2 : List ℕ)
@@ -99,7 +100,7 @@ unfolding unless
 does-accepted n t left o said words words' e d = rw e d
 
 -- an accepted call that fills notes only, and whose notes are a step's from the start on
-pub does-noting : (values : ℕ → List ℕ) (n : ℕ) (t : Table) (x : Result ℕ) (v at : ℕ) (left : Table) (words words' : List ℕ) → n ≡ 0 → Leaves x 0 v at left words words'
+pub does-noting : {A : Type 0} (values : A → List ℕ) (n : ℕ) (t : Table) (x : Result A) (v : A) (at : ℕ) (left : Table) (words words' : List ℕ) → n ≡ 0 → Leaves x 0 v at left words words'
     → Does (unless n t (noting values x)) (record { answer = accepted (values v ++ ((at / 3) ∷ [])); counts = left .counts }) left words words'
 does-noting values n t x v at left words words' e h =
     let q : at / 3 ≡ length (x .notes) = let z = h .moved in omega arith in

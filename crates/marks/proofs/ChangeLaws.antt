@@ -7,9 +7,10 @@ use mathlib.Core.Logic.{_≢_}
 use native.Mathlib.Numerals.{add-one}
 use native.Mathlib.Omega.{arith}
 use lib.ListN.{length, getD, set}
-use borrow.Author.Tests.{ne-eqb, not-true, not-false}
+use borrow.Author.Tests.{ne-eqb}
 use Rattle.base.specs.Answer.{accepted, refused}
 use Rattle.base.proofs.MemberLaws.{getD-default}
+use Rattle.table.proofs.CheckLaws.{yes-of, no-of}
 use Rattle.scope.specs.declared.Counts.{Counts}
 use Rattle.scope.specs.declared.Mark.{Mark}
 use Rattle.scope.specs.Table.{Table, tableOf, recordOf, putRecord, putValue}
@@ -43,7 +44,7 @@ pub record Held (t : Table) (s g : ℕ) : Type 0 where
 
 pub held : (t : Table) (b : Bool) (s g : ℕ) → b ≡ soundb t → not b ≡ false → getD (t .globalFromSolver) s 0 ≡ g + 1 → Held t s g
 held t b s g e n h =
-    let p = sound-of t (sym e ∙ not-false b n) in
+    let p = sound-of t (yes-of e n) in
     let z = p .sizes in
     let x : s < t .counts .solver = below-mark s g (p .solver) h in
     let y : g < t .counts .global = below-mark g s (pair-flip (p .solver)) (p .solver .inverse s g .0 h) in
@@ -56,13 +57,13 @@ module _ (t : Table) (m : Mark) (s : ℕ) (b : Bool) (e : b ≡ soundb t) where
   pub mark-1 : (c : Counts) → not b ≡ true → Does (markOf t m s) (record { answer = refused 1 []; counts = c }) t [] []
   unfolding markOf markRefusal
   mark-1 c n =
-      let k : soundb t ≡ false = sym e ∙ not-true b n in
+      let k : soundb t ≡ false = no-of e n in
       refusing 0 t (mark m s t) c _ (rw k)
 
   pub mark-8 : (c : Counts) → not b ≡ false → getD (t .globalFromSolver) s 0 ≡ 0 → Does (markOf t m s) (record { answer = refused 8 []; counts = c }) t [] []
   unfolding markOf markRefusal notHeld
   mark-8 c y h =
-      let k : soundb t ≡ true = sym e ∙ not-false b y in
+      let k : soundb t ≡ true = yes-of e y in
       refusing 7 t (mark m s t) c _ (rw (k, h))
 
   pub mark-done : (c : Counts) (g : ℕ) (records : List ℕ) → not b ≡ false → getD (t .globalFromSolver) s 0 ≡ g + 1
@@ -71,7 +72,7 @@ module _ (t : Table) (m : Mark) (s : ℕ) (b : Bool) (e : b ≡ soundb t) where
       (tableOf (t .counts) (t .globalFromUser) (t .userFromGlobal) (t .solverFromGlobal) (t .globalFromSolver) (t .assignment) records) [] []
   unfolding markOf markRefusal notHeld mark putRecord
   mark-done c g records y h q =
-      let k : soundb t ≡ true = sym e ∙ not-false b y in
+      let k : soundb t ≡ true = yes-of e y in
       let d : holderOf t s ≡ g = omega arith in
       let w = held t b s g e y h .record-word in
       doing t (mark m s t) _ c _ (rw (k, ne-eqb (getD (t .globalFromSolver) s 0) 0 (λ z. omega arith)))
@@ -83,25 +84,25 @@ module _ (t : Table) (lit : ℕ) (b : Bool) (e : b ≡ soundb t) where
   pub assign-1 : (c : Counts) → not b ≡ true → Does (assignOf t lit) (record { answer = refused 1 []; counts = c }) t [] []
   unfolding assignOf assignRefusal
   assign-1 c n =
-      let k : soundb t ≡ false = sym e ∙ not-true b n in
+      let k : soundb t ≡ false = no-of e n in
       refusing 0 t _ c _ (rw k)
 
   pub assign-8 : (c : Counts) → not b ≡ false → getD (t .globalFromSolver) (indexOf lit) 0 ≡ 0 → Does (assignOf t lit) (record { answer = refused 8 []; counts = c }) t [] []
   unfolding assignOf assignRefusal notHeld
   assign-8 c y h =
-      let k : soundb t ≡ true = sym e ∙ not-false b y in
+      let k : soundb t ≡ true = yes-of e y in
       refusing 7 t _ c _ (rw (k, h))
 
   pub assign-9 : (c : Counts) (g : ℕ) → not b ≡ false → getD (t .globalFromSolver) (indexOf lit) 0 ≡ g + 1 → getD (t .assignment) (indexOf lit) 0 ≢ 0
       → Does (assignOf t lit) (record { answer = refused 9 []; counts = c }) t [] []
   unfolding assignOf assignRefusal notHeld
   assign-9 c g y h n =
-      let k : soundb t ≡ true = sym e ∙ not-false b y in
+      let k : soundb t ≡ true = yes-of e y in
       refusing 8 t _ c _ (rw (k, ne-eqb (getD (t .globalFromSolver) (indexOf lit) 0) 0 (λ z. omega arith), ne-eqb (getD (t .assignment) (indexOf lit) 0) 0 n))
 
   pub assign-done : (c : Counts) (g : ℕ) → not b ≡ false → getD (t .globalFromSolver) (indexOf lit) 0 ≡ g + 1 → getD (t .assignment) (indexOf lit) 0 ≡ 0
       → Does (assignOf t lit) (record { answer = accepted []; counts = c }) (putValue (indexOf lit) (trueValue lit) t) [] []
   unfolding assignOf assignRefusal notHeld
   assign-done c g y h z =
-      let k : soundb t ≡ true = sym e ∙ not-false b y in
+      let k : soundb t ≡ true = yes-of e y in
       doing t _ _ c _ (rw (k, ne-eqb (getD (t .globalFromSolver) (indexOf lit) 0) 0 (λ q. omega arith), z)) refl

@@ -7,7 +7,7 @@ use table::FoundGlobal;
 use table::holder;
 use table::is_sound;
 ghost use mathlib.Core.Path.{_≡_};
-ghost use Prim.Native.Nat.{_+_, _≤_, _<_};
+ghost use Prim.Native.Nat.{_≤_, _<_};
 ghost use lib.ListN.{length, getD, set};
 ghost use Rattle.base.specs.Lent.{old, new};
 ghost use Rattle.scope.specs.Contract.{quiet, Meets};

@@ -7,10 +7,11 @@ use native.Mathlib.Omega.{arith}
 use lib.Dec.{ltb}
 use lib.ListN.{length}
 use lib.Seq.{sets}
-use borrow.Author.Tests.{lt-ltb, le-ltb, ltb-false}
+use borrow.Author.Tests.{lt-ltb, le-ltb, ltb-false, not-false}
 use Rattle.base.specs.Choice.{pick}
 use Rattle.base.specs.Answer.{accepted, refused}
-use Rattle.base.proofs.MemberLaws.{or-first, or-second, or-left, or-right}
+use Rattle.base.proofs.MemberLaws.{or-left, or-right}
+use Rattle.scope.proofs.ResultLaws.{past}
 use Rattle.scope.specs.Table.{Table}
 use Rattle.scope.specs.Sound.{soundb}
 use Rattle.scope.specs.Notes.{Note, notesWords}
@@ -55,16 +56,14 @@ pub record Clear (t : Table) (a b : ℕ) : Type 0 where
 
 pub clear : (t : Table) (a b n : ℕ) → n ≡ modelRefusal t a b → n ≡ 0 → Clear t a b
 unfolding modelRefusal
-clear t a b n e z = go (soundb t) refl (ltb a (length (globalModel t))) refl (ltb b (length (userModel t))) refl (sym e ∙ z)
-  where
-    go : (s : Bool) → soundb t ≡ s → (x : Bool) → ltb a (length (globalModel t)) ≡ x → (y : Bool) → ltb b (length (userModel t)) ≡ y → _≡_ {A = ℕ} (pick (not s) 1 (pick (x || y) 2 0)) 0 → Clear t a b
-    go true h false p false q r =
-        let k = globals-count t in
-        let l = ltb-false a (length (globalModel t)) p in
-        record { sound = h; globals = omega arith; users = ltb-false b (length (userModel t)) q }
-    go true h false p true q r = absurd (omega arith)
-    go true h true p y q r = absurd (omega arith)
-    go false h x p y q r = absurd (omega arith)
+clear t a b n e z =
+    let p = past (not (soundb t)) 1 (pick (ltb a (length (globalModel t)) || ltb b (length (userModel t))) 2 0) (omega arith) (sym e ∙ z) in
+    let x = ltb a (length (globalModel t)) in
+    let y = ltb b (length (userModel t)) in
+    let q = past (x || y) 2 0 (omega arith) (p .1) in
+    let k = ltb-false a (length (globalModel t)) (or-left x y (q .0)) in
+    let g = globals-count t in
+    record { sound = not-false (soundb t) (p .0); globals = omega arith; users = ltb-false b (length (userModel t)) (or-right x y (q .0)) }
 
 -- ---- the call
 

@@ -12,40 +12,12 @@ use Rattle.base.specs.Choice.{pick}
 use Rattle.base.proofs.Truth.{split}
 use Rattle.base.proofs.MemberLaws.{getD-default}
 use Rattle.scope.specs.Table.{Table, word, unitOf, isDeleted, recordOf}
-use Rattle.scope.specs.Sound.{Sound, Pair, soundb}
+use Rattle.scope.specs.Sound.{soundb}
 use Rattle.scope.specs.Models.{globalValue}
 use Rattle.scope.proofs.SoundLaws.{sound-of}
+use Rattle.scope.proofs.PairLaws.{below-mark, pair-flip}
+use Rattle.scope.proofs.ResultLaws.{word-none, word-some}
 use Rattle.model.specs.Values.{userValue}
-
--- ---- a map's word
-
-word-some {ℓ} : {A : Type ℓ} (none : A) (some : ℕ → A) (w : ℕ) → (w ≡ 0 → ⊥) → word none some w ≡ some (w - 1)
-unfolding word
-word-some none some zero h = absurd (h refl)
-word-some none some (suc i) h = ap some (omega arith)
-
-word-none {ℓ} : {A : Type ℓ} (none : A) (some : ℕ → A) (w : ℕ) → w ≡ 0 → word none some w ≡ none
-unfolding word
-word-none none some w h = rw h
-
--- an index that a map of a pair goes to is below the other map's watermark
-low : {a b : List ℕ} {m n : ℕ} → Pair a b m n → (j : ℕ) → (getD b j 0 ≡ 0 → ⊥) → getD b j 0 - 1 < m
-low {a} {b} {m} {n} p j h = ⊎-elim
-    (λ (l : getD b j 0 - 1 < m). l)
-    (λ (l : m ≤ getD b j 0 - 1).
-    let x = p .atail (getD b j 0 - 1) l in
-    let y : getD a (getD b j 0 - 1) 0 ≡ j + 1 = p .inverse (getD b j 0 - 1) j .1 (omega arith) in
-    absurd (omega arith))
-    (split (getD b j 0 - 1) m)
-
-low' : {a b : List ℕ} {m n : ℕ} → Pair a b m n → (i : ℕ) → (getD a i 0 ≡ 0 → ⊥) → getD a i 0 - 1 < n
-low' {a} {b} {m} {n} p i h = ⊎-elim
-    (λ (l : getD a i 0 - 1 < n). l)
-    (λ (l : n ≤ getD a i 0 - 1).
-    let x = p .btail (getD a i 0 - 1) l in
-    let y : getD b (getD a i 0 - 1) 0 ≡ i + 1 = p .inverse i (getD a i 0 - 1) .0 (omega arith) in
-    absurd (omega arith))
-    (split (getD a i 0 - 1) n)
 
 module _ (t : Table) (h : soundb t ≡ true) where
   -- ---- the words that are read are there
@@ -60,10 +32,18 @@ module _ (t : Table) (h : soundb t ≡ true) where
   user-mark = let z = sound-of t h .sizes in omega arith
 
   pub held-there : (g : ℕ) → (getD (t .solverFromGlobal) g 0 ≡ 0 → ⊥) → getD (t .solverFromGlobal) g 0 - 1 < length (t .assignment)
-  held-there g n = let z = sound-of t h .sizes in let k = low (sound-of t h .solver) g n in omega arith
+  held-there g n =
+      let z = sound-of t h .sizes in
+      let p = sound-of t h .solver in
+      let w = getD (t .solverFromGlobal) g 0 in
+      let k = below-mark (w - 1) g p (p .inverse (w - 1) g .1 (omega arith)) in
+      omega arith
 
   pub mapped-there : (u : ℕ) → (getD (t .globalFromUser) u 0 ≡ 0 → ⊥) → getD (t .globalFromUser) u 0 - 1 < t .counts .global
-  mapped-there u n = low' (sound-of t h .user) u n
+  mapped-there u n =
+      let p = sound-of t h .user in
+      let w = getD (t .globalFromUser) u 0 in
+      below-mark (w - 1) u (pair-flip p) (p .inverse u (w - 1) .0 (omega arith))
 
   -- ---- the value of a global
 
@@ -78,7 +58,7 @@ module _ (t : Table) (h : soundb t ≡ true) where
   unfolding globalValue
   value-held g l d n =
       let e = getD-default (t .records) g 47 0 (global-there g l .0) in
-      rw (e, lt-leb 36 (getD (t .records) g 0) d, word-some _ (λ s. getD (t .assignment) s 0) (getD (t .solverFromGlobal) g 0) n)
+      rw (e, lt-leb 36 (getD (t .records) g 0) d, word-some _ (λ s. getD (t .assignment) s 0) (getD (t .solverFromGlobal) g 0) (getD (t .solverFromGlobal) g 0 - 1) (omega arith))
 
   value-unit : (g : ℕ) → g < t .counts .global → getD (t .records) g 0 < 36 → getD (t .solverFromGlobal) g 0 ≡ 0
       → pick (eqb (unitOf (getD (t .records) g 0)) 0) 1 (unitOf (getD (t .records) g 0)) ≡ globalValue t g
@@ -106,4 +86,4 @@ user-unmapped t u e = sym (word-none 0 (globalValue t) (getD (t .globalFromUser)
 
 pub user-mapped : (t : Table) (u : ℕ) → (getD (t .globalFromUser) u 0 ≡ 0 → ⊥) → globalValue t (getD (t .globalFromUser) u 0 - 1) ≡ userValue t u
 unfolding userValue
-user-mapped t u n = sym (word-some 0 (globalValue t) (getD (t .globalFromUser) u 0) n)
+user-mapped t u n = sym (word-some 0 (globalValue t) (getD (t .globalFromUser) u 0) (getD (t .globalFromUser) u 0 - 1) (omega arith))

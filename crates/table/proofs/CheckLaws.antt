@@ -2,22 +2,35 @@
 -- are as they should be, p holds at or above the mark, so that the loop can stop there.
 use Prim.Native.Nat.{ℕ, zero, suc, _+_, _-_, _≤_, _<_}
 use mathlib.Core.Path.{_≡_, refl, sym, ap, _∙_}
-use mathlib.Core.Bool.{Bool, true, false, _&&_, _||_, true≢false}
+use mathlib.Core.Bool.{Bool, true, false, _&&_, _||_, not, true≢false}
 use mathlib.Core.Logic.{⊎-elim}
 use mathlib.Core.List.{List}
-use native.Mathlib.Nat.{eq-or-lt-of-le}
+use native.Mathlib.Nat.{eq-or-lt-of-le, add-zero}
 use native.Mathlib.Numerals.{add-one}
 use native.Mathlib.Omega.{arith}
 use lib.Dec.{eqb, ltb, leb}
 use lib.ListN.{length, getD, List·getD-eq-default}
-use borrow.Author.Tests.{lt-ltb, le-ltb, ne-eqb, le-leb, eqb-true}
-use Rattle.base.specs.Bounded.{allBelow}
-use Rattle.base.proofs.BelowLaws.{all-at, all-fails, all-intro}
+use borrow.Author.Tests.{lt-ltb, le-ltb, le-leb, leb-true, eqb-true, not-true, not-false}
+use Rattle.base.specs.Choice.{pick}
+use Rattle.base.specs.Bounded.{allBelow, count}
+use Rattle.base.proofs.BelowLaws.{all-at, all-intro}
 use Rattle.base.proofs.Truth.{truth, and-iff, split}
 use Rattle.base.proofs.MemberLaws.{getD-default}
 use Rattle.scope.specs.Table.{Table, isShown}
 use Rattle.scope.specs.Sound.{Sizes, sizesb, marksb, atMostb, tailb, backb, namedb, deletedb, tailsb, pairsb, soundb}
-use Rattle.table.specs.Checks.{takesBack, rowb}
+use Rattle.table.specs.Checks.{isFilled, rowb}
+use Rattle.table.proofs.PairCounts.{back-has, back-low, pair-counts}
+
+-- a test that a branch found true, or not
+pub yes-of : {b x : Bool} → b ≡ x → not b ≡ false → x ≡ true
+yes-of {b} e n = sym e ∙ not-false b n
+
+pub no-of : {b x : Bool} → b ≡ x → not b ≡ true → x ≡ false
+no-of {b} e n = sym e ∙ not-true b n
+
+false-is : (x : Bool) → (x ≡ true → ⊥) → false ≡ x
+false-is true h = absurd (h refl)
+false-is false h = refl
 
 -- ---- allBelow
 
@@ -102,32 +115,66 @@ most-end m mark xs i ok l h e q =
     e ∙ ap (λ (k : ℕ). allBelow k (mostAt m xs)) q
     ∙ all-mark (length xs) mark (mostAt m xs) l (λ j k. rw (tail-has mark 0 xs h j k) (le-leb 0 m (omega arith)))
 
+pub most-has : (m : ℕ) (xs : List ℕ) (b : Bool) → b ≡ atMostb m xs → not b ≡ false → (i : ℕ) → i < length xs → getD xs i 0 ≤ m
+unfolding atMostb
+most-has m xs b e n i l = leb-true _ _ (all-at (length xs) (mostAt m xs) (yes-of e n) i l)
+
 -- ---- one map and the other
 
 abbrev pub backAt : List ℕ → List ℕ → ℕ → Bool
-backAt a b i = takesBack (getD a i 0) b i
+backAt a b i = eqb (getD a i 0) 0 || eqb (getD b (getD a i 0 - 1) 0) (i + 1)
 
-pub back-none : (x : ℕ) (b : List ℕ) (i : ℕ) → x ≡ 0 → true ≡ takesBack x b i
-unfolding takesBack
-back-none x b i z = rw z
+-- a word of the first map that is past the end of the second is not taken back
+pub back-past : (a b : List ℕ) (ok : Bool) → ok ≡ atMostb (length b) a → not ok ≡ true → false ≡ backb a b
+unfolding atMostb
+back-past a b ok e n =
+    false-is (backb a b) (λ h. true≢false (sym (all-intro (length a) (mostAt (length b) a) (λ i l. le-leb _ _ (back-low a b (back-has a b h) i))) ∙ no-of e n))
 
-pub back-out : (x : ℕ) (b : List ℕ) (i : ℕ) → (x ≡ 0 → ⊥) → length b ≤ x - 1 → false ≡ takesBack x b i
-unfolding takesBack
-back-out x b i n l = rw (ne-eqb x 0 n, List·getD-eq-default b 0 l, ne-eqb 0 (i + 1) (λ q. omega arith)) refl
+pub back-step : (a b : List ℕ) (i x y : ℕ) (ok : Bool) → ok ≡ allBelow i (backAt a b) → x ≡ getD a i 0 → y ≡ x - 1
+    → (ok && (eqb x 0 || eqb (getD b y 0) (i + 1))) ≡ allBelow (i + 1) (backAt a b)
+back-step a b i x y ok e p q = all-step i (backAt a b) ok _ e (rw (q, p))
 
-pub back-in : (x : ℕ) (b : List ℕ) (i : ℕ) → (x ≡ 0 → ⊥) → eqb (getD b (x - 1) 0) (i + 1) ≡ takesBack x b i
-unfolding takesBack
-back-in x b i n = rw (ne-eqb x 0 n) refl
-
-pub back-fails : (a b : List ℕ) (i : ℕ) (ok : Bool) → i < length a → ok ≡ takesBack (getD a i 0) b i → ok ≡ false → false ≡ backb a b
-unfolding backb takesBack
-back-fails a b i ok l e n = sym (all-fails (length a) (backAt a b) i l (sym e ∙ n))
-
-pub back-end : (a b : List ℕ) (mark i : ℕ) → mark ≤ length a → tailb mark 0 a ≡ true → allBelow i (backAt a b) ≡ true → i ≡ mark → true ≡ backb a b
-unfolding backb takesBack
-back-end a b mark i l h e q =
-    sym e ∙ ap (λ (k : ℕ). allBelow k (backAt a b)) q
+pub back-end : (a b : List ℕ) (mark i : ℕ) (ok : Bool) → mark ≤ length a → tailb mark 0 a ≡ true → ok ≡ allBelow i (backAt a b) → i ≡ mark → ok ≡ backb a b
+unfolding backb
+back-end a b mark i ok l h e q =
+    e ∙ ap (λ (k : ℕ). allBelow k (backAt a b)) q
     ∙ all-mark (length a) mark (backAt a b) l (λ j k. rw (tail-has mark 0 a h j k) refl)
+
+pub no-pair : (a b : List ℕ) (ok : Bool) → ok ≡ backb a b → not ok ≡ true → false ≡ backb a b && backb b a
+no-pair a b ok e n = rw (no-of e n)
+
+pub pair-is : (a b : List ℕ) (ok : Bool) (x y : ℕ) → ok ≡ backb a b → not ok ≡ false → x ≡ count (length a) (isFilled a) → y ≡ count (length b) (isFilled b)
+    → eqb x y ≡ backb a b && backb b a
+pair-is a b ok x y e n p q =
+    let k : backb a b ≡ true = yes-of e n in
+    rw (p, q, k) (pair-counts a b k)
+
+-- ---- how many words are not 0
+
+pub filled-start : (xs : List ℕ) → 0 ≡ count 0 (isFilled xs)
+unfolding count
+filled-start xs = refl
+
+pub filled-step : (xs : List ℕ) (i k x : ℕ) → k ≡ count i (isFilled xs) → x ≡ pick (isFilled xs i) 1 0 → k + x ≡ count (i + 1) (isFilled xs)
+unfolding count
+filled-step xs i k x e p = rw (add-one, e, p) (go (isFilled xs i) (count i (isFilled xs)))
+  where
+    go : (b : Bool) (n : ℕ) → n + pick b 1 0 ≡ pick b (suc n) n
+    go true n = add-one n
+    go false n = add-zero n
+
+count-mark : (n mark : ℕ) (p : ℕ → Bool) → mark ≤ n → ((i : ℕ) → mark ≤ i → p i ≡ false) → count mark p ≡ count n p
+unfolding count
+count-mark zero mark p l h = let e : mark ≡ zero = omega arith in ap (λ (k : ℕ). count k p) e
+count-mark (suc n) mark p l h = ⊎-elim
+    (λ (e : mark ≡ suc n). ap (λ (k : ℕ). count k p) e)
+    (λ (e : mark < suc n). count-mark n mark p (omega arith) h ∙ rw (h n (omega arith)))
+    (eq-or-lt-of-le l)
+
+pub filled-end : (xs : List ℕ) (mark i k : ℕ) → mark ≤ length xs → tailb mark 0 xs ≡ true → k ≡ count i (isFilled xs) → i ≡ mark → k ≡ count (length xs) (isFilled xs)
+filled-end xs mark i k l h e q =
+    e ∙ ap (λ (n : ℕ). count n (isFilled xs)) q
+    ∙ count-mark (length xs) mark (isFilled xs) l (λ j m. rw (tail-has mark 0 xs h j m) refl)
 
 -- ---- the rows of the globals
 
@@ -177,25 +224,42 @@ pub tails-is : (t : Table) → tailsb t ≡ true → Tails t
 unfolding tailsb
 tails-is t h = let k = simp and-iff at h in search
 
-false-is : (x : Bool) → (x ≡ true → ⊥) → false ≡ x
-false-is true h = absurd (h refl)
-false-is false h = refl
-
-pub no-sizes : (t : Table) (b : Bool) → b ≡ sizesb t → b ≡ false → false ≡ soundb t
+pub no-sizes : (t : Table) (b : Bool) → b ≡ sizesb t → not b ≡ true → false ≡ soundb t
 unfolding soundb
-no-sizes t b e n = false-is (soundb t) (λ h. let k = simp and-iff at h in true≢false (cc))
+no-sizes t b e n =
+    let x = no-of e n in
+    false-is (soundb t) (λ h. let k = simp and-iff at h in true≢false (cc))
 
-pub no-marks : (t : Table) (b : Bool) → b ≡ marksb (t .counts) → b ≡ false → false ≡ soundb t
+pub no-marks : (t : Table) (b : Bool) → b ≡ marksb (t .counts) → not b ≡ true → false ≡ soundb t
 unfolding soundb
-no-marks t b e n = false-is (soundb t) (λ h. let k = simp and-iff at h in true≢false (cc))
+no-marks t b e n =
+    let x = no-of e n in
+    false-is (soundb t) (λ h. let k = simp and-iff at h in true≢false (cc))
 
-pub no-tails : (t : Table) (b : Bool) → b ≡ tailsb t → b ≡ false → false ≡ soundb t
+pub no-tails : (t : Table) (b : Bool) → b ≡ tailsb t → not b ≡ true → false ≡ soundb t
 unfolding soundb
-no-tails t b e n = false-is (soundb t) (λ h. let k = simp and-iff at h in true≢false (cc))
+no-tails t b e n =
+    let x = no-of e n in
+    false-is (soundb t) (λ h. let k = simp and-iff at h in true≢false (cc))
 
-pub no-pairs : (t : Table) (b : Bool) → b ≡ pairsb t → b ≡ false → false ≡ soundb t
+pub no-pairs : (t : Table) (b : Bool) → b ≡ pairsb t → not b ≡ true → false ≡ soundb t
 unfolding soundb
-no-pairs t b e n = false-is (soundb t) (λ h. let k = simp and-iff at h in true≢false (cc))
+no-pairs t b e n =
+    let x = no-of e n in
+    false-is (soundb t) (λ h. let k = simp and-iff at h in true≢false (cc))
+
+-- two pairs, the second the other way round
+pub pairs-is : (t : Table) (p q : Bool) → p ≡ backb (t .globalFromUser) (t .userFromGlobal) && backb (t .userFromGlobal) (t .globalFromUser)
+    → q ≡ backb (t .globalFromSolver) (t .solverFromGlobal) && backb (t .solverFromGlobal) (t .globalFromSolver) → (p && q) ≡ pairsb t
+unfolding pairsb
+pairs-is t p q e f = rw (e, f) (turn (backb (t .globalFromUser) (t .userFromGlobal) && backb (t .userFromGlobal) (t .globalFromUser)) _ _)
+  where
+    turn : (a b c : Bool) → a && (b && c) ≡ a && c && b
+    turn true true true = refl
+    turn true true false = refl
+    turn true false true = refl
+    turn true false false = refl
+    turn false b c = refl
 
 reorder : (a b c d : Bool) → b && (a && c && d) ≡ true && true && a && b && true && true && c && d
 reorder true true c d = refl

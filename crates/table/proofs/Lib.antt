@@ -1,3 +1,4 @@
 pub mod CheckLaws
 pub mod FoundLaws
 pub mod AnswerLaws
+pub mod PairCounts

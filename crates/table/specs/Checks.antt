@@ -1,14 +1,14 @@
 -- The tests of soundness (document 01, "Words used") at one index.
-use Prim.Native.Nat.{ℕ, _+_, _-_}
+use Prim.Native.Nat.{ℕ}
 use mathlib.Core.Bool.{Bool, _&&_, _||_, not, Bool·beq}
 use mathlib.Core.List.{List}
 use lib.Dec.{eqb, ltb, leb}
 use lib.ListN.{getD}
 use Rattle.scope.specs.Table.{modeOf, isolatedOf, isShown}
 
--- The word x of index i is 0, or the map b takes it back to i.
-unfoldable pub takesBack : ℕ → List ℕ → ℕ → Bool
-takesBack x b i = eqb x 0 || eqb (getD b (x - 1) 0) (i + 1)
+-- The map holds an index at i.
+abbrev pub isFilled : List ℕ → ℕ → Bool
+isFilled xs i = not (eqb (getD xs i 0) 0)
 
 -- The record r of a global, with its user word and its solver word: at most 71; a user exactly if undeleted and not Hide; if deleted, then
 -- Hide, isolated and without solver index.

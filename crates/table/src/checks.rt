@@ -1,13 +1,17 @@
 // The tests of one list, or of two, of which soundness is made. Tails are tested first: at or above a watermark the other tests then hold.
+// No loop branches on a word: the time depends on the watermarks and not on what the table holds.
 use scope::Counts;
 ghost use mathlib.Core.Path.{_≡_};
-ghost use mathlib.Core.Bool.{true, _&&_};
-ghost use Prim.Native.Nat.{_+_, _≤_, _<_};
+ghost use mathlib.Core.Bool.{true, _&&_, not};
+ghost use Prim.Native.Nat.{_-_, _≤_};
+ghost use lib.Dec.{eqb};
 ghost use lib.ListN.{length};
+ghost use Rattle.base.specs.Bounded.{count};
+ghost use Rattle.base.specs.Choice.{pick};
 ghost use Rattle.base.specs.Lent.{old};
 ghost use Rattle.scope.specs.Contract.{given, before};
 ghost use Rattle.scope.specs.Sound.{sizesb, marksb, atMostb, tailb, backb, namedb, deletedb, tailsb, pairsb};
-ghost use Rattle.table.specs.Checks.{takesBack, rowb};
+ghost use Rattle.table.specs.Checks.{isFilled, rowb};
 
 // User and solver watermarks are at most the global one, which is at most the capacity.
 pub fn marks_ok(c: Counts) -> bool
@@ -46,35 +50,71 @@ pub fn at_most(m: u32, xs: &[u32], mark: u32) -> bool
     ok
 }
 
-fn takes_back(x: u32, b: &[u32], i: u32) -> bool
-    requires { ⌜ i < 4096 ⌝ }
-    ensures { λ r. ⌜ r ≡ takesBack x (old b) i ⌝ }
+// The place that a map's word names, 0 where it names none.
+fn place(x: u32) -> usize
+    ensures { λ r. ⌜ r ≡ x - 1 ⌝ }
 {
-    if x == 0 {
-        return true;
-    }
-    let j = (x - 1) as usize;
-    if b.len() <= j {
-        return false;
-    }
-    b[j] == i + 1
+    if x == 0 { 0 } else { (x - 1) as usize }
 }
 
 // What the first map takes i to, the second takes back to i.
 fn back_ok(a: &[u32], b: &[u32], mark: u32) -> bool
-    requires { ⌜ mark ≤ 4096 ⌝ }
     requires { ⌜ mark ≤ length (now a) ⌝ }
     requires { ⌜ tailb mark 0 (now a) ≡ true ⌝ }
+    requires { ⌜ 1 ≤ length (now b) ⌝ }
+    requires { ⌜ length (now b) ≤ 4096 ⌝ }
     ensures { λ r. ⌜ r ≡ backb (old a) (old b) ⌝ }
 {
+    if !at_most(b.len() as u32, a, mark) {
+        return false;
+    }
+    let mut ok = true;
     let mut i: u32 = 0;
     while i < mark {
-        if !takes_back(a[i as usize], b, i) {
-            return false;
-        }
+        let x = a[i as usize];
+        ok = ok & ((x == 0) | (b[place(x)] == i + 1));
         i += 1;
     }
-    true
+    ok
+}
+
+fn one_if(x: u32) -> u32
+    ensures { λ r. ⌜ r ≡ pick (not (eqb x 0)) 1 0 ⌝ }
+    ensures { λ r. ⌜ r ≤ 1 ⌝ }
+{
+    if x == 0 { 0 } else { 1 }
+}
+
+// How many words are not 0.
+fn filled(xs: &[u32], mark: u32) -> u32
+    requires { ⌜ mark ≤ length (now xs) ⌝ }
+    requires { ⌜ tailb mark 0 (now xs) ≡ true ⌝ }
+    ensures { λ r. ⌜ r ≡ count (length (old xs)) (isFilled (old xs)) ⌝ }
+{
+    let n = mark as usize;
+    let mut k: u32 = 0;
+    let mut i = 0;
+    while i < n {
+        k += one_if(xs[i]);
+        i += 1;
+    }
+    k
+}
+
+// Two maps are mutually inverse: what the first takes i to the second takes back, and no word of the second is left over.
+fn pair_ok(a: &[u32], b: &[u32], amark: u32, bmark: u32) -> bool
+    requires { ⌜ amark ≤ length (now a) ⌝ }
+    requires { ⌜ bmark ≤ length (now b) ⌝ }
+    requires { ⌜ tailb amark 0 (now a) ≡ true ⌝ }
+    requires { ⌜ tailb bmark 0 (now b) ≡ true ⌝ }
+    requires { ⌜ 1 ≤ length (now b) ⌝ }
+    requires { ⌜ length (now b) ≤ 4096 ⌝ }
+    ensures { λ r. ⌜ r ≡ (backb (old a) (old b) && backb (old b) (old a)) ⌝ }
+{
+    if !back_ok(a, b, amark) {
+        return false;
+    }
+    filled(a, amark) == filled(b, bmark)
 }
 
 fn row_ok(w: u32, user: u32, solver: u32) -> bool
@@ -142,8 +182,5 @@ pub fn pairs_ok(
     requires { ⌜ tailsb (given c gu ug sg gs assignment records) ≡ true ⌝ }
     ensures { λ r. ⌜ r ≡ pairsb (before c gu ug sg gs assignment records) ⌝ }
 {
-    back_ok(gu, ug, c.user)
-        & back_ok(ug, gu, c.global)
-        & back_ok(sg, gs, c.global)
-        & back_ok(gs, sg, c.solver)
+    pair_ok(gu, ug, c.user, c.global) & pair_ok(gs, sg, c.solver, c.global)
 }

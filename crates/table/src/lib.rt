@@ -14,7 +14,7 @@ ghost use mathlib.Core.Path.{_≡_};
 ghost use mathlib.Core.List.{_∷_, []};
 ghost use Prim.Native.Nat.{_+_, _≤_};
 ghost use lib.ListN.{length, getD};
-ghost use Rattle.base.specs.Lent.{old, new, Fills};
+ghost use Rattle.base.specs.Lent.{old, Fills};
 ghost use Rattle.scope.specs.Contract.{before};
 ghost use Rattle.scope.specs.Sound.{sizesb, soundb};
 ghost use Rattle.table.specs.Found.{foundUser, foundGlobal, foundSolver};

@@ -1,16 +1,17 @@
 -- Laws by which the lookups are what crates/scope/specs/Lookup.antt says.
 use Prim.Native.Nat.{ℕ, _+_, _≤_, _<_}
-use mathlib.Core.Path.{_≡_, sym, _∙_}
+use mathlib.Core.Path.{_≡_, _∙_}
 use mathlib.Core.Bool.{Bool, true, false, not}
 use mathlib.Core.List.{List, [], _∷_}
 use native.Mathlib.Numerals.{add-one}
 use native.Mathlib.Omega.{arith}
 use lib.ListN.{length, getD}
 use lib.Dec.{ltb}
-use borrow.Author.Tests.{lt-ltb, le-ltb, not-true, not-false}
+use borrow.Author.Tests.{lt-ltb, le-ltb}
 use Rattle.base.specs.Answer.{accepted, refused}
 use Rattle.base.specs.Choice.{pick}
 use Rattle.base.proofs.MemberLaws.{getD-default}
+use Rattle.table.proofs.CheckLaws.{yes-of, no-of}
 use Rattle.scope.specs.declared.Counts.{Counts}
 use Rattle.scope.specs.Table.{Table, word, recordOf}
 use Rattle.scope.specs.Sound.{soundb}
@@ -24,14 +25,14 @@ pub refused-1 : (t : Table) (c : Counts) (b : Bool) (ws : List ℕ) → b ≡ so
     → Does (lookupOf t ws) (record { answer = refused 1 []; counts = c }) t [] []
 unfolding lookupOf unless notesWords
 refused-1 t c b ws e n =
-    let k : soundb t ≡ false = sym e ∙ not-true b n in
+    let k : soundb t ≡ false = no-of e n in
     record { answer = rw k; table = rw k; noted = rw k }
 
 pub told : (t : Table) (c : Counts) (b : Bool) (vs ws : List ℕ) → b ≡ soundb t → not b ≡ false → vs ≡ ws
     → Does (lookupOf t ws) (record { answer = accepted vs; counts = c }) t [] []
 unfolding lookupOf unless notesWords
 told t c b vs ws e n q =
-    let k : soundb t ≡ true = sym e ∙ not-false b n in
+    let k : soundb t ≡ true = yes-of e n in
     record { answer = rw (k, q); table = rw k; noted = rw k }
 
 -- ---- what a map says
@@ -59,6 +60,6 @@ a-word mark i w x l e = rw (lt-ltb i mark l, e)
 -- of a sound table the record of a global below the watermark is in the list
 pub record-word : (t : Table) (b : Bool) (g w : ℕ) → b ≡ soundb t → not b ≡ false → g < t .counts .global → w ≡ getD (t .records) g 0 → w ≡ recordOf t g
 record-word t b g w e n l q =
-    let z = sound-of t (sym e ∙ not-false b n) .sizes in
+    let z = sound-of t (yes-of e n) .sizes in
     let k : g < length (t .records) = omega arith in
     q ∙ getD-default (t .records) g 0 47 k

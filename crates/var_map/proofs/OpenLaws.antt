@@ -8,9 +8,9 @@ use native.Mathlib.Nat.{eq-or-lt-of-le}
 use native.Mathlib.Omega.{arith}
 use lib.ListN.{length, getD, set, replicate, length-replicate, length-set, getD-replicate}
 use lib.Seq.{ext-getD, getD-set-same, getD-set-other}
-use borrow.Author.Tests.{not-true, not-false}
 use Rattle.base.proofs.Truth.{truth}
 use Rattle.base.specs.Answer.{accepted, refused}
+use Rattle.table.proofs.CheckLaws.{yes-of, no-of}
 use Rattle.scope.specs.declared.Counts.{Counts}
 use Rattle.scope.specs.Table.{Table, tableOf}
 use Rattle.scope.specs.Sound.{sizesb}
@@ -52,7 +52,7 @@ pub refused-10 : (t : Table) (c : Counts) (b : Bool) → b ≡ sizesb t → not 
     → Does (openOf t) (record { answer = refused 10 []; counts = c }) t [] []
 unfolding openOf unless notesWords
 refused-10 t c b e n =
-    let k : sizesb t ≡ false = sym e ∙ not-true b n in
+    let k : sizesb t ≡ false = no-of e n in
     record { answer = rw k; table = rw k; noted = rw k }
 
 -- lists that have their lengths, each filled with one value, are the empty table
@@ -72,7 +72,7 @@ pub opened-empty : (n : ℕ) (gu ug sg gs a r gu' ug' sg' gs' a' r' : List ℕ) 
     (tableOf (openCounts n) gu' ug' sg' gs' a' r') [] []
 unfolding openOf unless notesWords emptyTable
 opened-empty n gu ug sg gs a r gu' ug' sg' gs' a' r' b e y p1 p2 p3 p4 p5 p6 =
-    let k : sizesb (tableOf (openCounts n) gu ug sg gs a r) ≡ true = sym e ∙ not-false b y in
+    let k : sizesb (tableOf (openCounts n) gu ug sg gs a r) ≡ true = yes-of e y in
     let z = lengths n gu ug sg gs a r k in
     record {
       answer = rw k;

@@ -28,7 +28,8 @@ same-length-2 : tie.Need-same-length-2
 same-length-2 c = search needs
 
 returns-2 : tie.Need-returns-2
-returns-2 c = assign-8 _ _ _ (c .before .before .before .before .is-sound .ensures) _ (c .before .before .before .if1 .left) (global-word _ _ (sym (c .enum-told2 .given .1) ∙ (c .before .before .holder .ensures)))
+returns-2 c =
+    assign-8 _ _ _ (c .before .before .before .before .is-sound .ensures) _ (c .before .before .before .if1 .left) (global-word _ _ (sym (c .enum-told2 .given .1) ∙ (c .before .before .holder .ensures)))
 
 cast-s : tie.Need-cast-s
 cast-s c = search needs
@@ -37,13 +38,15 @@ mul-if2 : tie.Need-mul-if2
 mul-if2 c = search needs
 
 slice-read-if2 : tie.Need-slice-read-if2
-slice-read-if2 c = held _ _ _ _ (c .before .before .before .before .before .is-sound .ensures) (c .before .before .before .before .if1 .left) (global-word _ _ (sym (c .before .enum-told .given .1) ∙ (c .before .before .before .holder .ensures))) .assignment
+slice-read-if2 c =
+    held _ _ _ _ (c .before .before .before .before .before .is-sound .ensures) (c .before .before .before .before .if1 .left) (global-word _ _ (sym (c .before .enum-told .given .1) ∙ (c .before .before .before .holder .ensures))) .assignment
 
 same-length-3 : tie.Need-same-length-3
 same-length-3 c = search needs
 
 returns-3 : tie.Need-returns-3
-returns-3 c = assign-9 _ _ _ (c .before .before .before .before .before .before .is-sound .ensures) _ _ (c .before .before .before .before .before .if1 .left) (global-word _ _ (sym (c .before .before .enum-told .given .1) ∙ (c .before .before .before .before .holder .ensures))) (c .if2 .taken)
+returns-3 c =
+    assign-9 _ _ _ (c .before .before .before .before .before .before .is-sound .ensures) _ _ (c .before .before .before .before .before .if1 .left) (global-word _ _ (sym (c .before .before .enum-told .given .1) ∙ (c .before .before .before .before .holder .ensures))) (c .if2 .taken)
 
 sub-assignment : tie.Need-sub-assignment
 sub-assignment c = search needs
@@ -52,14 +55,16 @@ mul-assignment : tie.Need-mul-assignment
 mul-assignment c = search needs
 
 slice-write-assignment : tie.Need-slice-write-assignment
-slice-write-assignment c = held _ _ _ _ (c .before .before .before .before .before .before .is-sound .ensures) (c .before .before .before .before .before .if1 .left) (global-word _ _ (sym (c .before .before .enum-told .given .1) ∙ (c .before .before .before .before .holder .ensures))) .assignment
+slice-write-assignment c =
+    held _ _ _ _ (c .before .before .before .before .before .before .is-sound .ensures) (c .before .before .before .before .before .if1 .left) (global-word _ _ (sym (c .before .before .enum-told .given .1) ∙ (c .before .before .before .before .holder .ensures))) .assignment
 
 same-length-4 : tie.Need-same-length-4
 same-length-4 c = search needs
 
 returns-4 : tie.Need-returns-4
 unfolding putValue
-returns-4 c = assign-done _ _ _ (c .before .before .before .before .before .before .is-sound .ensures) _ _ (c .before .before .before .before .before .if1 .left) (global-word _ _ (sym (c .before .before .enum-told .given .1) ∙ (c .before .before .before .before .holder .ensures))) (c .if2 .left)
+returns-4 c =
+    assign-done _ _ _ (c .before .before .before .before .before .before .is-sound .ensures) _ _ (c .before .before .before .before .before .if1 .left) (global-word _ _ (sym (c .before .before .enum-told .given .1) ∙ (c .before .before .before .before .holder .ensures))) (c .if2 .left)
 
 pub assign-lit-spec : {M : Type 1} → statement M
 assign-lit-spec =

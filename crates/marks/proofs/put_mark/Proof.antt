@@ -26,7 +26,8 @@ same-length : tie.Need-same-length
 same-length c = search needs
 
 returns : tie.Need-returns
-returns c = ap (set (c .before .before .before .before .args .records .now) (c .before .before .before .before .args .global .0)) (c .marked-record .ensures)
+returns c =
+    ap (set (c .before .before .before .before .args .records .now) (c .before .before .before .before .args .global .0)) (c .marked-record .ensures)
 
 pub put-mark-spec : {M : Type 1} → statement M
 put-mark-spec =

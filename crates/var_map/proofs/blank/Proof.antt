@@ -1,7 +1,6 @@
-use lib.ListN.{length-set}
+use lib.ListN.{length-set, length}
 use Rattle.var_map.proofs.OpenLaws.{Blanked, blank-start, blank-step, blank-end}
 use native.Mathlib.Omega.{arith}
-use lib.ListN.{length}
 use Prim.Native.Nat.{_-_}
 use borrow.Author.Needs.{needs}
 use Rattle.var_map.proofs.blank.Statement.{statement}

@@ -13,14 +13,16 @@ returns c = refused-1 _ _ _ _ (c .before .is-sound .ensures) (c .if1 .taken)
 
 returns-2 : tie.Need-returns-2
 unfolding assignmentWordOf
-returns-2 c = told _ _ _ _ _ (c .before .before .before .before .is-sound .ensures) (c .before .before .before .if1 .left) (no-word _ _ _ (c .if2 .taken))
+returns-2 c =
+    told _ _ _ _ _ (c .before .before .before .before .is-sound .ensures) (c .before .before .before .if1 .left) (no-word _ _ _ (c .if2 .taken))
 
 word-at-requires : tie.Need-word-at-requires
 word-at-requires c κs = search needs
 
 returns-3 : tie.Need-returns-3
 unfolding assignmentWordOf
-returns-3 c = told _ _ _ _ _ (c .before .before .before .before .before .is-sound .ensures) (c .before .before .before .before .if1 .left) (a-word _ _ _ _ (c .before .if2 .left) (c .word-at .ensures))
+returns-3 c =
+    told _ _ _ _ _ (c .before .before .before .before .before .is-sound .ensures) (c .before .before .before .before .if1 .left) (a-word _ _ _ _ (c .before .if2 .left) (c .word-at .ensures))
 
 pub get-assignment-spec : {M : Type 1} → statement M
 get-assignment-spec =

@@ -15,7 +15,8 @@ returns c = refused-1 _ _ _ _ (c .before .is-sound .ensures) (c .if1 .taken)
 
 returns-2 : tie.Need-returns-2
 unfolding globalFromUserOf
-returns-2 c = told _ _ _ _ _ (c .before .before .before .before .is-sound .ensures) (c .before .before .before .if1 .left) (beyond _ _ _ (c .if2 .taken))
+returns-2 c =
+    told _ _ _ _ _ (c .before .before .before .before .is-sound .ensures) (c .before .before .before .if1 .left) (beyond _ _ _ (c .if2 .taken))
 
 global-of-requires : tie.Need-global-of-requires
 global-of-requires c κs = search needs
@@ -28,11 +29,13 @@ enum-told c = search needs
 
 returns-3 : tie.Need-returns-3
 unfolding globalFromUserOf
-returns-3 c = told _ _ _ _ _ (c .before .before .before .before .before .before .before .is-sound .ensures) (c .before .before .before .before .before .before .if1 .left) (none _ _ _ (c .before .before .before .if2 .left) (global-word _ _ (sym (c .enum-told .given .1) ∙ (c .before .before .global-of .ensures))))
+returns-3 c =
+    told _ _ _ _ _ (c .before .before .before .before .before .before .before .is-sound .ensures) (c .before .before .before .before .before .before .if1 .left) (none _ _ _ (c .before .before .before .if2 .left) (global-word _ _ (sym (c .enum-told .given .1) ∙ (c .before .before .global-of .ensures))))
 
 returns-4 : tie.Need-returns-4
 unfolding globalFromUserOf
-returns-4 c = told _ _ _ _ _ (c .before .before .before .before .before .before .before .before .is-sound .ensures) (c .before .before .before .before .before .before .before .if1 .left) (one _ _ _ _ (c .before .before .before .before .if2 .left) (global-word _ _ (sym (c .before .found .given .1) ∙ (c .before .before .before .global-of .ensures))))
+returns-4 c =
+    told _ _ _ _ _ (c .before .before .before .before .before .before .before .before .is-sound .ensures) (c .before .before .before .before .before .before .before .if1 .left) (one _ _ _ _ (c .before .before .before .before .if2 .left) (global-word _ _ (sym (c .before .found .given .1) ∙ (c .before .before .before .global-of .ensures))))
 
 pub get-global-from-user-spec : {M : Type 1} → statement M
 get-global-from-user-spec =

@@ -30,7 +30,8 @@ loop-less : tie.Need-loop-less Inv-loop μ-loop
 loop-less c = search needs
 
 loop-again : tie.Need-loop-again Inv-loop μ-loop
-loop-again c = (omega arith, omega arith, tail-step _ _ _ _ _ ((c .before .before .loop .inv .0)) ((c .before .loop-test .taken)) ((c .before .before .loop .inv .2)))
+loop-again c =
+    (omega arith, omega arith, tail-step _ _ _ _ _ ((c .before .before .loop .inv .0)) ((c .before .loop-test .taken)) ((c .before .before .loop .inv .2)))
 
 returns : tie.Need-returns Inv-loop μ-loop
 returns c = tail-end _ _ _ _ _ ((c .before .loop .inv .2)) (omega arith)

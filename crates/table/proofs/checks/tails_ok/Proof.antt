@@ -5,22 +5,34 @@ use Rattle.table.proofs.checks.tails_ok.Statement.{statement}
 use Rattle.table.proofs.checks.tails_ok.Tie as tie
 
 tail-ok-requires : tie.Need-tail-ok-requires
-tail-ok-requires c κs = let s = sizes-is _ (c .before .before .before .before .before .before .pre .0) (c .before .before .before .before .before .before .pre .1) in omega arith
+tail-ok-requires c κs =
+    let s = sizes-is _ (c .before .before .before .before .before .before .pre .0) (c .before .before .before .before .before .before .pre .1) in
+    omega arith
 
 tail-ok-requires-2 : tie.Need-tail-ok-requires-2
-tail-ok-requires-2 c κs = let s = sizes-is _ (c .before .before .before .before .before .before .before .pre .0) (c .before .before .before .before .before .before .before .pre .1) in omega arith
+tail-ok-requires-2 c κs =
+    let s = sizes-is _ (c .before .before .before .before .before .before .before .pre .0) (c .before .before .before .before .before .before .before .pre .1) in
+    omega arith
 
 tail-ok-requires-3 : tie.Need-tail-ok-requires-3
-tail-ok-requires-3 c κs = let s = sizes-is _ (c .before .before .before .before .before .before .before .before .pre .0) (c .before .before .before .before .before .before .before .before .pre .1) in omega arith
+tail-ok-requires-3 c κs =
+    let s = sizes-is _ (c .before .before .before .before .before .before .before .before .pre .0) (c .before .before .before .before .before .before .before .before .pre .1) in
+    omega arith
 
 tail-ok-requires-4 : tie.Need-tail-ok-requires-4
-tail-ok-requires-4 c κs = let s = sizes-is _ (c .before .before .before .before .before .before .before .before .before .pre .0) (c .before .before .before .before .before .before .before .before .before .pre .1) in omega arith
+tail-ok-requires-4 c κs =
+    let s = sizes-is _ (c .before .before .before .before .before .before .before .before .before .pre .0) (c .before .before .before .before .before .before .before .before .before .pre .1) in
+    omega arith
 
 tail-ok-requires-5 : tie.Need-tail-ok-requires-5
-tail-ok-requires-5 c κs = let s = sizes-is _ (c .before .before .before .before .before .before .before .before .before .before .pre .0) (c .before .before .before .before .before .before .before .before .before .before .pre .1) in omega arith
+tail-ok-requires-5 c κs =
+    let s = sizes-is _ (c .before .before .before .before .before .before .before .before .before .before .pre .0) (c .before .before .before .before .before .before .before .before .before .before .pre .1) in
+    omega arith
 
 tail-ok-requires-6 : tie.Need-tail-ok-requires-6
-tail-ok-requires-6 c κs = let s = sizes-is _ (c .before .before .before .before .before .before .before .before .before .before .before .pre .0) (c .before .before .before .before .before .before .before .before .before .before .before .pre .1) in omega arith
+tail-ok-requires-6 c κs =
+    let s = sizes-is _ (c .before .before .before .before .before .before .before .before .before .before .before .pre .0) (c .before .before .before .before .before .before .before .before .before .before .before .pre .1) in
+    omega arith
 
 returns : tie.Need-returns
 unfolding tailsb

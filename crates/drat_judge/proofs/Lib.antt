@@ -1,0 +1,6 @@
+pub mod NextLaws
+pub mod JudgedLaws
+pub mod TallyLaws
+pub mod RunsLaws
+pub mod CountsLaws
+pub mod WholeLaws

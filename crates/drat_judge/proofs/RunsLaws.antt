@@ -1,0 +1,95 @@
+-- The judging and the counts at a place of the input, as the loops meet them.
+use Prim.Native.Nat.{ℕ, suc, _+_, _-_, _≤_, _<_}
+use mathlib.Core.Bool.{Bool, true, false, _&&_}
+use mathlib.Core.List.{List, [], _∷_}
+use mathlib.Core.Path.{_≡_, refl, sym, ap, ap₂, _∙_}
+use lib.Dec.{eqb, ltb, leb·suc-suc}
+use lib.ListN.{length, getD, drop, drop-of-length-le}
+use native.Mathlib.Numerals.{add-one}
+use native.Mathlib.Omega.{arith}
+use borrow.Author.Tests.{lt-ltb, le-ltb}
+use Rattle.base.specs.Choice.{pick}
+use Rattle.drat.proofs.Steps.{next}
+use Rattle.drat.specs.declared.Format.the-variants.{Text, Binary}
+use Rattle.drat.specs.declared.Format.{Format}
+use Rattle.drat_judge.specs.Local.{mark, within, textNext, binaryNext, mayFollow, runs, back, runsAt, tally}
+
+back-suc : (f : Format) (s : List ℕ) (i k : ℕ) → back f s (i + 1) (k + 1) ≡ back f s i k
+back-suc f s i k =
+    let e : i + 1 - (k + 1) ≡ i - k = omega arith in
+    let h : ltb (i + 1) (k + 1) ≡ ltb i k = rw (add-one, add-one) (leb·suc-suc (suc i) k) in
+    ap₂ (λ (t : Bool) (j : ℕ). pick t (mark f) (getD s j 0)) h e
+
+pub back-at : (f : Format) (s : List ℕ) (i k : ℕ) → k ≤ i → back f s i k ≡ getD s (i - k) 0
+back-at f s i k h = ap (λ (t : Bool). pick t (mark f) (getD s (i - k) 0)) (le-ltb i k h)
+
+pub back-before : (f : Format) (s : List ℕ) (i k : ℕ) → i < k → back f s i k ≡ mark f
+back-before f s i k h = ap (λ (t : Bool). pick t (mark f) (getD s (i - k) 0)) (lt-ltb i k h)
+
+back-one : (f : Format) (s : List ℕ) (i : ℕ) → back f s (i + 1) 1 ≡ getD s i 0
+back-one f s i = let e : i + 1 - 1 ≡ i = omega arith in back-at f s (i + 1) 1 (omega arith) ∙ ap (λ (j : ℕ). getD s j 0) e
+
+module _ (f : Format) (s : List ℕ) where
+  -- one byte more
+  pub runs-next : (i : ℕ) → i < length s → runsAt f s i ≡ mayFollow f (back f s i 4) (back f s i 3) (back f s i 2) (back f s i 1) (getD s i 0) && runsAt f s (i + 1)
+  unfolding runs
+  runs-next i h =
+      ap (runs f (back f s i 4) (back f s i 3) (back f s i 2) (back f s i 1)) (next s i h)
+      ∙ ap (λ (t : Bool). mayFollow f (back f s i 4) (back f s i 3) (back f s i 2) (back f s i 1) (getD s i 0) && t) (sym here)
+    where
+      here : runsAt f s (i + 1) ≡ runs f (back f s i 3) (back f s i 2) (back f s i 1) (getD s i 0) (drop (i + 1) s)
+      here =
+          ap₂ (λ (x y : ℕ). runs f x y (back f s (i + 1) 2) (back f s (i + 1) 1) (drop (i + 1) s)) (back-suc f s i 3) (back-suc f s i 2)
+          ∙ ap₂ (λ (x y : ℕ). runs f (back f s i 3) (back f s i 2) x y (drop (i + 1) s)) (back-suc f s i 1) (back-one f s i)
+
+  pub runs-done : (i : ℕ) → length s ≤ i → runsAt f s i ≡ eqb (back f s i 1) (mark f)
+  unfolding runs
+  runs-done i h = ap (runs f (back f s i 4) (back f s i 3) (back f s i 2) (back f s i 1)) (drop-of-length-le s h)
+
+  -- a turn of a loop that has `ok` for the bytes before place i
+  pub runs-turn : (j : Bool) (i : ℕ) → i < length s → (ok : Bool) → ok && runsAt f s i ≡ j → (ok && mayFollow f (back f s i 4) (back f s i 3) (back f s i 2) (back f s i 1) (getD s i 0)) && runsAt f s (i + 1) ≡ j
+  runs-turn j i h ok e = and-assoc ok (mayFollow f (back f s i 4) (back f s i 3) (back f s i 2) (back f s i 1) (getD s i 0)) (runsAt f s (i + 1)) ∙ ap (λ (t : Bool). ok && t) (sym (runs-next i h)) ∙ e
+    where
+      and-assoc : (x y z : Bool) → (x && y) && z ≡ x && (y && z)
+      and-assoc true y z = refl
+      and-assoc false y z = refl
+
+pub head-turn : (f : Format) (s : List ℕ) (j : Bool) (i a b c p : ℕ) → i < length s → (ok r : Bool) → ok && runsAt f s i ≡ j → a ≡ back f s i 4 → b ≡ back f s i 3 → c ≡ back f s i 2 → p ≡ back f s i 1 → r ≡ mayFollow f a b c p (getD s i 0) → (ok && r) && runsAt f s (i + 1) ≡ j
+head-turn f s j i a b c p h ok r e ea eb ec ep q =
+    ap (λ (t : Bool). (ok && t) && runsAt f s (i + 1)) (q ∙ ap₂ (λ (x y : ℕ). mayFollow f x y c p (getD s i 0)) ea eb ∙ ap₂ (λ (x y : ℕ). mayFollow f (back f s i 4) (back f s i 3) x y (getD s i 0)) ec ep)
+    ∙ runs-turn f s j i h ok e
+
+-- the same where the bytes before stand in the input
+pub text-turn : (s : List ℕ) (j : Bool) (i : ℕ) → i < length s → 4 ≤ i → (ok r : Bool) → ok && runsAt Text s i ≡ j → r ≡ textNext (getD s (i - 4) 0) (getD s (i - 3) 0) (getD s (i - 2) 0) (getD s (i - 1) 0) (getD s i 0) → (ok && r) && runsAt Text s (i + 1) ≡ j
+text-turn s j i h k ok r e q =
+    ap (λ (t : Bool). (ok && t) && runsAt Text s (i + 1)) (q ∙ sym (here (getD s i 0))) ∙ runs-turn Text s j i h ok e
+  where
+    here : (x : ℕ) → textNext (back Text s i 4) (back Text s i 3) (back Text s i 2) (back Text s i 1) x ≡ textNext (getD s (i - 4) 0) (getD s (i - 3) 0) (getD s (i - 2) 0) (getD s (i - 1) 0) x
+    here x =
+        ap₂ (λ (a b : ℕ). textNext a b (back Text s i 2) (back Text s i 1) x) (back-at Text s i 4 k) (back-at Text s i 3 (omega arith))
+        ∙ ap₂ (λ (c p : ℕ). textNext (getD s (i - 4) 0) (getD s (i - 3) 0) c p x) (back-at Text s i 2 (omega arith)) (back-at Text s i 1 (omega arith))
+
+pub binary-turn : (s : List ℕ) (j : Bool) (i : ℕ) → i < length s → 1 ≤ i → (ok r : Bool) → ok && runsAt Binary s i ≡ j → r ≡ binaryNext (getD s (i - 1) 0) (getD s i 0) → (ok && r) && runsAt Binary s (i + 1) ≡ j
+binary-turn s j i h k ok r e q =
+    ap (λ (t : Bool). (ok && t) && runsAt Binary s (i + 1)) (q ∙ ap (λ (p : ℕ). binaryNext p (getD s i 0)) (sym (back-at Binary s i 1 k))) ∙ runs-turn Binary s j i h ok e
+
+pub runs-out : (f : Format) (s : List ℕ) (j : Bool) (i : ℕ) → length s ≤ i → 1 ≤ i → (ok : Bool) → ok && runsAt f s i ≡ j → ok && eqb (getD s (i - 1) 0) (mark f) ≡ j
+runs-out f s j i h k ok e =
+    ap (λ (p : ℕ). ok && eqb p (mark f)) (sym (back-at f s i 1 k)) ∙ ap (λ (t : Bool). ok && t) (sym (runs-done f s i h)) ∙ e
+
+pub tally-next : (lo hi : ℕ) (s : List ℕ) (i : ℕ) → i < length s → tally lo hi (drop i s) ≡ pick (within lo hi (getD s i 0)) 1 0 + tally lo hi (drop (i + 1) s)
+unfolding tally
+tally-next lo hi s i h = ap (tally lo hi) (next s i h)
+
+pub tally-done : (lo hi : ℕ) (s : List ℕ) (i : ℕ) → length s ≤ i → tally lo hi (drop i s) ≡ 0
+unfolding tally
+tally-done lo hi s i h = ap (tally lo hi) (drop-of-length-le s h)
+
+pub one-most : (t : Bool) → pick t 1 0 ≤ 1
+one-most true = omega arith
+one-most false = omega arith
+
+pub tally-most : (lo hi : ℕ) (l : List ℕ) → tally lo hi l ≤ length l
+unfolding tally
+tally-most lo hi [] = omega arith
+tally-most lo hi (x ∷ l) = let h = tally-most lo hi l in let k = one-most (within lo hi x) in omega arith

@@ -1,0 +1,4 @@
+pub mod LitLaws
+pub mod BodyLaws
+pub mod FillLaws
+pub mod ScanLaws

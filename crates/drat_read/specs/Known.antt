@@ -1,0 +1,46 @@
+-- What the fill is told of bytes that were judged whole, and what it says of a step's literals.
+use Prim.Native.Nat.{ℕ, _+_, _≤_}
+use mathlib.Core.Path.{_≡_}
+use mathlib.Core.List.{List}
+use lib.ListN.{length, drop}
+use lib.Seq.{sets}
+use Rattle.drat.specs.Grammar.{Step}
+use Rattle.drat.specs.Reading.{Part, whole, body, steps, readProof}
+use Rattle.drat.specs.Filled.{codesOf}
+use Rattle.drat.specs.declared.Format.{Format}
+use Rattle.drat.specs.declared.Token.{Token}
+use Rattle.drat.specs.declared.Token.the-variants.{Lit}
+
+-- All steps are whole, and slices of a, b and c words hold them.
+pub record Fits (f : Format) (s : List ℕ) (a b c : ℕ) : Type 0 where
+  pub ss : List Step
+  pub reads : readProof f s ≡ steps ss
+  pub codes-fit : length (codesOf ss) ≤ a
+  pub ends-fit : length ss ≤ b
+  pub kinds-fit : length ss ≤ c
+
+-- The literals and the end of a step from place i on.
+abbrev pub bodyFrom : Format → List ℕ → ℕ → Part
+bodyFrom f s i = body f (length s) i (drop i s)
+
+-- They are whole, and from word n on a slice of that many words holds them.
+pub record BodyFits (f : Format) (s : List ℕ) (i n words : ℕ) : Type 0 where
+  pub cs : List ℕ
+  pub end : ℕ
+  pub inside : i ≤ length s
+  pub low : n ≤ i
+  pub reads : bodyFrom f s i ≡ whole cs end
+  pub fits : n + length cs ≤ words
+
+-- They are filled from word n on, up to word m; j is the place after them.
+pub record BodyFilled (f : Format) (s : List ℕ) (i n : ℕ) (codes₀ codes : List ℕ) (j m : ℕ) : Type 0 where
+  pub cs : List ℕ
+  pub reads : bodyFrom f s i ≡ whole cs j
+  pub count : m ≡ n + length cs
+  pub held : codes ≡ sets codes₀ n cs
+
+-- A literal.
+pub record IsLit (t : Token) : Type 0 where
+  pub code : ℕ
+  pub next : ℕ
+  pub is : t ≡ Lit code next

@@ -1,0 +1,140 @@
+// The fill: the words of steps that were judged whole. It asks nothing of a byte that the judging has asked.
+use crate::place::kind_number;
+use crate::place::opening_at;
+use drat::Format;
+use drat::Opening;
+ghost use mathlib.Core.Path.{_≡_};
+ghost use Prim.Native.Nat.{_+_, _≤_};
+ghost use lib.Dec.{eqb};
+ghost use lib.ListN.{length, getD, drop};
+ghost use Rattle.base.specs.Choice.{pick};
+ghost use Rattle.base.specs.Lent.{old, new};
+ghost use Rattle.drat.specs.Reading.{decimalFrom, lebFrom, token, readProof};
+ghost use Rattle.drat.specs.Filled.{counted, Scan};
+ghost use Rattle.drat.specs.declared.Format.the-variants.{Text, Binary};
+ghost use Rattle.drat.specs.declared.Token.the-variants.{Lit};
+ghost use Rattle.drat_read.specs.Known.{Fits, BodyFits, BodyFilled, IsLit};
+
+// A literal's code and the place after it.
+struct Literal {
+    code: u32,
+    next: usize,
+}
+
+// The place after a step and the number of literals filled.
+struct Place {
+    at: usize,
+    n: usize,
+}
+
+fn minus(b: u8) -> u32
+    ensures { λ r. ⌜ (r ≡ pick (eqb b 45) 1 0) × (r ≤ 1) ⌝ }
+{
+    if b == 45 { 1 } else { 0 }
+}
+
+// The digits from a place on, and the blank after them.
+fn digits_at(s: &[u8], from: usize, sign: u32) -> Literal
+    requires { ⌜ sign ≤ 1 ⌝ }
+    requires { ⌜ IsLit (decimalFrom sign 0 from (drop from (now s))) ⌝ }
+    ensures { λ r. ⌜ decimalFrom sign 0 from (drop from (old s)) ≡ Lit (r .code) (r .next) ⌝ }
+{
+    let mut v: u32 = 0;
+    let mut i = from;
+    while s[i] != 32 {
+        v = 10 * v + (s[i] as u32 - 48);
+        i += 1;
+    }
+    Literal {
+        code: 2 * (v - 1) + sign,
+        next: i + 1,
+    }
+}
+
+fn number_at(s: &[u8], at: usize) -> Literal
+    requires { ⌜ (getD (now s) at 0 ≡ 48 → ⊥) ⌝ }
+    requires { ⌜ IsLit (token Text at (drop at (now s))) ⌝ }
+    ensures { λ r. ⌜ token Text at (drop at (old s)) ≡ Lit (r .code) (r .next) ⌝ }
+{
+    let sign = minus(s[at]);
+    digits_at(s, at + sign as usize, sign)
+}
+
+fn code_at(s: &[u8], at: usize) -> Literal
+    requires { ⌜ (getD (now s) at 0 ≡ 0 → ⊥) ⌝ }
+    requires { ⌜ IsLit (token Binary at (drop at (now s))) ⌝ }
+    ensures { λ r. ⌜ token Binary at (drop at (old s)) ≡ Lit (r .code) (r .next) ⌝ }
+{
+    let b = s[at] as u32;
+    if b < 128 {
+        return Literal {
+            code: b - 2,
+            next: at + 1,
+        };
+    }
+    Literal {
+        code: 128 * (s[at + 1] as u32) + b - 130,
+        next: at + 2,
+    }
+}
+
+fn numbers_from(s: &[u8], codes: &mut [u32], from: usize, first: usize) -> Place
+    requires { ⌜ BodyFits Text (now s) from first (length (now codes)) ⌝ }
+    ensures { λ r. ⌜ BodyFilled Text (old s) from first (old codes) (new codes) (r .at) (r .n) ⌝ }
+{
+    let mut at = from;
+    let mut n = first;
+    while s[at] != 48 {
+        let w = number_at(s, at);
+        codes[n] = w.code;
+        n += 1;
+        at = w.next;
+    }
+    Place { at: at + 2, n }
+}
+
+fn codes_from(s: &[u8], codes: &mut [u32], from: usize, first: usize) -> Place
+    requires { ⌜ BodyFits Binary (now s) from first (length (now codes)) ⌝ }
+    ensures { λ r. ⌜ BodyFilled Binary (old s) from first (old codes) (new codes) (r .at) (r .n) ⌝ }
+{
+    let mut at = from;
+    let mut n = first;
+    while s[at] != 0 {
+        let w = code_at(s, at);
+        codes[n] = w.code;
+        n += 1;
+        at = w.next;
+    }
+    Place { at: at + 1, n }
+}
+
+fn body_from(f: Format, s: &[u8], codes: &mut [u32], from: usize, first: usize) -> Place
+    requires { ⌜ BodyFits f (now s) from first (length (now codes)) ⌝ }
+    ensures { λ r. ⌜ BodyFilled f (old s) from first (old codes) (new codes) (r .at) (r .n) ⌝ }
+{
+    match f {
+        Format::Text => numbers_from(s, codes, from, first),
+        Format::Binary => codes_from(s, codes, from, first),
+    }
+}
+
+// Fills all steps. Where they are whole every step opens.
+pub(crate) fn fill(f: Format, s: &[u8], codes: &mut [u32], ends: &mut [u64], kinds: &mut [u8])
+    requires { ⌜ Fits f (now s) (length (now codes)) (length (now ends)) (length (now kinds)) ⌝ }
+    ensures { λ _. ⌜ Scan f (old s) (old codes) (old ends) (old kinds) (new codes) (new ends) (new kinds) (counted (readProof f (old s))) ⌝ }
+{
+    let mut at: usize = 0;
+    let mut n: usize = 0;
+    let mut m: usize = 0;
+    while at < s.len() {
+        let Opening::Opens(k, first) = opening_at(f, s, at) else {
+            return;
+        };
+        let p = body_from(f, s, codes, first, n);
+        n = p.n;
+        at = p.at;
+        ends[m] = n as u64;
+        kinds[m] = kind_number(k);
+        m += 1;
+    }
+}

@@ -1,0 +1,154 @@
+// What stands at a place of the input: a literal, a step's end, how a step opens.
+use drat::Format;
+use drat::Kind;
+use drat::Opening;
+use drat::Token;
+ghost use mathlib.Core.Path.{_≡_};
+ghost use Prim.Native.Nat.{_≤_};
+ghost use lib.ListN.{drop};
+ghost use Rattle.base.specs.Lent.{old};
+ghost use Rattle.drat.specs.Filled.{kindNumber};
+ghost use Rattle.drat.specs.Reading.{decimalFrom, lebFrom, token, opening};
+
+// Decimal digits from a place on.
+fn decimal_at(s: &[u8], at: usize, sign: u32) -> Token
+    requires { ⌜ sign ≤ 1 ⌝ }
+    ensures { λ r. ⌜ r ≡ decimalFrom sign 0 at (drop at (old s)) ⌝ }
+{
+    let mut v: u32 = 0;
+    let mut i = at;
+    while i < s.len() {
+        let b = s[i] as u32;
+        if b == 32 {
+            if v == 0 {
+                return Token::Bad;
+            }
+            return Token::Lit(2 * (v - 1) + sign, i + 1);
+        }
+        if b < 48 {
+            return Token::Bad;
+        }
+        if 57 < b {
+            return Token::Bad;
+        }
+        let w = 10 * v + (b - 48);
+        if w == 0 {
+            return Token::Bad;
+        }
+        if 4096 < w {
+            return Token::Bad;
+        }
+        v = w;
+        i += 1;
+    }
+    Token::Bad
+}
+
+// LEB128 bytes from a place on.
+fn leb_at(s: &[u8], at: usize) -> Token
+    ensures { λ r. ⌜ r ≡ lebFrom 0 1 at (drop at (old s)) ⌝ }
+{
+    let mut v: u32 = 0;
+    let mut w: u32 = 1;
+    let mut i = at;
+    while i < s.len() {
+        let b = s[i] as u32;
+        if b < 128 {
+            if b == 0 {
+                return Token::Bad;
+            }
+            let n = v + w * b;
+            if n < 2 {
+                return Token::Bad;
+            }
+            if 8193 < n {
+                return Token::Bad;
+            }
+            return Token::Lit(n - 2, i + 1);
+        }
+        if 64 < w {
+            return Token::Bad;
+        }
+        v = v + w * (b - 128);
+        w = w * 128;
+        i += 1;
+    }
+    Token::Bad
+}
+
+// What stands at a place inside a step.
+pub(crate) fn token_at(f: Format, s: &[u8], at: usize) -> Token
+    ensures { λ r. ⌜ r ≡ token f at (drop at (old s)) ⌝ }
+{
+    if s.len() <= at {
+        return Token::Bad;
+    }
+    let b = s[at];
+    match f {
+        Format::Text => {
+            if b == 48 {
+                let j = at + 1;
+                if s.len() <= j {
+                    return Token::Bad;
+                }
+                if s[j] == 10 {
+                    return Token::Stop(j + 1);
+                }
+                return Token::Bad;
+            }
+            if b == 45 {
+                return decimal_at(s, at + 1, 1);
+            }
+            decimal_at(s, at, 0)
+        }
+        Format::Binary => {
+            if b == 0 {
+                return Token::Stop(at + 1);
+            }
+            leb_at(s, at)
+        }
+    }
+}
+
+// How the step at a place opens.
+pub(crate) fn opening_at(f: Format, s: &[u8], at: usize) -> Opening
+    ensures { λ r. ⌜ r ≡ opening f at (drop at (old s)) ⌝ }
+{
+    if s.len() <= at {
+        return Opening::Wrong;
+    }
+    let b = s[at];
+    match f {
+        Format::Text => {
+            if b == 100 {
+                let j = at + 1;
+                if s.len() <= j {
+                    return Opening::Wrong;
+                }
+                if s[j] == 32 {
+                    return Opening::Opens(Kind::Delete, j + 1);
+                }
+                return Opening::Wrong;
+            }
+            Opening::Opens(Kind::Add, at)
+        }
+        Format::Binary => {
+            if b == 97 {
+                return Opening::Opens(Kind::Add, at + 1);
+            }
+            if b == 100 {
+                return Opening::Opens(Kind::Delete, at + 1);
+            }
+            Opening::Wrong
+        }
+    }
+}
+
+pub(crate) fn kind_number(k: Kind) -> u8
+    ensures { λ r. ⌜ r ≡ kindNumber k ⌝ }
+{
+    match k {
+        Kind::Add => 0,
+        Kind::Delete => 1,
+    }
+}

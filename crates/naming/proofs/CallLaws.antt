@@ -1,0 +1,277 @@
+-- Laws of the calls Map and New user: refusals, and what an accepted call does.
+use Prim.Native.Nat.{ℕ, zero, suc, _+_, _-_, _*_, _/_, _^_, _≤_, _<_}
+use mathlib.Core.Path.{_≡_, refl, sym, ap, _∙_, subst}
+use mathlib.Core.Bool.{Bool, true, false, _&&_, not}
+use mathlib.Core.List.{List, [], _∷_, _++_}
+use mathlib.Core.Logic.{⊎-elim}
+use native.Mathlib.Omega.{arith}
+use lib.Dec.{eqb, ltb, leb}
+use lib.ListN.{length, getD}
+use borrow.Author.Tests.{lt-ltb, le-ltb, le-leb, lt-leb, leb-false, ltb-false, not-false}
+use Rattle.base.specs.Answer.{Answer, accepted, refused, numberOf, valuesOf}
+use Rattle.base.specs.Bounded.{count}
+use Rattle.base.proofs.Truth.{same}
+use Rattle.base.proofs.CountLaws.{count-most}
+use Rattle.scope.specs.declared.Counts.{Counts}
+use Rattle.scope.specs.declared.Global.{Global}
+use Rattle.scope.specs.declared.User.{User}
+use Rattle.scope.specs.Table.{Table, word}
+use Rattle.scope.specs.Sound.{Sizes, Sound, soundb}
+use Rattle.scope.specs.Outcome.{Result, giving, short, noting}
+use Rattle.scope.specs.Map.{leastFree, mapUser, nextUser, newUser, undeleted, toMap, unsampled, mapRefusal, mapOf, newUserRefusal, newUserOf}
+use Rattle.scope.specs.Contract.{Said, Does}
+use Rattle.scope.proofs.SoundLaws.{sound-of}
+use Rattle.scope.proofs.MapLaws.{map-user-count, mapped-global, next-user-to-map, next-user-within, to-map-free, to-map-has}
+use Rattle.inner.specs.Leaves.{Leaves}
+use Rattle.inner.proofs.LeavesLaws.{leaves-giving, does-refused, does-noting, no-refusal}
+use Rattle.naming.specs.declared.UserMapped.{UserMapped}
+use Rattle.naming.specs.declared.UserMapped.the-variants as Map
+use Rattle.naming.specs.declared.NewUser.{NewUser}
+use Rattle.naming.specs.declared.NewUser.the-variants as New
+use Rattle.naming.specs.Maps.{alive, isUnsampled, Inside, MapAsks, userMapped, newUserMapped}
+
+-- ---- the parts over lists are those of the table
+
+pub undeleted-is : (t : Table) (n : ℕ) → soundb t ≡ true → n ≡ count (length (t .records)) (alive (t .records)) → n ≡ undeleted t
+unfolding undeleted alive
+undeleted-is t n y e = e ∙ ap (λ (k : ℕ). count k (λ g. ltb (getD (t .records) g 47) 36)) (sound-of t y .sizes .records)
+
+pub to-map-is : (t : Table) (u n : ℕ) → n ≡ word (u - t .counts .user + 1) (λ g. 0) (getD (t .globalFromUser) u 0) → n ≡ toMap t u
+unfolding toMap
+to-map-is t u n e = e
+
+unsampled-is : (t : Table) (u : ℕ) → isUnsampled (t .globalFromUser) (t .records) u ≡ unsampled t u
+unfolding isUnsampled unsampled
+unsampled-is t u = refl
+
+pub inside : (t : Table) → soundb t ≡ true → Inside (t .globalFromUser) (length (t .records))
+inside t y = record { at = λ i. go i (getD (t .globalFromUser) i 0) refl }
+  where
+    go : (i w : ℕ) → getD (t .globalFromUser) i 0 ≡ w → getD (t .globalFromUser) i 0 ≤ length (t .records)
+    go i zero e = omega arith
+    go i (suc g) e =
+        let z = sound-of t y .sizes in
+        let q : getD (t .globalFromUser) i 0 ≡ g + 1 = omega arith in
+        let m = mapped-global t i g (sound-of t y) q .1 in
+        omega arith
+
+-- ---- the numbers are small
+
+pub records-small : (t : Table) → soundb t ≡ true → length (t .records) ≤ 4096
+records-small t y = let z = sound-of t y .sizes in omega arith
+
+pub user-small : (t : Table) (u : ℕ) → soundb t ≡ true → u < t .counts .capacity → u < 4096
+user-small t u y l = let z = sound-of t y .sizes in omega arith
+
+pub undeleted-most : (t : Table) → undeleted t ≤ t .counts .capacity
+unfolding undeleted
+undeleted-most t = count-most (t .counts .capacity) _
+
+pub used-small : (t : Table) (used : ℕ) → soundb t ≡ true → used ≡ count (length (t .records)) (alive (t .records)) → used ≤ 4096
+used-small t used y e =
+    let z = sound-of t y .sizes in
+    let a = undeleted-is t used y e in
+    let c = undeleted-most t in
+    omega arith
+
+to-map-most : (t : Table) (u : ℕ) → toMap t u ≤ u + 1
+unfolding toMap word
+to-map-most t u = go (getD (t .globalFromUser) u 0)
+  where
+    go : (w : ℕ) → word (u - t .counts .user + 1) (λ g. 0) w ≤ u + 1
+    go zero = omega arith
+    go (suc g) = omega arith
+
+-- what the counting gave
+pub record Counted (t : Table) (u used n : ℕ) : Type 0 where
+  pub sizes : Sizes t
+  pub used-is : used ≡ undeleted t
+  pub n-is : n ≡ toMap t u
+  pub used-most : used ≤ 4096
+  pub n-most : n ≤ u + 1
+
+pub counted : (t : Table) (u used n : ℕ) → soundb t ≡ true → used ≡ count (length (t .records)) (alive (t .records))
+    → n ≡ word (u - t .counts .user + 1) (λ g. 0) (getD (t .globalFromUser) u 0) → Counted t u used n
+counted t u used n y e q =
+    let z = sound-of t y .sizes in
+    let b = to-map-is t u n q in
+    let d = to-map-most t u in
+    record { sizes = z; used-is = undeleted-is t used y e; n-is = b; used-most = used-small t used y e; n-most = omega arith }
+
+-- ---- refusals of Map
+
+module _ (t : Table) (u : ℕ) (sampling : Bool) (room : ℕ) where
+  pub map-1 : soundb t ≡ false → 1 ≡ mapRefusal t u sampling room
+  unfolding mapRefusal
+  map-1 n = rw n
+
+  module _ (y : soundb t ≡ true) where
+    pub map-3 : t .counts .capacity ≤ u → 3 ≡ mapRefusal t u sampling room
+    unfolding mapRefusal
+    map-3 l = rw (y, le-leb (t .counts .capacity) u l)
+
+    module _ (l : u < t .counts .capacity) where
+      pub map-4 : (b : Bool) → b ≡ isUnsampled (t .globalFromUser) (t .records) u → sampling && b ≡ true → 4 ≡ mapRefusal t u sampling room
+      unfolding mapRefusal
+      map-4 b q e =
+          let s : sampling && unsampled t u ≡ true = rw (← unsampled-is t u, ← q) e in
+          rw (y, lt-leb (t .counts .capacity) u l, s)
+
+      module _ (b : Bool) (q : b ≡ isUnsampled (t .globalFromUser) (t .records) u) (e : sampling && b ≡ false) (used n : ℕ) (k : Counted t u used n) where
+        sampled : sampling && unsampled t u ≡ false
+        sampled = rw (← unsampled-is t u, ← q) e
+
+        pub map-5 : t .counts .capacity < used + n → 5 ≡ mapRefusal t u sampling room
+        unfolding mapRefusal
+        map-5 h =
+            let a = k .used-is in
+            let c = k .n-is in
+            let f : ltb (t .counts .capacity) (undeleted t + toMap t u) ≡ true = lt-ltb _ _ (let x : t .counts .capacity < undeleted t + toMap t u = omega arith in x) in
+            rw (y, lt-leb (t .counts .capacity) u l, sampled, f)
+
+        module _ (h : used + n ≤ t .counts .capacity) where
+          enough : ltb (t .counts .capacity) (undeleted t + toMap t u) ≡ false
+          enough =
+              let a = k .used-is in
+              let c = k .n-is in
+              le-ltb _ _ (let x : undeleted t + toMap t u ≤ t .counts .capacity = omega arith in x)
+
+          words : length (mapUser u t .notes) ≡ n
+          words = map-user-count t u ∙ sym (k .n-is)
+
+          pub map-2 : room < 3 * n → 2 ≡ mapRefusal t u sampling room
+          unfolding mapRefusal
+          map-2 r = rw (y, lt-leb (t .counts .capacity) u l, sampled, enough, words, lt-ltb room (3 * n) r)
+
+          pub map-0 : 3 * n ≤ room → 0 ≡ mapRefusal t u sampling room
+          unfolding mapRefusal
+          map-0 r = rw (y, lt-leb (t .counts .capacity) u l, sampled, enough, words, le-ltb room (3 * n) r)
+
+-- no refusal is what the inner mapping asks
+pub map-asks : (t : Table) (u : ℕ) (sampling : Bool) (n room : ℕ) → n ≡ mapRefusal t u sampling room → n ≡ 0 → MapAsks t u 0 room
+unfolding mapRefusal
+map-asks t u sampling n room q e =
+    let a = no-refusal (not (soundb t)) 1 _ (λ z. omega arith) (sym q ∙ e) in
+    let b = no-refusal (leb (t .counts .capacity) u) 3 _ (λ z. omega arith) (a .1) in
+    let c = no-refusal (sampling && unsampled t u) 4 _ (λ z. omega arith) (b .1) in
+    let d = no-refusal (ltb (t .counts .capacity) (undeleted t + toMap t u)) 5 _ (λ z. omega arith) (c .1) in
+    let f = no-refusal (short room (mapUser u t .notes)) 2 0 (λ z. omega arith) (d .1) in
+    record {
+      sound = not-false (soundb t) (a .0);
+      within = leb-false (t .counts .capacity) u (b .0);
+      enough = ltb-false (t .counts .capacity) (undeleted t + toMap t u) (d .0);
+      words = let w = ltb-false room (3 * length (mapUser u t .notes)) (f .0) in let x = map-user-count t u in omega arith;
+    }
+
+-- the count of notes fits a word
+pub count-small : (t : Table) (u v at room : ℕ) (left : Table) (words words' : List ℕ) → MapAsks t u 0 room → Leaves (mapUser u t) 0 v at left words words' → at / 3 < 2 ^ 32
+count-small t u v at room left words words' h m =
+    let z = sound-of t (h .sound) .sizes in
+    let x = map-user-count t u in
+    let y = m .moved in
+    let r = h .enough in
+    omega arith
+
+pub map-refused : (t : Table) (u : ℕ) (sampling : Bool) (n : ℕ) (words : List ℕ) → n ≡ mapRefusal t u sampling (length words) → (n ≡ 0 → ⊥)
+    → Does (mapOf t u sampling (length words)) (userMapped (Map.Refused n) (t .counts)) t words words
+unfolding mapOf
+map-refused t u sampling n words q e = rw (← q) (does-refused n t _ words e)
+
+pub map-done : (t : Table) (u : ℕ) (sampling : Bool) (n at : ℕ) (g : Global) (left : Table) (words words' : List ℕ) → n ≡ mapRefusal t u sampling (length words) → n ≡ 0
+    → Leaves (mapUser u t) 0 (g .0) at left words words'
+    → Does (mapOf t u sampling (length words)) (userMapped (Map.Done g (left .counts) (at / 3)) (t .counts)) left words words'
+unfolding mapOf
+map-done t u sampling n at g left words words' q e h = rw (← q) (does-noting (λ g. g ∷ []) n t (mapUser u t) (g .0) at left words words' e h)
+
+-- ---- New user
+
+new-words : (t : Table) → soundb t ≡ true → length (newUser t .notes) ≡ 1
+unfolding newUser
+new-words t y = map-user-count t (nextUser t) ∙ next-user-to-map t (sound-of t y)
+
+module _ (t : Table) (room : ℕ) where
+  pub new-1 : soundb t ≡ false → 1 ≡ newUserRefusal t room
+  unfolding newUserRefusal
+  new-1 n = rw n
+
+  module _ (y : soundb t ≡ true) (used : ℕ) (a : used ≡ undeleted t) where
+    pub new-5 : t .counts .capacity < used + 1 → 5 ≡ newUserRefusal t room
+    unfolding newUserRefusal
+    new-5 h =
+        let f : ltb (t .counts .capacity) (undeleted t + 1) ≡ true = lt-ltb _ _ (let x : t .counts .capacity < undeleted t + 1 = omega arith in x) in
+        rw (y, f)
+
+    module _ (h : used + 1 ≤ t .counts .capacity) where
+      one-more : ltb (t .counts .capacity) (undeleted t + 1) ≡ false
+      one-more = le-ltb _ _ (let x : undeleted t + 1 ≤ t .counts .capacity = omega arith in x)
+
+      pub new-2 : room < 3 → 2 ≡ newUserRefusal t room
+      unfolding newUserRefusal
+      new-2 r = rw (y, one-more, new-words t y, lt-ltb room 3 r)
+
+      pub new-0 : 3 ≤ room → 0 ≡ newUserRefusal t room
+      unfolding newUserRefusal
+      new-0 r = rw (y, one-more, new-words t y, le-ltb room 3 r)
+
+-- what the search and the inner mapping ask
+pub record NewAsks (t : Table) (room : ℕ) : Type 0 where
+  pub marked : t .counts .user ≤ length (t .globalFromUser)
+  pub asks : MapAsks t (nextUser t) 0 room
+
+pub new-asks : (t : Table) (n room : ℕ) → n ≡ newUserRefusal t room → n ≡ 0 → NewAsks t room
+unfolding newUserRefusal
+new-asks t n room q e =
+    let a = no-refusal (not (soundb t)) 1 _ (λ z. omega arith) (sym q ∙ e) in
+    let d = no-refusal (ltb (t .counts .capacity) (undeleted t + 1)) 5 _ (λ z. omega arith) (a .1) in
+    let f = no-refusal (short room (newUser t .notes)) 2 0 (λ z. omega arith) (d .1) in
+    let y = not-false (soundb t) (a .0) in
+    let p = sound-of t y in
+    let z = p .sizes in
+    let r = ltb-false (t .counts .capacity) (undeleted t + 1) (d .0) in
+    let m = next-user-to-map t p in
+    let w = ltb-false room (3 * length (newUser t .notes)) (f .0) in
+    let x = new-words t y in
+    record {
+      marked = omega arith;
+      asks = record { sound = y; within = next-user-within t p (omega arith); enough = omega arith; words = omega arith };
+    }
+
+pub next-is : (t : Table) (u : ℕ) → u ≡ leastFree (t .globalFromUser) (t .counts .user) → u ≡ nextUser t
+unfolding nextUser
+next-is t u e = e
+
+-- the user found
+pub found-asks : (t : Table) (u room : ℕ) → NewAsks t room → u ≡ leastFree (t .globalFromUser) (t .counts .user) → MapAsks t u 0 room
+found-asks t u room h e = subst (λ (k : ℕ). MapAsks t k 0 room) (sym (next-is t u e)) (h .asks)
+
+pub new-refused : (t : Table) (n : ℕ) (words : List ℕ) → n ≡ newUserRefusal t (length words) → (n ≡ 0 → ⊥)
+    → Does (newUserOf t (length words)) (newUserMapped (New.Refused n) (t .counts)) t words words
+unfolding newUserOf
+new-refused t n words q e = rw (← q) (does-refused n t _ words e)
+
+pub new-done : (t : Table) (u : User) (n at : ℕ) (g : Global) (left : Table) (words words' : List ℕ) → n ≡ newUserRefusal t (length words) → n ≡ 0
+    → u .0 ≡ leastFree (t .globalFromUser) (t .counts .user)
+    → Leaves (mapUser (u .0) t) 0 (g .0) at left words words'
+    → Does (newUserOf t (length words)) (newUserMapped (New.Done u g (left .counts) (at / 3)) (t .counts)) left words words'
+unfolding newUserOf newUser
+new-done t u n at g left words words' q e f h =
+    let k = subst (λ (v : ℕ). Leaves (giving (λ g. v ∷ g ∷ []) (mapUser v t)) 0 (u .0 ∷ g .0 ∷ []) at left words words') (next-is t (u .0) f) (leaves-giving (λ g. u .0 ∷ g ∷ []) h) in
+    rw (← q) (does-noting (λ vs. vs) n t (newUser t) (u .0 ∷ g .0 ∷ []) at left words words' e k)
+
+-- ---- the number and the values tell the answer
+
+pub user-mapped-one : (x y : UserMapped) (c : Counts) → userMapped x c ≡ userMapped y c → x ≡ y
+user-mapped-one (Map.Done g d n) (Map.Done g' d' n') c e =
+    let v = ap (λ (k : Said). valuesOf (k .answer)) e in
+    λ i. Map.Done (record { 0 = getD (v i) 0 0 }) (e i .counts) (getD (v i) 1 0)
+user-mapped-one (Map.Done g d n) (Map.Refused m) c e = let z = ap (λ (k : Said). length (valuesOf (k .answer))) e in absurd (omega arith)
+user-mapped-one (Map.Refused n) (Map.Done g d m) c e = let z = ap (λ (k : Said). length (valuesOf (k .answer))) e in absurd (omega arith)
+user-mapped-one (Map.Refused n) (Map.Refused m) c e = λ i. Map.Refused (numberOf (e i .answer))
+
+pub new-user-mapped-one : (x y : NewUser) (c : Counts) → newUserMapped x c ≡ newUserMapped y c → x ≡ y
+new-user-mapped-one (New.Done u g d n) (New.Done u' g' d' n') c e =
+    let v = ap (λ (k : Said). valuesOf (k .answer)) e in
+    λ i. New.Done (record { 0 = getD (v i) 0 0 }) (record { 0 = getD (v i) 1 0 }) (e i .counts) (getD (v i) 2 0)
+new-user-mapped-one (New.Done u g d n) (New.Refused m) c e = let z = ap (λ (k : Said). length (valuesOf (k .answer))) e in absurd (omega arith)
+new-user-mapped-one (New.Refused n) (New.Done u g d m) c e = let z = ap (λ (k : Said). length (valuesOf (k .answer))) e in absurd (omega arith)
+new-user-mapped-one (New.Refused n) (New.Refused m) c e = λ i. New.Refused (numberOf (e i .answer))

@@ -1,0 +1,86 @@
+-- Laws of the global taken for a user, and of its cursor.
+use Prim.Native.Nat.{ℕ, zero, suc, _+_, _-_, _*_, _≤_, _<_, max}
+use mathlib.Core.Path.{_≡_, refl, sym, ap, _∙_, subst}
+use mathlib.Core.Bool.{Bool, true, false, _||_, not}
+use mathlib.Core.List.{List, [], _∷_}
+use mathlib.Core.Logic.{⊎-elim}
+use native.Mathlib.Omega.{arith}
+use lib.Dec.{eqb, ltb, leb}
+use lib.ListN.{length, getD, set}
+use lib.Seq.{getD-set-same, getD-set-other}
+use borrow.Author.Tests.{lt-ltb, le-ltb, le-leb, lt-leb}
+use Rattle.base.specs.Choice.{pick}
+use Rattle.base.specs.Bounded.{least, count}
+use Rattle.base.proofs.Truth.{same}
+use Rattle.base.proofs.CountLaws.{count-up, count-stay}
+use Rattle.base.proofs.MemberLaws.{getD-default}
+use Rattle.scope.specs.declared.Counts.{Counts}
+use Rattle.scope.specs.Table.{word, modeOf, coverUser}
+use Rattle.scope.proofs.ResultLaws.{word-none, word-some}
+use Rattle.inner.specs.Cursor.{Passed}
+use Rattle.inner.proofs.CursorLaws.{passed-more, passed-found, passed-end, passed-least, passed-kept}
+use Rattle.naming.specs.Maps.{free, alive, freeFor, isUnsampled, Inside}
+
+-- ---- the least deleted global
+
+pub free-is : (records : List ℕ) (g : ℕ) → g < length records → leb 36 (getD records g 0) ≡ free records g
+unfolding free
+free-is records g l = ap (leb 36) (getD-default records g 0 47 l)
+
+pub deleted-found : (records : List ℕ) (mark i : ℕ) → mark ≤ length records → i < mark → Passed (free records) mark i → 36 ≤ getD records i 0 → i ≡ least mark (free records)
+deleted-found records mark i m l h d = passed-found (free records) mark i h (sym (free-is records i (omega arith)) ∙ le-leb 36 _ d)
+
+pub deleted-more : (records : List ℕ) (mark i : ℕ) → mark ≤ length records → i < mark → Passed (free records) mark i → getD records i 0 < 36 → Passed (free records) mark (i + 1)
+deleted-more records mark i m l h d = passed-more (free records) mark i l h (sym (free-is records i (omega arith)) ∙ lt-leb 36 _ d)
+
+pub deleted-end : (records : List ℕ) (mark i : ℕ) → Passed (free records) mark i → mark ≤ i → i ≡ least mark (free records)
+deleted-end records mark i h l = passed-end (free records) mark i h l
+
+-- ---- the global taken
+
+pub for-own : (records : List ℕ) (mark u : ℕ) → u < length records → eqb u mark || leb 36 (getD records u 0) ≡ true → u ≡ freeFor records mark u
+unfolding freeFor
+for-own records mark u l e = rw (← free-is records u l, e)
+
+pub for-least : (records : List ℕ) (mark u g : ℕ) → u < length records → eqb u mark || leb 36 (getD records u 0) ≡ false → g ≡ least mark (free records) → g ≡ freeFor records mark u
+unfolding freeFor
+for-least records mark u g l e q = rw (← free-is records u l, e) q
+
+-- the cursor goes to the least deleted global
+pub for-passed : (records : List ℕ) (mark g : ℕ) → g ≡ least mark (free records) → Passed (free records) mark g
+for-passed records mark g e = passed-least (free records) (free records) mark mark g e (omega arith) (λ k l n. n)
+
+-- and is one after a global is taken
+pub taken-passed : (records : List ℕ) (mark mark′ g from : ℕ) → g < length records → mark ≤ mark′ → Passed (free records) mark from → Passed (free (set records g 9)) mark′ from
+unfolding free
+taken-passed records mark mark′ g from b m h =
+    passed-kept (free records) (free (set records g 9)) mark mark′ from h m
+    (λ k l n. ⊎-elim
+    (λ (e : k ≡ g). rw (e, getD-set-same records g 9 47 b))
+    (λ (e : k ≡ g → ⊥). rw (getD-set-other records g k 9 47 e) n)
+    (same k g))
+
+-- ---- the counts of a refusal
+
+pub undeleted-step : (records : List ℕ) (i n m : ℕ) → i < length records → n ≡ count i (alive records) → getD records i 0 < 36 → m ≡ n + 1
+    → m ≡ count (i + 1) (alive records)
+unfolding alive
+undeleted-step records i n m l e d q = count-up i n m (alive records) e (ap (λ (r : ℕ). ltb r 36) (getD-default records i 47 0 l) ∙ lt-ltb _ 36 d) q
+
+pub undeleted-stay : (records : List ℕ) (i n m : ℕ) → i < length records → n ≡ count i (alive records) → 36 ≤ getD records i 0 → m ≡ n
+    → m ≡ count (i + 1) (alive records)
+unfolding alive
+undeleted-stay records i n m l e d q = count-stay i n m (alive records) e (ap (λ (r : ℕ). ltb r 36) (getD-default records i 47 0 l) ∙ le-ltb _ 36 d) q
+
+pub unsampled-none : (gu records : List ℕ) (u : ℕ) → getD gu u 0 ≡ 0 → false ≡ isUnsampled gu records u
+unfolding isUnsampled
+unsampled-none gu records u e = sym (word-none false _ _ e)
+
+pub unsampled-some : (gu records : List ℕ) (u g : ℕ) → Inside gu (length records) → getD gu u 0 ≡ g + 1 → not (eqb (modeOf (getD records g 0)) 0) ≡ isUnsampled gu records u
+unfolding isUnsampled
+unsampled-some gu records u g h e =
+    let x = h .at u in
+    ap (λ (r : ℕ). not (eqb (modeOf r) 0)) (getD-default records g 0 47 (omega arith)) ∙ sym (word-some false (λ g. not (eqb (modeOf (getD records g 47)) 0)) _ g e)
+
+pub inside-below : (gu : List ℕ) (n u g : ℕ) → Inside gu n → getD gu u 0 ≡ g + 1 → g < n
+inside-below gu n u g h e = let x = h .at u in omega arith

@@ -1,0 +1,268 @@
+-- Laws of the inner mapping: the gap below a user is filled by the function itself, and the user is mapped after it.
+use Prim.Native.Nat.{ℕ, zero, suc, _+_, _-_, _*_, _≤_, _<_, max}
+use mathlib.Core.Path.{_≡_, refl, sym, ap, _∙_, subst}
+use mathlib.Core.Bool.{Bool, true, false}
+use mathlib.Core.List.{List, [], _∷_, _++_}
+use mathlib.Core.Logic.{⊎-elim}
+use native.Mathlib.Omega.{arith}
+use lib.ListN.{length, getD, set, length-set}
+use lib.Seq.{sets, length-sets}
+use Rattle.base.proofs.Truth.{split}
+use Rattle.scope.specs.declared.Counts.{Counts}
+use Rattle.scope.specs.declared.Global.{Global}
+use Rattle.scope.specs.Table.{Table, tableOf, coverUser, giveUser}
+use Rattle.scope.specs.Sound.{Sound, soundb}
+use Rattle.scope.specs.Notes.{notesWords}
+use Rattle.scope.specs.Outcome.{Result, stay, _then_, giving, joined, each}
+use Rattle.scope.specs.Map.{globalFor, mapOne, fillGap, mapUser, undeleted, toMap}
+use Rattle.scope.proofs.SoundLaws.{sound-of, sound-to}
+use Rattle.scope.proofs.ResultLaws.{each-suc}
+use Rattle.scope.proofs.MapLaws.{Fresh, Mappable, map-one-fresh, gapStep, Filled, GapRoom, fill-gap-filled, to-map-free, map-user-free, map-user-has, MapRoom, map-last-mappable}
+use Rattle.inner.specs.Cursor.{Passed}
+use Rattle.inner.specs.Leaves.{Leaves}
+use Rattle.inner.proofs.CursorLaws.{passed-none}
+use Rattle.inner.proofs.LeavesLaws.{leaves-stay, leaves-giving, leaves-then, leaves-joined, leaves-length}
+use Rattle.naming.specs.Maps.{free, freeFor, MapAsks}
+use Rattle.naming.proofs.FreeLaws.{taken-passed}
+
+-- The users from the watermark up to i are mapped, where i is at most u or the watermark.
+pub record Gap (t : Table) (u at i next : ℕ) (s : Table) (words words' : List ℕ) : Type 0 where
+  pub low : t .counts .user ≤ i
+  pub high : i ≤ max (t .counts .user) u
+  pub done : Leaves (fillGap (i - t .counts .user) t) at (fillGap (i - t .counts .user) t .value) next s words words'
+
+pub gap-start : (t : Table) (u at : ℕ) (words : List ℕ) → Gap t u at (t .counts .user) at t words words
+unfolding fillGap each
+gap-start t u at words =
+    let e : t .counts .user - t .counts .user ≡ 0 = omega arith in
+    record { low = omega arith; high = omega arith; done = rw e (leaves-stay [] at t words) }
+
+-- a user at or above the watermark has no global
+unmapped : (t : Table) (u : ℕ) → soundb t ≡ true → t .counts .user ≤ u → getD (t .globalFromUser) u 0 ≡ 0
+unmapped t u y l = sound-of t y .user .atail u l
+
+gap-room : (t : Table) (u at room i : ℕ) → MapAsks t u at room → t .counts .user ≤ i → i ≤ max (t .counts .user) u → GapRoom t (i - t .counts .user)
+gap-room t u at room i h l m =
+    let p = sound-of t (h .sound) in
+    let z = p .sizes in
+    let w = h .within in
+    let r = h .enough in
+    ⊎-elim
+    (λ (k : u < t .counts .user). record { sound = p; within = omega arith; room = omega arith })
+    (λ (k : t .counts .user ≤ u).
+    let e = to-map-free t u (unmapped t u (h .sound) k) in
+    record { sound = p; within = omega arith; room = omega arith })
+    (split u (t .counts .user))
+
+gap-filled : (t : Table) (u at room i next : ℕ) (s : Table) (words words' : List ℕ) → MapAsks t u at room → Gap t u at i next s words words' → Filled t (i - t .counts .user) s
+gap-filled t u at room i next s words words' h g =
+    subst (λ (x : Table). Filled t (i - t .counts .user) x) (sym (g .done .table))
+    (fill-gap-filled t (i - t .counts .user) (gap-room t u at room i h (g .low) (g .high)))
+
+pub user-small : (t : Table) (u at room : ℕ) → MapAsks t u at room → u < 4096
+user-small t u at room h = let z = sound-of t (h .sound) .sizes in let w = h .within in omega arith
+
+-- ---- the slices keep their lengths
+
+pub record SameSizes (t s : Table) (words words' : List ℕ) : Type 0 where
+  pub globalFromUser : length (s .globalFromUser) ≡ length (t .globalFromUser)
+  pub userFromGlobal : length (s .userFromGlobal) ≡ length (t .userFromGlobal)
+  pub records : length (s .records) ≡ length (t .records)
+  pub notes : length words' ≡ length words
+
+pub gap-sizes : (t : Table) (u at i next : ℕ) (s : Table) (words words' : List ℕ) → MapAsks t u at (length words) → Gap t u at i next s words words' → SameSizes t s words words'
+gap-sizes t u at i next s words words' h g =
+    let f = gap-filled t u at _ i next s words words' h g in
+    let a = sound-of t (h .sound) .sizes in
+    let b = f .sound .sizes in
+    let c = f .same .capacity in
+    record { globalFromUser = omega arith; userFromGlobal = omega arith; records = omega arith; notes = leaves-length _ _ _ _ _ _ _ (g .done) }
+
+-- ---- one turn: the user i is at the watermark of s
+
+fill-count : (n : ℕ) (t : Table) → length (fillGap n t .notes) ≡ n
+fill-count n t = Rattle.scope.proofs.MapLaws.fill-gap-count n t
+
+pub gap-asks : (t : Table) (u at i next : ℕ) (s : Table) (words words' : List ℕ) → MapAsks t u at (length words) → Gap t u at i next s words words' → i < u
+    → MapAsks s i next (length words')
+gap-asks t u at i next s words words' h g l =
+    let f = gap-filled t u at _ i next s words words' h g in
+    let a = f .user in
+    let b = f .same .capacity in
+    let d = f .undeleted in
+    let k = g .low in
+    let e = to-map-free t u (unmapped t u (h .sound) (omega arith)) in
+    let q = to-map-free s i (f .sound .user .atail i (omega arith)) in
+    let m = g .done .moved in
+    let c = fill-count (i - t .counts .user) t in
+    let n = leaves-length _ _ _ _ _ _ _ (g .done) in
+    let w = h .words in
+    let r = h .enough in
+    let v = h .within in
+    record { sound = sound-to s (f .sound); within = omega arith; enough = omega arith; words = omega arith }
+
+-- at its watermark a user is mapped with no gap
+map-here : (s : Table) (i : ℕ) → getD (s .globalFromUser) i 0 ≡ 0 → i ≤ s .counts .user → mapUser i s ≡ mapOne i s
+unfolding fillGap each
+map-here s i e l =
+    let q : i - s .counts .user ≡ 0 = omega arith in
+    map-user-free s i e ∙ rw q refl
+
+pub gap-more : (t : Table) (u at i next g next2 : ℕ) (s s2 : Table) (words words1 words2 : List ℕ) → MapAsks t u at (length words) → Gap t u at i next s words words1 → i < u
+    → Leaves (mapUser i s) next g next2 s2 words1 words2
+    → Gap t u at (i + 1) next2 s2 words words2
+unfolding fillGap
+gap-more t u at i next g next2 s s2 words words1 words2 h p l m =
+    let f = gap-filled t u at _ i next s words words1 h p in
+    let a = f .user in
+    let k = p .low in
+    let n = i - t .counts .user in
+    let e : i + 1 - t .counts .user ≡ n + 1 = omega arith in
+    let q : t .counts .user + n ≡ i = omega arith in
+    let x = map-here s i (f .sound .user .atail i (omega arith)) (omega arith) in
+    let m1 = subst (λ (y : Result ℕ). Leaves y next g next2 s2 words1 words2) (x ∙ ap (λ (j : ℕ). mapOne j s) (sym q)) m in
+    let m2 = leaves-giving (λ v. v ∷ []) m1 in
+    let m3 = leaves-joined (each n (gapStep t) t) (gapStep t n) at _ next _ next2 s s2 words words1 words2 (p .done) m2 in
+    let m4 = subst (λ (y : Result (List ℕ)). Leaves y at (each n (gapStep t) t .value ++ (g ∷ [])) next2 s2 words words2) (sym (each-suc (gapStep t) t n)) m3 in
+    record {
+      low = omega arith;
+      high = omega arith;
+      done = rw e (record { value = refl; table = m4 .table; noted = m4 .noted; moved = m4 .moved });
+    }
+
+-- ---- the user itself
+
+pub own-free : (t : Table) (u : ℕ) → globalFor t u ≡ freeFor (t .records) (t .counts .global) u
+unfolding globalFor freeFor free
+own-free t u = refl
+
+-- at the end of the gap
+gap-end : (t : Table) (u at i next : ℕ) (s : Table) (words words' : List ℕ) → Gap t u at i next s words words' → u ≤ i → i - t .counts .user ≡ u - t .counts .user
+gap-end t u at i next s words words' g l = let a = g .low in let b = g .high in omega arith
+
+-- the user has a global: it had it before, and there was no gap
+pub gap-kept : (t : Table) (u at i next g : ℕ) (s : Table) (words words' : List ℕ) → MapAsks t u at (length words) → Gap t u at i next s words words' → u ≤ i
+    → getD (s .globalFromUser) u 0 ≡ g + 1
+    → Leaves (mapUser u t) at g next s words words'
+unfolding fillGap each
+gap-kept t u at i next g s words words' h p l e = ⊎-elim
+    (λ (k : u < t .counts .user).
+    let a = p .low in
+    let b = p .high in
+    let q : i - t .counts .user ≡ 0 = omega arith in
+    let d : Leaves {A = List ℕ} (stay [] t) at [] next s words words' = subst (λ (n : ℕ). Leaves (fillGap n t) at (fillGap n t .value) next s words words') q (p .done) in
+    let o : getD (t .globalFromUser) u 0 ≡ g + 1 = subst (λ (x : Table). getD (x .globalFromUser) u 0 ≡ g + 1) (d .table) e in
+    subst (λ (x : Result ℕ). Leaves x at g next s words words') (sym (map-user-has t u g o))
+    (record { value = refl; table = d .table; noted = d .noted; moved = d .moved }))
+    (λ (k : t .counts .user ≤ u).
+    let f = gap-filled t u at _ i next s words words' h p in
+    let a = f .user in
+    let b = gap-end t u at i next s words words' p l in
+    let z = f .sound .user .atail u (omega arith) in
+    absurd (omega arith))
+    (split u (t .counts .user))
+
+-- the user has none: what `map_one` asks
+abbrev pub OneAsks : Table → ℕ → ℕ → ℕ → ℕ → Type 0
+OneAsks s u from at room =
+    let g = freeFor (s .records) (s .counts .global) u in
+    (s .counts .global ≤ length (s .records))
+    × ((Passed (free (s .records)) (s .counts .global) from)
+    × ((u < length (s .globalFromUser))
+    × ((u < length (s .records))
+    × ((u < 4096)
+    × ((g < length (s .userFromGlobal))
+    × ((g < length (s .records))
+    × ((g < 4096)
+    × (at + 3 ≤ room))))))))
+
+-- and what it leaves
+abbrev pub OneLeft : Table → ℕ → ℕ → Counts → Global → ℕ → ℕ → List ℕ → List ℕ → List ℕ → List ℕ → List ℕ → Type 0
+OneLeft s u at c global from next gu ug rc notes noted =
+    let g = freeFor (s .records) (s .counts .global) u in
+    (global .0 ≡ g)
+    × ((c ≡ coverUser (s .counts) u g)
+    × ((Passed (free (s .records)) (s .counts .global) from)
+    × ((next ≡ at + 3)
+    × ((gu ≡ set (s .globalFromUser) u (g + 1))
+    × ((ug ≡ set (s .userFromGlobal) g (u + 1))
+    × ((rc ≡ set (s .records) g 9)
+    × (noted ≡ sets notes at (0 ∷ g ∷ (u + 1) ∷ []))))))))
+
+one-leaves : (s : Table) (u at : ℕ) (c : Counts) (g : Global) (from next : ℕ) (gu ug rc notes noted : List ℕ) → OneLeft s u at c g from next gu ug rc notes noted
+    → Leaves (mapOne u s) at (g .0) next (tableOf c gu ug (s .solverFromGlobal) (s .globalFromSolver) (s .assignment) rc) notes noted
+unfolding mapOne giveUser notesWords globalFor freeFor free
+one-leaves s u at c g from next gu ug rc notes noted o =
+    record {
+      value = o .0;
+      table = λ i. tableOf (o .1 .0 i) (o .1 .1 .1 .1 .0 i) (o .1 .1 .1 .1 .1 .0 i) (s .solverFromGlobal) (s .globalFromSolver) (s .assignment) (o .1 .1 .1 .1 .1 .1 .0 i);
+      noted = o .1 .1 .1 .1 .1 .1 .1;
+      moved = let x = o .1 .1 .1 .0 in omega arith;
+    }
+
+-- it had none before
+gap-new : (t : Table) (u at i next : ℕ) (s : Table) (words words' : List ℕ) → MapAsks t u at (length words) → Gap t u at i next s words words'
+    → getD (s .globalFromUser) u 0 ≡ 0 → getD (t .globalFromUser) u 0 ≡ 0
+gap-new t u at i next s words words' h p e = ⊎-elim
+    (λ (k : u < t .counts .user). sym (gap-filled t u at _ i next s words words' h p .below u k) ∙ e)
+    (λ (k : t .counts .user ≤ u). unmapped t u (h .sound) k)
+    (split u (t .counts .user))
+
+module _ (t : Table) (u at i next : ℕ) (s : Table) (words words' : List ℕ) (h : MapAsks t u at (length words)) (p : Gap t u at i next s words words') (l : u ≤ i)
+    (e : getD (s .globalFromUser) u 0 ≡ 0) where
+  gap-mappable : Mappable s u
+  gap-mappable =
+      let f = gap-filled t u at _ i next s words words' h p in
+      let a = f .user in
+      let b = f .same .capacity in
+      let d = f .undeleted in
+      let q = gap-end t u at i next s words words' p l in
+      let n = to-map-free t u (gap-new t u at i next s words words' h p e) in
+      let z = f .sound .sizes in
+      let w = h .within in
+      let r = h .enough in
+      record { sound = f .sound; free = e; within = omega arith; mark = omega arith; room = omega arith }
+
+  pub last-asks : (from : ℕ) → Passed (free (s .records)) (s .counts .global) from → OneAsks s u from next (length words')
+  last-asks from k =
+      let m = gap-mappable in
+      let g = map-one-fresh s u m .within in
+      let o = own-free s u in
+      let z = m .sound .sizes in
+      let w = m .within in
+      let n = leaves-length _ _ _ _ _ _ _ (p .done) in
+      let v = h .words in
+      let q = p .done .moved in
+      let c = fill-count (i - t .counts .user) t in
+      let d = gap-end t u at i next s words words' p l in
+      let x = to-map-free t u (gap-new t u at i next s words words' h p e) in
+      (omega arith, (k, (omega arith, (omega arith, (omega arith, (omega arith, (omega arith, (omega arith, omega arith))))))))
+
+  -- what it leaves
+  pub last-done : (c : Counts) (g : Global) (from next2 : ℕ) (gu ug rc words2 : List ℕ) → OneLeft s u next c g from next2 gu ug rc words' words2
+      → Leaves (mapUser u t) at (g .0) next2 (tableOf c gu ug (t .solverFromGlobal) (t .globalFromSolver) (t .assignment) rc) words words2
+      × Passed (free rc) (c .global) from
+  last-done c g from next2 gu ug rc words2 o =
+      let d = gap-end t u at i next s words words' p l in
+      let f = gap-filled t u at _ i next s words words' h p .same in
+      let a = subst (λ (n : ℕ). Leaves (fillGap n t) at (fillGap n t .value) next s words words') d (p .done) in
+      let b = one-leaves s u next c g from next2 gu ug rc words' words2 o in
+      let k = leaves-then (fillGap (u - t .counts .user) t) (λ gs. mapOne u) at _ next (g .0) next2 s _ words words' words2 a b in
+      let m = subst (λ (x : Result ℕ). Leaves x at (g .0) next2 (tableOf c gu ug (s .solverFromGlobal) (s .globalFromSolver) (s .assignment) rc) words words2) (sym (map-user-free t u (gap-new t u at i next s words words' h p e))) k in
+      let q : c .global ≡ max (s .counts .global) (freeFor (s .records) (s .counts .global) u + 1) = ap (λ (d : Counts). d .global) (o .1 .0) in
+      let r = last-asks 0 (passed-none _ _) .1 .1 .1 .1 .1 .1 .0 in (
+        subst (λ (x : Table). Leaves (mapUser u t) at (g .0) next2 x words words2)
+            (λ j. tableOf c gu ug (f .solverFromGlobal j) (f .globalFromSolver j) (f .assignment j) rc) m,
+        rw (o .1 .1 .1 .1 .1 .1 .0) (taken-passed (s .records) (s .counts .global) (c .global) (freeFor (s .records) (s .counts .global) u) from r (omega arith) (o .1 .1 .0)),
+      )
+
+  pub last-sizes : (c : Counts) (g : Global) (from next2 : ℕ) (gu ug rc words2 : List ℕ) → OneLeft s u next c g from next2 gu ug rc words' words2
+      → SameSizes t (tableOf c gu ug (t .solverFromGlobal) (t .globalFromSolver) (t .assignment) rc) words words2
+  last-sizes c g from next2 gu ug rc words2 o =
+      let z = gap-sizes t u at i next s words words' h p in
+      record {
+        globalFromUser = ap length (o .1 .1 .1 .1 .0) ∙ length-set (s .globalFromUser) u _ ∙ z .globalFromUser;
+        userFromGlobal = ap length (o .1 .1 .1 .1 .1 .0) ∙ length-set (s .userFromGlobal) _ (u + 1) ∙ z .userFromGlobal;
+        records = ap length (o .1 .1 .1 .1 .1 .1 .0) ∙ length-set (s .records) _ 9 ∙ z .records;
+        notes = ap length (o .1 .1 .1 .1 .1 .1 .1) ∙ (simp length-sets) ∙ z .notes;
+      }

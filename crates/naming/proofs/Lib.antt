@@ -1,0 +1,4 @@
+pub mod FoundLaws
+pub mod FreeLaws
+pub mod GapLaws
+pub mod CallLaws

@@ -1,0 +1,358 @@
+// Map and New user. How the contracts read: crates/scope/specs/Contract.antt.
+use inner::least_free;
+use scope::Counts;
+use scope::Global;
+use scope::User;
+use table::FoundGlobal;
+use table::global_of;
+use table::is_sound;
+use table::put_note;
+ghost use mathlib.Core.Path.{_≡_};
+ghost use mathlib.Core.List.{_∷_, []};
+ghost use Prim.Native.Nat.{_+_, _-_, _≤_, _<_};
+ghost use lib.ListN.{length, getD, set};
+ghost use Rattle.base.specs.Bounded.{least, count};
+ghost use Rattle.base.specs.Lent.{old, new, Fills};
+ghost use Rattle.scope.specs.Contract.{given, before, after, lent, Meets};
+ghost use Rattle.scope.specs.Table.{word, coverUser};
+ghost use Rattle.scope.specs.Map.{mapUser, mapRefusal, mapOf, newUserRefusal, newUserOf};
+ghost use Rattle.inner.specs.Cursor.{Passed};
+ghost use Rattle.inner.specs.Leaves.{Leaves};
+ghost use Rattle.naming.specs.Maps.{free, alive, freeFor, isUnsampled, Inside, MapAsks, userMapped, newUserMapped};
+
+// A global and the cursor of free globals after its search.
+pub struct Taken {
+    pub global: Global,
+    pub from: u32,
+}
+
+// A user's global, with the counts, the cursor of free globals and the place in the notes after it.
+pub struct Mapped {
+    pub counts: Counts,
+    pub global: Global,
+    pub from: u32,
+    pub at: usize,
+}
+
+// The answer of Map: the global, the counts and how many notes were written.
+pub enum UserMapped {
+    Done(Global, Counts, u32),
+    Refused(u32),
+}
+
+// The answer of New user: the user, its global, the counts and how many notes were written.
+pub enum NewUser {
+    Done(User, Global, Counts, u32),
+    Refused(u32),
+}
+
+// The least deleted global below the mark, else the mark; below `from` there is none.
+fn least_deleted(records: &[u32], mark: u32, from: u32) -> u32
+    requires { ⌜ mark ≤ length (now records) ⌝ }
+    requires { ⌜ Passed (free (now records)) mark from ⌝ }
+    ensures { λ r. ⌜ r ≡ least mark (free (old records)) ⌝ }
+{
+    let mut i = from;
+    while i < mark {
+        if 36 <= records[i as usize] {
+            return i;
+        }
+        i += 1;
+    }
+    i
+}
+
+// The global taken for a user.
+fn global_for(records: &[u32], mark: u32, user: User, from: u32) -> Taken
+    requires { ⌜ mark ≤ length (now records) ⌝ }
+    requires { ⌜ user .0 < length (now records) ⌝ }
+    requires { ⌜ Passed (free (now records)) mark from ⌝ }
+    ensures { λ r. ⌜ r .global .0 ≡ freeFor (old records) mark (user .0) ⌝ }
+    ensures { λ r. ⌜ Passed (free (old records)) mark (r .from) ⌝ }
+{
+    let u = user.0;
+    if (u == mark) | (36 <= records[u as usize]) {
+        return Taken {
+            global: Global(u),
+            from,
+        };
+    }
+    let g = least_deleted(records, mark, from);
+    Taken {
+        global: Global(g),
+        from: g,
+    }
+}
+
+// One unmapped user, whose gap below is closed, gets a global. Its record becomes 9; note U.
+fn map_one(
+    c: Counts,
+    gu: &mut [u32],
+    ug: &mut [u32],
+    records: &mut [u32],
+    user: User,
+    from: u32,
+    at: usize,
+    notes: &mut [u32],
+) -> Mapped
+    requires { ⌜ c .global ≤ length (now records) ⌝ }
+    requires { ⌜ Passed (free (now records)) (c .global) from ⌝ }
+    requires { ⌜ user .0 < length (now gu) ⌝ }
+    requires { ⌜ user .0 < length (now records) ⌝ }
+    requires { ⌜ user .0 < 4096 ⌝ }
+    requires { let g = freeFor (now records) (c .global) (user .0) in
+        ⌜ g < length (now ug) ⌝ ∗ ⌜ g < length (now records) ⌝ ∗ ⌜ g < 4096 ⌝ }
+    requires { ⌜ at + 3 ≤ length (now notes) ⌝ }
+    ensures { λ r. let g = freeFor (old records) (c .global) (user .0) in
+        ⌜ r .global .0 ≡ g ⌝
+        ∗ ⌜ r .counts ≡ coverUser c (user .0) g ⌝
+        ∗ ⌜ Passed (free (old records)) (c .global) (r .from) ⌝
+        ∗ ⌜ r .at ≡ at + 3 ⌝ }
+    ensures { λ _. let g = freeFor (old records) (c .global) (user .0) in
+        ⌜ new gu ≡ set (old gu) (user .0) (g + 1) ⌝
+        ∗ ⌜ new ug ≡ set (old ug) g (user .0 + 1) ⌝
+        ∗ ⌜ new records ≡ set (old records) g 9 ⌝
+        ∗ ⌜ Fills notes at (0 ∷ g ∷ (user .0 + 1) ∷ []) ⌝ }
+{
+    let t = global_for(records, c.global, user, from);
+    let global = t.global;
+    let g = global.0;
+    let next = at + 3;
+    records[g as usize] = 9;
+    put_note(notes, at, 0, g, user.0 + 1);
+    let counts = c.map(gu, ug, user, global);
+    Mapped {
+        counts,
+        global,
+        from: t.from,
+        at: next,
+    }
+}
+
+// The global of a user of a sound table: the one it has, else, after the gap below it, a free one, searched from the cursor on.
+pub fn map_user(
+    c: Counts,
+    gu: &mut [u32],
+    ug: &mut [u32],
+    sg: &[u32],
+    gs: &[u32],
+    assignment: &[u32],
+    records: &mut [u32],
+    user: User,
+    from: u32,
+    at: usize,
+    notes: &mut [u32],
+) -> Mapped
+    requires { ⌜ MapAsks (given c gu ug sg gs assignment records) (user .0) at (length (now notes)) ⌝ }
+    requires { ⌜ Passed (free (now records)) (c .global) from ⌝ }
+    ensures { λ r. ⌜ Leaves (mapUser (user .0) (before c gu ug sg gs assignment records)) at (r .global .0) (r .at)
+        (after (r .counts) gu ug sg gs assignment records) (old notes) (new notes) ⌝ }
+    ensures { λ r. ⌜ Passed (free (new records)) (r .counts .global) (r .from) ⌝ }
+{
+    let u = user.0;
+    let mut cur = c;
+    let mut k = from;
+    let mut next = at;
+    let mut i = c.user;
+    while i < u {
+        let m = map_user(
+            cur,
+            gu,
+            ug,
+            sg,
+            gs,
+            assignment,
+            records,
+            User(i),
+            k,
+            next,
+            notes,
+        );
+        cur = m.counts;
+        k = m.from;
+        next = m.at;
+        i += 1;
+    }
+    let FoundGlobal::At(global) = global_of(gu, user) else {
+        return map_one(cur, gu, ug, records, user, k, next, notes);
+    };
+    Mapped {
+        counts: cur,
+        global,
+        from: k,
+        at: next,
+    }
+}
+
+// How many globals are not deleted.
+pub fn count_undeleted(records: &[u32]) -> u32
+    requires { ⌜ length (now records) ≤ 4096 ⌝ }
+    ensures { λ r. ⌜ r ≡ count (length (old records)) (alive (old records)) ⌝ }
+{
+    let mut n: u32 = 0;
+    let mut i = 0;
+    while i < records.len() {
+        if records[i] < 36 {
+            n += 1;
+        }
+        i += 1;
+    }
+    n
+}
+
+// The user has a global, and that is not Sample.
+pub fn is_unsampled(gu: &[u32], records: &[u32], user: User) -> bool
+    requires { ⌜ Inside (now gu) (length (now records)) ⌝ }
+    ensures { λ r. ⌜ r ≡ isUnsampled (old gu) (old records) (user .0) ⌝ }
+{
+    let FoundGlobal::At(g) = global_of(gu, user) else {
+        return false;
+    };
+    records[g.0 as usize] % 3 != 0
+}
+
+// The users from the watermark up to the user, and the user.
+fn gap(mark: u32, user: User) -> u32
+    requires { ⌜ user .0 < 4096 ⌝ }
+    ensures { λ r. ⌜ r ≡ user .0 - mark + 1 ⌝ }
+{
+    if user.0 <= mark {
+        return 1;
+    }
+    user.0 - mark + 1
+}
+
+// How many users are to be mapped for a user, the gap included.
+fn to_map(gu: &[u32], mark: u32, user: User) -> u32
+    requires { ⌜ user .0 < 4096 ⌝ }
+    ensures { λ r. ⌜ r ≡ word (user .0 - mark + 1) (λ g. 0) (getD (old gu) (user .0) 0) ⌝ }
+{
+    let FoundGlobal::At(_) = global_of(gu, user) else {
+        return gap(mark, user);
+    };
+    0
+}
+
+// The first refusal of Map that applies, 0 for none.
+fn map_refusal(
+    c: Counts,
+    gu: &[u32],
+    ug: &[u32],
+    sg: &[u32],
+    gs: &[u32],
+    assignment: &[u32],
+    records: &[u32],
+    user: User,
+    sampling: bool,
+    room: usize,
+) -> u32
+    ensures { λ r. ⌜ r ≡ mapRefusal (before c gu ug sg gs assignment records) (user .0) sampling room ⌝ }
+{
+    if !is_sound(c, gu, ug, sg, gs, assignment, records) {
+        return 1;
+    }
+    if c.capacity <= user.0 {
+        return 3;
+    }
+    if sampling & is_unsampled(gu, records, user) {
+        return 4;
+    }
+    let used = count_undeleted(records);
+    let n = to_map(gu, c.user, user);
+    if c.capacity < used + n {
+        return 5;
+    }
+    if room < 3 * (n as usize) {
+        return 2;
+    }
+    0
+}
+
+// Map (01, `global_from_user`; refusals 1, 3, 4, 5, 2): the user's global, or a mapping, the gap below the user first.
+// Definition: crates/scope/specs/Map.antt, `mapOf`; its answer: specs/Maps.antt, `userMapped`.
+pub fn global_from_user(
+    c: Counts,
+    gu: &mut [u32],
+    ug: &mut [u32],
+    sg: &[u32],
+    gs: &[u32],
+    assignment: &[u32],
+    records: &mut [u32],
+    user: User,
+    sampling: bool,
+    notes: &mut [u32],
+) -> UserMapped
+    ensures { λ r. ⌜ Meets (λ t room. mapOf t (user .0) sampling room) (userMapped r c)
+        (lent c gu ug sg gs assignment records notes) ⌝ }
+{
+    let n = map_refusal(
+        c,
+        gu,
+        ug,
+        sg,
+        gs,
+        assignment,
+        records,
+        user,
+        sampling,
+        notes.len(),
+    );
+    if n != 0 {
+        return UserMapped::Refused(n);
+    }
+    let m = map_user(c, gu, ug, sg, gs, assignment, records, user, 0, 0, notes);
+    let global = m.global;
+    let counts = m.counts;
+    UserMapped::Done(global, counts, (m.at / 3) as u32)
+}
+
+// The first refusal of New user that applies, 0 for none.
+fn new_user_refusal(
+    c: Counts,
+    gu: &[u32],
+    ug: &[u32],
+    sg: &[u32],
+    gs: &[u32],
+    assignment: &[u32],
+    records: &[u32],
+    room: usize,
+) -> u32
+    ensures { λ r. ⌜ r ≡ newUserRefusal (before c gu ug sg gs assignment records) room ⌝ }
+{
+    if !is_sound(c, gu, ug, sg, gs, assignment, records) {
+        return 1;
+    }
+    if c.capacity < count_undeleted(records) + 1 {
+        return 5;
+    }
+    if room < 3 {
+        return 2;
+    }
+    0
+}
+
+// New user (01, `new_user_var`; refusals 1, 5, 2): the least unmapped user is mapped.
+// Definition: crates/scope/specs/Map.antt, `newUserOf`; its answer: specs/Maps.antt, `newUserMapped`.
+pub fn new_user_var(
+    c: Counts,
+    gu: &mut [u32],
+    ug: &mut [u32],
+    sg: &[u32],
+    gs: &[u32],
+    assignment: &[u32],
+    records: &mut [u32],
+    notes: &mut [u32],
+) -> NewUser
+    ensures { λ r. ⌜ Meets (λ t room. newUserOf t room) (newUserMapped r c)
+        (lent c gu ug sg gs assignment records notes) ⌝ }
+{
+    let n = new_user_refusal(c, gu, ug, sg, gs, assignment, records, notes.len());
+    if n != 0 {
+        return NewUser::Refused(n);
+    }
+    let user = User(least_free(gu, c.user, 0));
+    let m = map_user(c, gu, ug, sg, gs, assignment, records, user, 0, 0, notes);
+    let global = m.global;
+    let counts = m.counts;
+    NewUser::Done(user, global, counts, (m.at / 3) as u32)
+}

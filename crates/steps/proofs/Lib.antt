@@ -1,0 +1,9 @@
+pub mod KindLaws
+pub mod StoreLaws
+pub mod LiteralLaws
+pub mod StepLaws
+pub mod CallLaws
+pub mod RenameLaws
+pub mod UnitLaws
+pub mod WriteLaws
+pub mod AnswerLaws

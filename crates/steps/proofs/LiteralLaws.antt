@@ -1,0 +1,160 @@
+-- Literals: what they are refused for, and their global names.
+use Prim.Native.Nat.{ℕ, zero, suc, _+_, _-_, _*_, _/_, _%_, _≤_, _<_}
+use mathlib.Core.Path.{_≡_, refl, sym, ap, _∙_, subst}
+use mathlib.Core.Bool.{Bool, true, false, _&&_, _||_, not, true≢false}
+use mathlib.Core.Logic.{⊎-elim, _≢_}
+use mathlib.Core.List.{List, [], _∷_, map}
+use native.Mathlib.Omega.{arith}
+use lib.Dec.{eqb, ltb, leb, eqb·suc-zero}
+use lib.ListN.{length, getD, take, length-map, List·getD-eq-default}
+use lib.Seq.{sets, length-sets}
+use borrow.Author.Tests.{lt-ltb, le-ltb, ltb-false, eqb-false, leb-false}
+use Rattle.base.specs.Choice.{pick}
+use Rattle.base.specs.Bounded.{anyOf}
+use Rattle.base.proofs.Truth.{same, split}
+use Rattle.base.proofs.MemberLaws.{any-none, or-left, or-right}
+use Rattle.drat.specs.Grammar.{Codes}
+use Rattle.scope.specs.declared.Global.{Global}
+use Rattle.scope.specs.Table.{Table, word}
+use Rattle.scope.specs.Sound.{soundb}
+use Rattle.scope.specs.Literals.{indexOf}
+use Rattle.scope.specs.Marks.{notHeld}
+use Rattle.scope.specs.Write.{renameLit, renameLits, holders, outside, unheld}
+use Rattle.scope.proofs.SoundLaws.{sound-of}
+use Rattle.scope.proofs.PairLaws.{below-mark, pair-flip}
+use Rattle.scope.proofs.ResultLaws.{past}
+use Rattle.table.specs.declared.FoundGlobal.{FoundGlobal}
+use Rattle.table.specs.declared.FoundGlobal.the-variants.{At, Nothing}
+use Rattle.table.specs.Found.{foundGlobal}
+use Rattle.steps.specs.Refusals.{literalRefusal}
+use Rattle.steps.proofs.StoreLaws.{stored-part}
+
+-- ---- refusals 3 and 8
+
+pub refuse-many : (t : Table) (s : Bool) (lits : List ℕ) → 8192 < length lits → 3 ≡ literalRefusal t s lits
+unfolding literalRefusal outside
+refuse-many t s lits h = rw (lt-ltb 8192 (length lits) h)
+
+pub refuse-beyond : (t : Table) (s : Bool) (lits : List ℕ) → length lits ≤ 8192 → s ≡ false → anyOf (λ c. leb (t .counts .capacity) (indexOf c)) lits ≡ true → 3 ≡ literalRefusal t s lits
+unfolding literalRefusal outside
+refuse-beyond t s lits h z e = rw (z, le-ltb 8192 (length lits) h, e)
+
+pub pass-global : (t : Table) (s : Bool) (lits : List ℕ) → length lits ≤ 8192 → s ≡ false → anyOf (λ c. leb (t .counts .capacity) (indexOf c)) lits ≡ false → 0 ≡ literalRefusal t s lits
+unfolding literalRefusal outside unheld
+pass-global t s lits h z e = rw (z, le-ltb 8192 (length lits) h, e)
+
+pub refuse-unheld : (t : Table) (s : Bool) (lits : List ℕ) → length lits ≤ 8192 → s ≡ true → anyOf (λ c. eqb (getD (t .globalFromSolver) (indexOf c) 0) 0) lits ≡ true → 8 ≡ literalRefusal t s lits
+unfolding literalRefusal outside unheld notHeld
+refuse-unheld t s lits h z e = rw (z, le-ltb 8192 (length lits) h, e)
+
+pub pass-solver : (t : Table) (s : Bool) (lits : List ℕ) → length lits ≤ 8192 → s ≡ true → anyOf (λ c. eqb (getD (t .globalFromSolver) (indexOf c) 0) 0) lits ≡ false → 0 ≡ literalRefusal t s lits
+unfolding literalRefusal outside unheld notHeld
+pass-solver t s lits h z e = rw (z, le-ltb 8192 (length lits) h, e)
+
+-- where neither applies
+pub record Clear (t : Table) (s : Bool) (lits : List ℕ) : Type 0 where
+  pub inside : outside t s lits ≡ false
+  pub held : unheld t s lits ≡ false
+
+pub clear : (t : Table) (s : Bool) (lits : List ℕ) → literalRefusal t s lits ≡ 0 → Clear t s lits
+unfolding literalRefusal
+clear t s lits e =
+    let p = past (outside t s lits) 3 (pick (unheld t s lits) 8 0) (omega arith) e in
+    record { inside = p .0; held = past (unheld t s lits) 8 0 (omega arith) (p .1) .0 }
+
+pub few : (t : Table) (s : Bool) (lits : List ℕ) → outside t s lits ≡ false → length lits ≤ 8192
+unfolding outside
+few t s lits e = ltb-false 8192 (length lits) (or-left (ltb 8192 (length lits)) _ e)
+
+-- ---- names
+
+there : (l : List ℕ) (i : ℕ) → getD l i 0 ≢ 0 → i < length l
+there l i n = ⊎-elim (λ (h : i < length l). h) (λ (h : length l ≤ i). absurd (n (List·getD-eq-default l 0 h))) (split i (length l))
+
+-- a map's word of a sound table is at most 4,096
+pub word-small : (t : Table) → soundb t ≡ true → (s : ℕ) → getD (t .globalFromSolver) s 0 ≤ 4096
+word-small t h s = ⊎-elim
+    (λ (e : getD (t .globalFromSolver) s 0 ≡ 0). omega arith)
+    (λ (n : getD (t .globalFromSolver) s 0 ≢ 0).
+    let z = sound-of t h .sizes in
+    let p = sound-of t h .solver in
+    let w = getD (t .globalFromSolver) s 0 in
+    let k = below-mark (w - 1) s (pair-flip p) (p .inverse s (w - 1) .0 (omega arith)) in
+    omega arith)
+    (same (getD (t .globalFromSolver) s 0) 0)
+
+-- the index of a held literal has a holder
+pub held-at : (t : Table) (s : Bool) (lits : List ℕ) (i : ℕ) → unheld t s lits ≡ false → i < length lits → s ≡ true → getD (t .globalFromSolver) (getD lits i 0 / 2) 0 ≢ 0
+unfolding unheld notHeld
+held-at t s lits i u l e =
+    eqb-false (getD (t .globalFromSolver) (getD lits i 0 / 2) 0) 0
+    (any-none (λ c. eqb (getD (t .globalFromSolver) (indexOf c) 0) 0) lits i 0 (and-held s _ u e) l)
+  where
+    and-held : (a b : Bool) → a && b ≡ false → a ≡ true → b ≡ false
+    and-held true b p q = p
+    and-held false b p q = absurd (true≢false (sym q))
+
+pub word-there : (l : List ℕ) (s : Bool) (i : ℕ) → (s ≡ true → getD l i 0 ≢ 0) → s ≡ true → i < length l
+word-there l s i n e = there l i (n e)
+
+pub name-global : (h : ℕ → ℕ) (s : Bool) (c : ℕ) → s ≡ false → c ≡ renameLit h s c
+name-global h s c e = rw e
+
+pub name-solver : (h : ℕ → ℕ) (s : Bool) (c : ℕ) → s ≡ true → 2 * (h (c / 2) - 1) + c % 2 ≡ renameLit h s c
+name-solver h s c e = rw e
+
+getD-map : (f : ℕ → ℕ) (xs : List ℕ) (i : ℕ) → i < length xs → getD (map f xs) i 0 ≡ f (getD xs i 0)
+getD-map f [] i h = absurd (omega arith)
+getD-map f (x ∷ xs) zero h = refl
+getD-map f (x ∷ xs) (suc i) h = getD-map f xs i (omega arith)
+
+-- ---- names are literals that can be written
+
+pub names-length : (h : ℕ → ℕ) (s : Bool) (lits : List ℕ) → length (renameLits h s lits) ≡ length lits
+unfolding renameLits
+names-length h s lits = length-map lits (renameLit h s)
+
+pub names-codes : (t : Table) (s : Bool) (lits : List ℕ) → soundb t ≡ true → outside t s lits ≡ false → unheld t s lits ≡ false → Codes (renameLits (holders t) s lits)
+unfolding renameLits outside
+names-codes t s lits h o u i l =
+    let k : i < length lits = subst (λ (n : ℕ). i < n) (length-map lits (renameLit (holders t) s)) l in
+    subst (λ (c : ℕ). c < 8192) (sym (getD-map (renameLit (holders t) s) lits i k)) (go s o k)
+  where
+    z : t .counts .capacity ≤ 4096
+    z = sound-of t h .sizes .atMost
+
+    go : (b : Bool) → ltb 8192 (length lits) || (not b && anyOf (λ c. leb (t .counts .capacity) (indexOf c)) lits) ≡ false → i < length lits
+        → renameLit (holders t) b (getD lits i 0) < 8192
+    go true p k = let w = word-small t h (getD lits i 0 / 2) in omega arith
+    go false p k =
+        let b = any-none (λ c. leb (t .counts .capacity) (indexOf c)) lits i 0 (or-right (ltb 8192 (length lits)) _ p) k in
+        let x = leb-false (t .counts .capacity) (getD lits i 0 / 2) b in
+        omega (arith, z)
+
+-- ---- names in a buffer of 8,192
+
+module _ (t : Table) (s : Bool) (lits zs m : List ℕ) (z : length zs ≡ 8192) (o : outside t s lits ≡ false) (e : m ≡ sets zs 0 (renameLits (holders t) s lits)) where
+  pub names-part : take (length lits) m ≡ renameLits (holders t) s lits
+  names-part =
+      let h = few t s lits o in
+      stored-part zs m (renameLits (holders t) s lits) (length lits) e (sym (names-length (holders t) s lits)) (omega arith)
+
+  pub names-within : length lits ≤ length m
+  names-within = let h = few t s lits o in let k = ap length e ∙ length-sets zs 0 (renameLits (holders t) s lits) in omega arith
+
+  pub names-given : soundb t ≡ true → unheld t s lits ≡ false → Codes (take (length lits) m) × (length (take (length lits) m) ≤ 8192)
+  names-given h u =
+      subst (λ (l : List ℕ). Codes l × (length l ≤ 8192)) (sym names-part)
+      (names-codes t s lits h o u, subst (λ (n : ℕ). n ≤ 8192) (sym (names-length (holders t) s lits)) (few t s lits o))
+
+-- ---- a holder found, or none
+
+pub found-nothing : (w : ℕ) (r : FoundGlobal) → r ≡ foundGlobal w → r ≡ Nothing → eqb w 0 ≡ true
+unfolding word
+found-nothing zero r e q = refl
+found-nothing (suc i) r e q = let z : _≡_ {A = ℕ} 0 1 = cc in absurd (omega arith)
+
+pub found-at : (w : ℕ) (r : FoundGlobal) (g : Global) → r ≡ foundGlobal w → r ≡ At g → eqb w 0 ≡ false
+unfolding word
+found-at zero r g e q = let z : _≡_ {A = ℕ} 0 1 = cc in absurd (omega arith)
+found-at (suc i) r g e q = eqb·suc-zero i

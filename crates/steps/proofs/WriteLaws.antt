@@ -1,0 +1,129 @@
+-- Write: the bytes of a step by what its rule writes, and what the call comes to.
+use Prim.Native.Nat.{ℕ, _+_, _≤_, _<_}
+use mathlib.Core.Path.{_≡_, refl, sym, ap, _∙_, subst}
+use mathlib.Core.Bool.{Bool, true, false}
+use mathlib.Core.List.{List, [], _∷_}
+use native.Mathlib.Omega.{arith}
+use lib.Dec.{ltb}
+use lib.ListN.{length, take}
+use lib.Seq.{sets}
+use borrow.Author.Tests.{lt-ltb, le-ltb}
+use Rattle.base.specs.Choice.{pick}
+use Rattle.base.specs.Answer.{Answer, accepted, refused}
+use Rattle.drat.specs.Grammar.{Step, stepOf, encodeStep, encode}
+use Rattle.drat.specs.declared.Format.{Format}
+use Rattle.drat.specs.declared.Kind.the-variants.{Add as add, Delete as delete}
+use Rattle.scope.specs.declared.ProofStep.{ProofStep}
+use Rattle.scope.specs.declared.KindRule.{KindRule}
+use Rattle.scope.specs.declared.Writes.{Writes}
+use Rattle.scope.specs.declared.Writes.the-variants.{Add, AddEach, Delete, Nothing, Refused}
+use Rattle.scope.specs.Table.{Table, tableOf}
+use Rattle.scope.specs.Steps.{ruleOf, written, clauseSteps, literalsOf}
+use Rattle.scope.specs.Outcome.{Outcome, refusal}
+use Rattle.scope.specs.Contract.{Said}
+use Rattle.scope.specs.Write.{renameLits, holders, lacked, stepRefusal, stepBytes, writeRefusal, writeOf}
+use Rattle.steps.specs.declared.write.Recorded.{Recorded}
+use Rattle.steps.specs.declared.write.Recorded.the-variants as W
+use Rattle.steps.specs.Refusals.{laidAnswer, laidBytes}
+use Rattle.steps.specs.Answers.{recorded}
+use Rattle.steps.proofs.UnitLaws.{encode-one, encode-none}
+use Rattle.steps.proofs.StepLaws.{literals-part, refused-first, refused-later}
+use Rattle.steps.proofs.CallLaws.{unless-some, unless-none, Told, told, told-refusal}
+
+-- ---- the bytes of a step whose rule is r
+
+module _ (f : Format) (step : ProofStep) (r : KindRule) (ls : List ℕ) (e : r ≡ ruleOf step) where
+  by-rule : (w : Writes) → r .writes ≡ w → encode f (clauseSteps step ls) ≡ encode f (written w ls)
+  by-rule w q = ap (λ (x : Writes). encode f (written x ls)) (sym (ap (λ (x : KindRule). x .writes) e) ∙ q)
+
+  pub bytes-add : r .writes ≡ Add → encode f (clauseSteps step ls) ≡ encodeStep f (stepOf add ls)
+  bytes-add q = by-rule Add q ∙ encode-one f (stepOf add ls)
+
+  pub bytes-each : r .writes ≡ AddEach → encode f (clauseSteps step ls) ≡ encode f (written AddEach ls)
+  bytes-each q = by-rule AddEach q
+
+  pub bytes-delete : r .writes ≡ Delete → encode f (clauseSteps step ls) ≡ encodeStep f (stepOf delete ls)
+  bytes-delete q = by-rule Delete q ∙ encode-one f (stepOf delete ls)
+
+  pub bytes-nothing : r .writes ≡ Nothing → encode f (clauseSteps step ls) ≡ []
+  bytes-nothing q = by-rule Nothing q ∙ encode-none f
+
+  pub bytes-refused : r .writes ≡ Refused → encode f (clauseSteps step ls) ≡ []
+  bytes-refused q = by-rule Refused q ∙ encode-none f
+
+pub lacked-by : (step : ProofStep) (r : KindRule) (b : Bool) → r ≡ ruleOf step → b ≡ lacked (r .writes) → b ≡ lacked (ruleOf step .writes)
+lacked-by step r b e q = q ∙ ap (λ (x : KindRule). lacked (x .writes)) e
+
+-- ---- bytes with room or without
+
+pub laid-short : (f : Format) (step : ProofStep) (xs ys : List ℕ) (n : ℕ) (o : List ℕ) → xs ≡ ys → n ≡ length (encode f (clauseSteps step xs)) → length o < n
+    → (refused 2 [] ≡ laidAnswer (encode f (clauseSteps step ys)) (length o)) × (o ≡ sets o 0 (laidBytes (encode f (clauseSteps step ys)) (length o)))
+laid-short f step xs ys n o e q l =
+    let bs = encode f (clauseSteps step ys) in
+    let k : length o < length bs = subst (λ (m : ℕ). length o < m) (q ∙ ap (λ (zs : List ℕ). length (encode f (clauseSteps step zs))) e) l in
+    (rw (lt-ltb (length o) (length bs) k), rw (lt-ltb (length o) (length bs) k))
+
+pub laid-whole : (f : Format) (step : ProofStep) (xs ys : List ℕ) (n : ℕ) (o p : List ℕ) → xs ≡ ys → n ≡ length (encode f (clauseSteps step xs)) → n ≤ length o
+    → p ≡ sets o 0 (encode f (clauseSteps step xs))
+    → (accepted (n ∷ []) ≡ laidAnswer (encode f (clauseSteps step ys)) (length o)) × (p ≡ sets o 0 (laidBytes (encode f (clauseSteps step ys)) (length o)))
+laid-whole f step xs ys n o p e q l r =
+    let bs = encode f (clauseSteps step ys) in
+    let w : n ≡ length bs = q ∙ ap (λ (zs : List ℕ). length (encode f (clauseSteps step zs))) e in
+    (rw (le-ltb (length o) (length bs) (omega arith), w), rw (le-ltb (length o) (length bs) (omega arith)) (r ∙ ap (λ (zs : List ℕ). sets o 0 (encode f (clauseSteps step zs))) e))
+
+-- ---- the call
+
+-- the table that an answer leaves is the one given
+left-same : (r : Recorded) (t : Table) → tableOf (recorded r (t .counts) .counts) (t .globalFromUser) (t .userFromGlobal) (t .solverFromGlobal) (t .globalFromSolver) (t .assignment) (t .records) ≡ t
+left-same (W.Done n) t = refl
+left-same (W.Refused n) t = refl
+
+module _ (f : Format) (t : Table) (step : ProofStep) (s : Bool) (lits hashes d : List ℕ) where
+  abbrev outcome : Outcome
+  outcome = writeOf f t step s lits hashes (length d)
+
+  abbrev refusing : ℕ
+  refusing = writeRefusal f t step s lits hashes (length d)
+
+  abbrev bytes : List ℕ
+  bytes = encode f (clauseSteps step (renameLits (holders t) s (literalsOf step lits)))
+
+  abbrev filled : Outcome
+  filled = record { answer = accepted (length bytes ∷ []); table = t; notes = []; words = []; more = []; bytes = bytes }
+
+  write-refused : (n : ℕ) → n ≡ refusing → (n ≡ 0 → ⊥) → Told outcome (recorded (W.Refused n) (t .counts)) t [] [] d [] [] d
+  unfolding writeOf
+  write-refused n e h = told-refusal outcome n t (recorded (W.Refused n) (t .counts)) [] [] d (unless-some n refusing t _ e h) refl
+
+  pub write-first : (n : ℕ) → n ≡ stepRefusal t step s lits hashes 0 → (n ≡ 0 → ⊥) → Told outcome (recorded (W.Refused n) (t .counts)) t [] [] d [] [] d
+  unfolding writeRefusal
+  write-first n e h = write-refused n (refused-first t step s lits hashes n _ e h) h
+
+  pub write-lacked : (n : ℕ) → n ≡ stepRefusal t step s lits hashes 0 → n ≡ 0 → lacked (ruleOf step .writes) ≡ true
+      → Told outcome (recorded (W.Refused 11) (t .counts)) t [] [] d [] [] d
+  unfolding writeRefusal
+  write-lacked n e z h =
+      write-refused 11 (sym (refused-later t step s lits hashes n _ e z ∙ rw h)) (λ q. omega arith)
+
+  pub write-judged : (n k : ℕ) (r : Recorded) (x : List ℕ) → n ≡ stepRefusal t step s lits hashes 0 → n ≡ 0 → lacked (ruleOf step .writes) ≡ false
+      → k ≡ pick (ruleOf step .renamed) (length lits) 0
+      → recorded r (t .counts) .answer ≡ laidAnswer (encode f (clauseSteps step (renameLits (holders t) s (take k lits)))) (length d)
+      → x ≡ sets d 0 (laidBytes (encode f (clauseSteps step (renameLits (holders t) s (take k lits)))) (length d))
+      → Told outcome (recorded r (t .counts))
+      (tableOf (recorded r (t .counts) .counts) (t .globalFromUser) (t .userFromGlobal) (t .solverFromGlobal) (t .globalFromSolver) (t .assignment) (t .records))
+      [] [] d [] [] x
+  unfolding writeOf writeRefusal stepBytes
+  write-judged n k r x e z h q p u =
+      go (ltb (length d) (length bytes)) refl
+      (p ∙ ap (λ (ls : List ℕ). laidAnswer (encode f (clauseSteps step (renameLits (holders t) s ls))) (length d)) (literals-part step lits k q))
+      (u ∙ ap (λ (ls : List ℕ). sets d 0 (laidBytes (encode f (clauseSteps step (renameLits (holders t) s ls))) (length d))) (literals-part step lits k q))
+    where
+      after : (b : Bool) → ltb (length d) (length bytes) ≡ b → refusing ≡ pick b 2 0
+      after b y = refused-later t step s lits hashes n _ e z ∙ rw (h, y)
+
+      go : (b : Bool) → ltb (length d) (length bytes) ≡ b → recorded r (t .counts) .answer ≡ pick b (refused 2 []) (accepted (length bytes ∷ [])) → x ≡ sets d 0 (pick b [] bytes)
+          → Told outcome (recorded r (t .counts))
+          (tableOf (recorded r (t .counts) .counts) (t .globalFromUser) (t .userFromGlobal) (t .solverFromGlobal) (t .globalFromSolver) (t .assignment) (t .records))
+          [] [] d [] [] x
+      go true y a w = told outcome (refusal 2 t) (recorded r (t .counts)) _ [] [] d [] [] x (unless-some 2 refusing t _ (sym (after true y)) (λ q. omega arith)) refl a (left-same r t) refl refl w
+      go false y a w = told outcome filled (recorded r (t .counts)) _ [] [] d [] [] x (unless-none 0 refusing t filled (sym (after false y)) refl) refl a (left-same r t) refl refl w

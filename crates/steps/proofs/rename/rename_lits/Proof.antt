@@ -1,0 +1,69 @@
+use Rattle.steps.proofs.LiteralLaws.{word-small, held-at}
+use Rattle.scope.specs.Write.{renameLit, renameLits}
+use Prim.Native.Nat.{_≤_, _-_}
+use lib.ListN.{length, getD}
+use mathlib.Core.Path.{_≡_}
+use native.Mathlib.Omega.{arith}
+use Rattle.steps.proofs.StoreLaws.{copied, copy-start, copy-next, copy-end, copy-kept, copy-there}
+use borrow.Author.Needs.{needs}
+use Rattle.steps.proofs.rename.rename_lits.Statement.{statement}
+use Rattle.steps.proofs.rename.rename_lits.Tie as tie
+
+abbrev Inv-loop : tie.InvT-loop
+Inv-loop gu ug sg gs assignment records solvervars lits out₀ i₀ out i =
+    (i ≤ length lits) × (out ≡ copied (renameLit (λ s. getD gs s 0) solvervars) out₀ lits i)
+
+abbrev μ-loop : tie.MeasureT-loop
+μ-loop gu ug sg gs assignment records solvervars lits out₀ i₀ out i = length lits - i
+
+loop-holds : tie.Need-loop-holds Inv-loop μ-loop
+loop-holds c = (omega arith, copy-start (renameLit (λ s. getD (c .before .before .before .before .before .before .before .before .args .gs .now) s 0) (c .before .before .before .before .before .before .before .before .args .solvervars)) (c .before .before .before .before .before .before .before .before .args .out .now) (c .before .before .before .before .before .before .before .before .args .lits .now))
+
+mul-rename-lit : tie.Need-mul-rename-lit Inv-loop μ-loop
+mul-rename-lit c = search needs
+
+shared-slice-read-rename-lit : tie.Need-shared-slice-read-rename-lit Inv-loop μ-loop
+shared-slice-read-rename-lit c = search needs
+
+rename-lit-requires : tie.Need-rename-lit-requires Inv-loop μ-loop
+rename-lit-requires c κs = (word-small _ (c .before .before .before .before .before .before .before .before .before .before .before .pre .0) _, held-at _ _ _ _ (c .before .before .before .before .before .before .before .before .before .before .before .pre .1 .0) (c .before .loop-test .taken))
+
+mul-out : tie.Need-mul-out Inv-loop μ-loop
+mul-out c = omega arith
+
+slice-write-out : tie.Need-slice-write-out Inv-loop μ-loop
+slice-write-out c = copy-there (renameLit (λ s. getD (c .before .before .before .before .before .before .before .before .before .before .before .before .args .gs .now) s 0) (c .before .before .before .before .before .before .before .before .before .before .before .before .args .solvervars)) (c .before .before .before .before .before .before .before .before .before .before .before .before .args .out .now) (c .before .before .before .before .before .before .before .before .before .before .before .before .args .lits .now) _ _ (c .before .before .loop-test .taken) (c .before .before .before .before .before .before .before .before .before .before .before .before .pre .1 .1) (c .before .before .before .loop .inv .1)
+
+add-i : tie.Need-add-i Inv-loop μ-loop
+add-i c = omega arith
+
+loop-less : tie.Need-loop-less Inv-loop μ-loop
+loop-less c = omega arith
+
+loop-again : tie.Need-loop-again Inv-loop μ-loop
+loop-again c = (omega arith, copy-next (renameLit (λ s. getD (c .before .before .before .before .before .before .before .before .before .before .before .before .args .gs .now) s 0) (c .before .before .before .before .before .before .before .before .before .before .before .before .args .solvervars)) (c .before .before .before .before .before .before .before .before .before .before .before .before .args .out .now) (c .before .before .before .before .before .before .before .before .before .before .before .before .args .lits .now) _ _ _ (c .before .before .loop-test .taken) (c .before .before .before .loop .inv .1) (c .rename-lit .ensures))
+
+same-length : tie.Need-same-length Inv-loop μ-loop
+same-length c = copy-kept (renameLit (λ s. getD (c .before .before .before .before .before .before .before .before .before .before .args .gs .now) s 0) (c .before .before .before .before .before .before .before .before .before .before .args .solvervars)) (c .before .before .before .before .before .before .before .before .before .before .args .out .now) (c .before .before .before .before .before .before .before .before .before .before .args .lits .now) _ (c .before .loop .i) (c .before .loop .inv .1)
+
+returns : tie.Need-returns Inv-loop μ-loop
+unfolding renameLits
+returns c = copy-end (renameLit (λ s. getD (c .before .before .before .before .before .before .before .before .before .before .args .gs .now) s 0) (c .before .before .before .before .before .before .before .before .before .before .args .solvervars)) (c .before .before .before .before .before .before .before .before .before .before .args .out .now) (c .before .before .before .before .before .before .before .before .before .before .args .lits .now) _ _ (c .loop-test .left) (c .before .loop .inv .1)
+
+pub rename-lits-spec : {M : Type 1} → statement M
+rename-lits-spec =
+    tie.close
+    (tie.spec
+    Inv-loop
+    μ-loop
+    loop-holds
+    mul-rename-lit
+    shared-slice-read-rename-lit
+    rename-lit-requires
+    mul-out
+    slice-write-out
+    add-i
+    loop-less
+    loop-again
+    same-length
+    returns)

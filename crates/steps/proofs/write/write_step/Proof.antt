@@ -1,0 +1,53 @@
+use Rattle.steps.proofs.WriteLaws.{write-first, write-lacked, write-judged, lacked-by}
+use Rattle.steps.proofs.StepLaws.{literals-most, literals-part, step-clear}
+use Rattle.scope.specs.Write.{outside, unheld}
+use lib.Seq.{length-take-le}
+use mathlib.Core.Path.{sym, ap, _∙_}
+use borrow.Author.Needs.{needs}
+use Rattle.steps.proofs.write.write_step.Statement.{statement}
+use Rattle.steps.proofs.write.write_step.Tie as tie
+
+step-refusal-requires : tie.Need-step-refusal-requires
+step-refusal-requires c κs = search needs
+
+returns : tie.Need-returns
+returns c = let z = write-first (c .before .before .before .before .before .before .before .before .before .before .before .args .f) _ (c .before .before .before .before .before .before .before .before .before .before .before .args .step) (c .before .before .before .before .before .before .before .before .before .before .before .args .solvervars) (c .before .before .before .before .before .before .before .before .before .before .before .args .lits .now) (c .before .before .before .before .before .before .before .before .before .before .before .args .hashes .now) (c .before .before .before .before .before .before .before .before .before .before .before .args .out .now) _ (c .before .step-refusal .ensures) (c .if1 .taken) in (z .does, z .bytes)
+
+rule-of-requires : tie.Need-rule-of-requires
+rule-of-requires c κs = search needs
+
+is-lacked-requires : tie.Need-is-lacked-requires
+is-lacked-requires c κs = search needs
+
+returns-2 : tie.Need-returns-2
+returns-2 c = let z = write-lacked (c .before .before .before .before .before .before .before .before .before .before .before .before .before .before .args .f) _ (c .before .before .before .before .before .before .before .before .before .before .before .before .before .before .args .step) (c .before .before .before .before .before .before .before .before .before .before .before .before .before .before .args .solvervars) (c .before .before .before .before .before .before .before .before .before .before .before .before .before .before .args .lits .now) (c .before .before .before .before .before .before .before .before .before .before .before .before .before .before .args .hashes .now) (c .before .before .before .before .before .before .before .before .before .before .before .before .before .before .args .out .now) _ (c .before .before .before .before .step-refusal .ensures) (c .before .before .before .if1 .left) (sym (lacked-by (c .before .before .before .before .before .before .before .before .before .before .before .before .before .before .args .step) _ _ (c .before .before .rule-of .ensures) (c .before .is-lacked .ensures)) ∙ (c .if2 .taken)) in (z .does, z .bytes)
+
+carried-requires : tie.Need-carried-requires
+carried-requires c κs = search needs
+
+slice-aggregate-write-judged : tie.Need-slice-aggregate-write-judged
+slice-aggregate-write-judged c = sym (length-take-le _ _ (literals-most (c .before .before .before .before .before .before .before .before .before .before .before .before .before .before .before .before .args .step) (c .before .before .before .before .before .before .before .before .before .before .before .before .before .before .before .before .args .lits .now) _ (c .before .carried .ensures)))
+
+write-judged-requires : tie.Need-write-judged-requires
+write-judged-requires c κs = let k = step-clear _ (c .before .before .before .before .before .before .before .before .before .before .before .before .before .before .before .before .before .args .step) (c .before .before .before .before .before .before .before .before .before .before .before .before .before .before .before .before .before .args .solvervars) (c .before .before .before .before .before .before .before .before .before .before .before .before .before .before .before .before .before .args .lits .now) (c .before .before .before .before .before .before .before .before .before .before .before .before .before .before .before .before .before .args .hashes .now) _ (c .before .before .before .before .before .before .before .step-refusal .ensures) (c .before .before .before .before .before .before .if1 .left) in let p = literals-part (c .before .before .before .before .before .before .before .before .before .before .before .before .before .before .before .before .before .args .step) (c .before .before .before .before .before .before .before .before .before .before .before .before .before .before .before .before .before .args .lits .now) _ (c .before .before .carried .ensures) in (k .sound, (ap (outside _ (c .before .before .before .before .before .before .before .before .before .before .before .before .before .before .before .before .before .args .solvervars)) p ∙ k .literals .inside, ap (unheld _ (c .before .before .before .before .before .before .before .before .before .before .before .before .before .before .before .before .before .args .solvervars)) p ∙ k .literals .held))
+
+same-length : tie.Need-same-length
+same-length c = search needs
+
+returns-3 : tie.Need-returns-3
+returns-3 c = let z = write-judged (c .before .before .before .before .before .before .before .before .before .before .before .before .before .before .before .before .before .before .before .before .args .f) _ (c .before .before .before .before .before .before .before .before .before .before .before .before .before .before .before .before .before .before .before .before .args .step) (c .before .before .before .before .before .before .before .before .before .before .before .before .before .before .before .before .before .before .before .before .args .solvervars) (c .before .before .before .before .before .before .before .before .before .before .before .before .before .before .before .before .before .before .before .before .args .lits .now) (c .before .before .before .before .before .before .before .before .before .before .before .before .before .before .before .before .before .before .before .before .args .hashes .now) (c .before .before .before .before .before .before .before .before .before .before .before .before .before .before .before .before .before .before .before .before .args .out .now) _ _ (c .before .before .write-judged .result) _ (c .before .before .before .before .before .before .before .before .before .before .step-refusal .ensures) (c .before .before .before .before .before .before .before .before .before .if1 .left) (sym (lacked-by (c .before .before .before .before .before .before .before .before .before .before .before .before .before .before .before .before .before .before .before .before .args .step) _ _ (c .before .before .before .before .before .before .before .before .rule-of .ensures) (c .before .before .before .before .before .before .before .is-lacked .ensures)) ∙ (c .before .before .before .before .before .before .if2 .left)) (c .before .before .before .before .before .carried .ensures) (c .before .before .write-judged .ensures .0) (c .before .before .write-judged .ensures .1) in (z .does, z .bytes)
+
+pub write-step-spec : {M : Type 1} → statement M
+write-step-spec =
+    tie.close
+    (tie.spec
+    step-refusal-requires
+    returns
+    rule-of-requires
+    is-lacked-requires
+    returns-2
+    carried-requires
+    slice-aggregate-write-judged
+    write-judged-requires
+    same-length
+    returns-3)

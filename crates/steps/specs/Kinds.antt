@@ -1,0 +1,32 @@
+-- The table of step kinds by number.
+use Prim.Native.Nat.{ℕ}
+use mathlib.Core.Bool.{false}
+use mathlib.Core.List.{List, [], _∷_}
+use lib.ListN.{getD}
+use Rattle.scope.specs.declared.DeleteClauseProof.the-variants.{Redundant}
+use Rattle.scope.specs.declared.ProofStep.{ProofStep}
+use Rattle.scope.specs.declared.ProofStep.the-variants.{AddClause, AtClause, UnitClauses, DeleteClause, Model, Assumptions, FailedAssumptions, SolverVarName, UserVarName, DeleteVar, ChangeSamplingMode, ChangeHashBits, End}
+use Rattle.scope.specs.declared.KindRule.{KindRule}
+use Rattle.scope.specs.Steps.{ruleOf}
+
+-- a step of each kind, in the order of the table
+abbrev kinds : List ProofStep
+kinds =
+    AddClause
+    ∷ AtClause false
+    ∷ UnitClauses
+    ∷ DeleteClause Redundant
+    ∷ Model
+    ∷ Assumptions
+    ∷ FailedAssumptions
+    ∷ SolverVarName (record { 0 = 0 }) 0
+    ∷ UserVarName (record { 0 = 0 }) 0
+    ∷ DeleteVar (record { 0 = 0 })
+    ∷ ChangeSamplingMode (record { 0 = 0 }) false
+    ∷ ChangeHashBits 0
+    ∷ End
+    ∷ []
+
+-- the rule of the kind with this number
+abbrev pub ruleAt : ℕ → KindRule
+ruleAt k = ruleOf (getD kinds k End)

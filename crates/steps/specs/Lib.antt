@@ -1,0 +1,3 @@
+pub mod Kinds
+pub mod Refusals
+pub mod Answers
