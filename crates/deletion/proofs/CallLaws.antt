@@ -36,3 +36,13 @@ call-noted values vs x next d left words words2 h e =
       table = h .table;
       noted = h .noted;
     }
+
+-- What a call fills into another slice.
+pub refused-words : (n k : ℕ) (t : Table) (o : Outcome) → k ≡ n → (k ≡ 0 → ⊥) → unless n t o .words ≡ []
+unfolding unless
+refused-words zero k t o e h = absurd (h e)
+refused-words (suc n) k t o e h = refl
+
+pub accepted-words : (n k : ℕ) (t : Table) (o : Outcome) → k ≡ n → k ≡ 0 → unless n t o .words ≡ o .words
+unfolding unless
+accepted-words n k t o e h = rw (sym e ∙ h)

@@ -19,6 +19,12 @@ use Rattle.deletion.proofs.LeavingLaws.{leaves-stay}
 pub record-read : (t : Table) (g : ℕ) → g < length (t .records) → getD (t .records) g 0 ≡ recordOf t g
 record-read t g l = getD-default (t .records) g 0 47 l
 
+-- a word that was cleared
+pub cleared : (xs : List ℕ) (i : ℕ) → getD (set xs i 0) i 0 ≡ 0
+cleared [] i = refl
+cleared (x ∷ xs) zero = refl
+cleared (x ∷ xs) (suc i) = cleared xs i
+
 module _ (t : Table) (g : ℕ) (h : Live t g) where
   pub delete-fits : getD (t .records) g 0 + 36 < 2 ^ 32
   delete-fits = let e = record-read t g (h .words) in let u = h .undeleted in omega arith

@@ -10,6 +10,12 @@ ghost use Rattle.scope.specs.Contract.{given, before, after};
 ghost use Rattle.scope.specs.Modes.{deleteIfUnused};
 ghost use Rattle.deletion.specs.Leaving.{Leaves, Room, Live};
 
+// The counts after an operation inside a call, and the place after its notes.
+pub struct Passed {
+    pub counts: Counts,
+    pub at: usize,
+}
+
 // A global with neither user nor solver index that is isolated is deleted: D (01, "Set mode"). The place after the note is returned.
 // Definition: crates/scope/specs/Modes.antt, `deleteIfUnused`.
 pub fn delete_global_if_unused(

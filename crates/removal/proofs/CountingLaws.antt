@@ -15,13 +15,8 @@ use Rattle.scope.specs.Notes.{Note, solver-, deletes}
 use Rattle.scope.specs.Outcome.{Result, stay, choose, joined, each}
 use Rattle.scope.specs.Modes.{isUnused, deleteIfUnused}
 use Rattle.scope.specs.Remove.{removeHeld, learn, sweepHeld, sweepOne}
+use Rattle.deletion.proofs.DeletionLaws.{cleared}
 use Rattle.removal.specs.Counting.{removalNotes, learnt, isLoose, sweptNotes, notesAt}
-
--- a word that was cleared
-pub cleared : (xs : List ℕ) (i : ℕ) → getD (set xs i 0) i 0 ≡ 0
-cleared [] i = refl
-cleared (x ∷ xs) zero = refl
-cleared (x ∷ xs) (suc i) = cleared xs i
 
 -- without its solver index a global is unused if it has no user and is isolated
 pub unused-without : (g s : ℕ) (t : Table) → isUnused (takeSolver g s t) g ≡ eqb (getD (t .userFromGlobal) g 0) 0 && eqb (isolatedOf (recordOf t g)) 1

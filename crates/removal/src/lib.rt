@@ -1,4 +1,5 @@
 // Remove and Sweep. How the contracts read: crates/scope/specs/Contract.antt, and inside a call crates/deletion/specs/Leaving.antt.
+use deletion::Passed;
 use deletion::delete_global_if_unused;
 use scope::Counts;
 use scope::Global;
@@ -25,12 +26,6 @@ ghost use Rattle.removal.specs.Answers.{removed};
 pub enum Removed {
     Done(Counts, u32),
     Refused(u32),
-}
-
-// The counts after an operation, and the place after its notes.
-pub struct Passed {
-    pub counts: Counts,
-    pub at: usize,
 }
 
 // S(g,-), then D if unused. The assignment word stays.

@@ -1,0 +1,159 @@
+-- A change of mode: C between Sample and Witness; C and U from Hide; U(g,-), and D if unused, to Hide.
+use Prim.Native.Nat.{ℕ, zero, suc, _+_, _*_, _/_, _%_, _-_, _≤_, _<_, _^_}
+use mathlib.Core.Path.{_≡_, refl, sym, ap, _∙_, subst}
+use mathlib.Core.Bool.{Bool, true, false, _&&_}
+use mathlib.Core.List.{List, [], _∷_, _++_}
+use mathlib.Core.Logic.{_≢_}
+use native.Mathlib.Omega.{arith}
+use lib.Dec.{eqb}
+use lib.ListN.{length, getD, set, length-set}
+use lib.Seq.{sets, getD-set-same, getD-set-other}
+use Rattle.base.specs.Choice.{pick}
+use Rattle.base.proofs.SetsLaws.{sets-append}
+use Rattle.scope.specs.declared.Counts.{Counts}
+use Rattle.scope.specs.Table.{Table, tableOf, modeOf, recordOf, withMode, coverUser, giveUser, takeUser, putRecord}
+use Rattle.scope.specs.Sound.{Sound}
+use Rattle.scope.specs.Notes.{Note, user+, user-, changes, notesWords}
+use Rattle.scope.specs.Outcome.{Result, joined}
+use Rattle.scope.specs.Map.{leastFree, nextUser}
+use Rattle.scope.specs.Modes.{deleteIfUnused, show, hide, change}
+use Rattle.scope.proofs.PairLaws.{below-mark}
+use Rattle.scope.proofs.MoveLaws.{undeleted-below}
+use Rattle.scope.proofs.MapLaws.{next-user-before, next-user-most}
+use Rattle.scope.proofs.ModeLaws.{next-user-below}
+use Rattle.deletion.specs.Leaving.{Leaves, Room, Live}
+use Rattle.deletion.proofs.LeavingLaws.{leaves-then}
+use Rattle.deletion.proofs.DeletionLaws.{record-read}
+use Rattle.modes.specs.Asks.{Taken, There, Shows, Hides, Changes}
+use Rattle.modes.proofs.NotesLaws.{there-live}
+
+-- the record with another mode, as the code reads it
+module _ (t : Table) (g : ℕ) (h : There t g) where
+  pub mode-fits : (m : ℕ) → m < 3 → getD (t .records) g 0 / 3 * 3 + m < 2 ^ 32
+  mode-fits m l = let e = record-read t g (there-live t g h .words) in let u = h .undeleted in omega arith
+
+  pub base-fits : getD (t .records) g 0 / 3 * 3 < 2 ^ 32
+  base-fits = let e = record-read t g (there-live t g h .words) in let u = h .undeleted in omega arith
+
+  mode-read : (m : ℕ) → set (t .records) g (getD (t .records) g 0 / 3 * 3 + m) ≡ set (t .records) g (withMode (recordOf t g) m)
+  mode-read m = ap (λ (r : ℕ). set (t .records) g (withMode r m)) (record-read t g (there-live t g h .words))
+
+-- ---- C
+
+module _ (t : Table) (g m : ℕ) where
+  pub change-room : (at room : ℕ) → Room (change g m t) at room → at + 3 ≤ room
+  unfolding change
+  change-room at room r = let a = r .words in omega arith
+
+  pub change-leaves : Changes t g m → (at sample : ℕ) (words words2 : List ℕ) → sample ≡ pick (eqb m 0) 1 0 → words2 ≡ sets words at (3 ∷ g ∷ sample ∷ [])
+      → Leaves (change g m t) at (at + 3)
+      (tableOf (t .counts) (t .globalFromUser) (t .userFromGlobal) (t .solverFromGlobal) (t .globalFromSolver) (t .assignment) (set (t .records) g (getD (t .records) g 0 / 3 * 3 + m))) words words2
+  unfolding change putRecord notesWords
+  change-leaves h at sample words words2 s q = record {
+    table = ap (λ (l : List ℕ). tableOf (t .counts) (t .globalFromUser) (t .userFromGlobal) (t .solverFromGlobal) (t .globalFromSolver) (t .assignment) l) (mode-read t g (h .there) m);
+    noted = q ∙ ap (λ (x : ℕ). sets words at (3 ∷ g ∷ x ∷ [])) s;
+    moved = omega arith;
+  }
+
+-- ---- C and U
+
+module _ (t : Table) (g m : ℕ) where
+  pub show-room : (at room : ℕ) → Room (show g m t) at room → at + 6 ≤ room
+  unfolding show
+  show-room at room r = let a = r .words in omega arith
+
+  pub show-next : (from : ℕ) → Shows t g m from → (t .counts .user ≤ length (t .globalFromUser)) × Taken (t .globalFromUser) (t .counts .user) from
+  show-next from h = let z = h .there .sound .sizes in (omega arith, h .taken)
+
+  module _ (from : ℕ) (h : Shows t g m from) (u : ℕ) (e : u ≡ leastFree (t .globalFromUser) (t .counts .user)) where
+    pub show-user : u ≡ nextUser t
+    unfolding nextUser
+    show-user = e
+
+    -- user indices never run out first
+    pub show-asks : (u < length (t .globalFromUser)) × ((g < length (t .userFromGlobal)) × ((u < 4096) × (g < 4096)))
+    show-asks =
+        let w = h .there in
+        let z = w .sound .sizes in
+        let l = undeleted-below t g (w .sound) (w .undeleted) in
+        let k = next-user-below t g (w .sound) (w .undeleted) (h .hidden) in
+        let i = show-user in
+        omega arith
+
+    module _ (d : Counts) (gu ug : List ℕ) (p : (d ≡ coverUser (t .counts) u g) × ((gu ≡ set (t .globalFromUser) u (g + 1)) × (ug ≡ set (t .userFromGlobal) g (u + 1)))) where
+      shown-is : tableOf d gu ug (t .solverFromGlobal) (t .globalFromSolver) (t .assignment) (set (t .records) g (getD (t .records) g 0 / 3 * 3 + m)) ≡ giveUser g u (withMode (recordOf t g) m) t
+      unfolding giveUser
+      shown-is = λ i. tableOf (p .0 i) (p .1 .0 i) (p .1 .1 i) (t .solverFromGlobal) (t .globalFromSolver) (t .assignment) (mode-read t g (h .there) m i)
+
+      pub show-leaves : (at sample : ℕ) (words words2 words3 : List ℕ) → sample ≡ pick (eqb m 0) 1 0 → words2 ≡ sets words at (3 ∷ g ∷ sample ∷ []) → words3 ≡ sets words2 (at + 3) (0 ∷ g ∷ (u + 1) ∷ [])
+          → Leaves (show g m t) at (at + 6) (tableOf d gu ug (t .solverFromGlobal) (t .globalFromSolver) (t .assignment) (set (t .records) g (getD (t .records) g 0 / 3 * 3 + m))) words words3
+      unfolding show notesWords
+      show-leaves at sample words words2 words3 s q r = record {
+        table = shown-is ∙ ap (λ (v : ℕ). giveUser g v (withMode (recordOf t g) m) t) show-user;
+        noted = r
+            ∙ ap (λ (l : List ℕ). sets l (at + 3) (0 ∷ g ∷ (u + 1) ∷ [])) q
+            ∙ sym (sets-append (3 ∷ g ∷ sample ∷ []) (0 ∷ g ∷ (u + 1) ∷ []) words at)
+            ∙ ap (λ (x : ℕ). sets words at (3 ∷ g ∷ x ∷ 0 ∷ g ∷ (u + 1) ∷ [])) s
+            ∙ ap (λ (v : ℕ). sets words at (3 ∷ g ∷ pick (eqb m 0) 1 0 ∷ 0 ∷ g ∷ (v + 1) ∷ [])) show-user;
+        moved = omega arith;
+      }
+
+-- ---- U(g,-), and D if unused
+
+-- U(g,-) alone
+abbrev withdrawn : ℕ → Table → Result (List ℕ)
+withdrawn g t = record { value = []; table = takeUser g (getD (t .userFromGlobal) g 0 - 1) (withMode (recordOf t g) 2) t; notes = user- g ∷ [] }
+
+module _ (t : Table) (g : ℕ) where
+  pub hide-room : (at room : ℕ) → Room (hide g t) at room → at + 3 ≤ room
+  unfolding hide
+  hide-room at room r = let a = r .words in omega arith
+
+  module _ (h : Hides t g) where
+    pub hide-user : 1 ≤ getD (t .userFromGlobal) g 0
+    hide-user = let n = h .there .sound .rows .row g .seen (h .there .undeleted, h .shown) in omega arith
+
+    pub hide-asks : (getD (t .userFromGlobal) g 0 - 1 < length (t .globalFromUser)) × (g < length (t .userFromGlobal))
+    hide-asks =
+        let w = h .there in
+        let n = hide-user in
+        let z = w .sound .sizes in
+        let i = w .sound .user .inverse (getD (t .userFromGlobal) g 0 - 1) g .1 (omega arith) in
+        let l = below-mark (getD (t .userFromGlobal) g 0 - 1) g (w .sound .user) i in
+        let k = there-live t g w .user in
+        omega arith
+
+    module _ (d : Counts) (gu ug : List ℕ) (p : (d ≡ t .counts) × ((gu ≡ set (t .globalFromUser) (getD (t .userFromGlobal) g 0 - 1) 0) × (ug ≡ set (t .userFromGlobal) g 0))) where
+      mid : Table
+      mid = tableOf d gu ug (t .solverFromGlobal) (t .globalFromSolver) (t .assignment) (set (t .records) g (getD (t .records) g 0 / 3 * 3 + 2))
+
+      mid-is : mid ≡ takeUser g (getD (t .userFromGlobal) g 0 - 1) (withMode (recordOf t g) 2) t
+      unfolding mid takeUser
+      mid-is = λ i. tableOf (p .0 i) (p .1 .0 i) (p .1 .1 i) (t .solverFromGlobal) (t .globalFromSolver) (t .assignment) (mode-read t g (h .there) 2 i)
+
+      withdrawn-leaves : (at : ℕ) (words words2 : List ℕ) → words2 ≡ sets words at (0 ∷ g ∷ 0 ∷ []) → Leaves (withdrawn g t) at (at + 3) mid words words2
+      unfolding notesWords
+      withdrawn-leaves at words words2 q = record { table = mid-is; noted = q; moved = omega arith }
+
+      pub hide-leaves : (at next : ℕ) (left : Table) (words words2 words3 : List ℕ) → words2 ≡ sets words at (0 ∷ g ∷ 0 ∷ [])
+          → Leaves (deleteIfUnused g (tableOf d gu ug (t .solverFromGlobal) (t .globalFromSolver) (t .assignment) (set (t .records) g (getD (t .records) g 0 / 3 * 3 + 2)))) (at + 3) next left words2 words3
+          → Leaves (hide g t) at next left words words3
+      unfolding hide mid
+      hide-leaves at next left words words2 words3 q k = leaves-then (deleteIfUnused g) (withdrawn-leaves at words words2 q) k
+
+      live : Live mid g
+      unfolding mid
+      live =
+          let l = there-live t g (h .there) in
+          let x : length ug ≡ length (t .userFromGlobal) = ap length (p .1 .1) ∙ length-set (t .userFromGlobal) g 0 in
+          let y = length-set (t .records) g (getD (t .records) g 0 / 3 * 3 + 2) in
+          let r = getD-set-same (t .records) g (getD (t .records) g 0 / 3 * 3 + 2) 47 (l .words) in
+          let e = record-read t g (l .words) in
+          let w = l .undeleted in
+          record { user = omega arith; solver = l .solver; words = omega arith; small = l .small; undeleted = omega arith }
+
+      pub hide-delete : (at room room2 : ℕ) → Room (hide g t) at room → room2 ≡ room
+          → Live (tableOf d gu ug (t .solverFromGlobal) (t .globalFromSolver) (t .assignment) (set (t .records) g (getD (t .records) g 0 / 3 * 3 + 2))) g
+          × Room (deleteIfUnused g (tableOf d gu ug (t .solverFromGlobal) (t .globalFromSolver) (t .assignment) (set (t .records) g (getD (t .records) g 0 / 3 * 3 + 2)))) (at + 3) room2
+      unfolding hide mid
+      hide-delete at room room2 r q = (live, subst (λ (u : Table). Room (deleteIfUnused g u) (at + 3) room2) (sym mid-is) (let a = r .words in record { words = omega arith }))

@@ -1,0 +1,86 @@
+-- Hidden globals, one by one and counted, by the tests that the code makes.
+use Prim.Native.Nat.{ℕ, zero, suc, _+_, _*_, _/_, _%_, _≤_, _<_, _^_}
+use mathlib.Core.Path.{_≡_, refl, sym, ap, _∙_, subst}
+use mathlib.Core.Bool.{Bool, true, false, _&&_, not}
+use mathlib.Core.List.{List}
+use native.Mathlib.Omega.{arith}
+use lib.Dec.{eqb, ltb}
+use lib.ListN.{length, getD}
+use Rattle.base.specs.Choice.{pick}
+use Rattle.base.specs.Bounded.{allBelow, count}
+use Rattle.base.proofs.BelowLaws.{all-none, all-more, all-fails}
+use Rattle.base.proofs.CountLaws.{count-none, count-yes, count-no, count-most}
+use Rattle.base.proofs.MemberLaws.{getD-default}
+use Rattle.scope.specs.Table.{assumedOf}
+use Rattle.scope.specs.Modes.{isHidden}
+
+pub hidden-read : (w : ℕ) → ltb w 36 && eqb (w % 3) 2 ≡ isHidden w
+unfolding isHidden
+hidden-read w = refl
+
+-- ---- none is assumed
+
+-- the record of g is not that of an assumed hidden global
+abbrev pub fine : List ℕ → ℕ → Bool
+fine records g = not (isHidden (getD records g 47) && eqb (assumedOf (getD records g 47)) 1)
+
+module _ (records : List ℕ) (mark g : ℕ) (w : mark ≤ length records) (k : g < mark) (b : Bool) (e : b ≡ isHidden (getD records g 0)) where
+  fine-read : (x : Bool) → b && eqb (getD records g 0 / 18 % 2) 1 ≡ x → fine records g ≡ not x
+  fine-read x q = ap not (ap (λ (r : ℕ). isHidden r && eqb (assumedOf r) 1) (getD-default records g 47 0 (omega arith)) ∙ ap (λ (y : Bool). y && eqb (getD records g 0 / 18 % 2) 1) (sym e) ∙ q)
+
+  pub fine-fails : b && eqb (getD records g 0 / 18 % 2) 1 ≡ true → false ≡ allBelow mark (fine records)
+  fine-fails q = sym (all-fails mark (fine records) g k (fine-read true q))
+
+  pub fine-more : allBelow g (fine records) ≡ true → b && eqb (getD records g 0 / 18 % 2) 1 ≡ false → allBelow (g + 1) (fine records) ≡ true
+  fine-more h q = all-more g (fine records) h (fine-read false q)
+
+pub fine-none : (records : List ℕ) → allBelow 0 (fine records) ≡ true
+fine-none records = all-none (fine records)
+
+pub fine-end : (records : List ℕ) (mark g : ℕ) → g ≡ mark → allBelow g (fine records) ≡ true → true ≡ allBelow mark (fine records)
+fine-end records mark g e h = sym (ap (λ (i : ℕ). allBelow i (fine records)) (sym e) ∙ h)
+
+-- ---- how many there are
+
+-- 1 where the test holds, else 0
+abbrev pub one : Bool → ℕ
+one b = pick b 1 0
+
+pub hidden-one : (b : Bool) (w : ℕ) → b ≡ isHidden w → b ≡ true → 1 ≡ one (isHidden w)
+hidden-one b w e q = rw (sym e ∙ q)
+
+pub hidden-zero : (b : Bool) (w : ℕ) → b ≡ isHidden w → b ≡ false → 0 ≡ one (isHidden w)
+hidden-zero b w e q = rw (sym e ∙ q)
+
+abbrev pub hiddenAt : List ℕ → ℕ → Bool
+hiddenAt records g = isHidden (getD records g 47)
+
+pub count-next : (g : ℕ) (p : ℕ → Bool) → count (g + 1) p ≡ count g p + one (p g)
+count-next g p = go (p g) refl
+  where
+    go : (b : Bool) → p g ≡ b → count (g + 1) p ≡ count g p + one b
+    go true e = count-yes g p e
+    go false e = let x = count-no g p e in omega arith
+
+pub hidden-none : (records : List ℕ) → 0 ≡ count 0 (hiddenAt records)
+hidden-none records = sym (count-none (hiddenAt records))
+
+pub hidden-more : (records : List ℕ) (mark g n k : ℕ) → mark ≤ length records → g < mark → n ≡ count g (hiddenAt records) → k ≡ one (isHidden (getD records g 0)) → n + k ≡ count (g + 1) (hiddenAt records)
+hidden-more records mark g n k w l e q =
+    let x = count-next g (hiddenAt records) in
+    let y : one (isHidden (getD records g 0)) ≡ one (hiddenAt records g) = ap (λ (r : ℕ). one (isHidden r)) (getD-default records g 0 47 (omega arith)) in
+    omega arith
+
+pub hidden-end : (records : List ℕ) (mark g n : ℕ) → g ≡ mark → n ≡ count g (hiddenAt records) → n ≡ count mark (hiddenAt records)
+hidden-end records mark g n e q = q ∙ ap (λ (i : ℕ). count i (hiddenAt records)) e
+
+-- a count fits its word
+pub hidden-fits : (records : List ℕ) (g mark n k : ℕ) → g < mark → mark < 2 ^ 32 → n ≡ count g (hiddenAt records) → k ≡ one (isHidden (getD records g 0)) → n + k < 2 ^ 32
+hidden-fits records g mark n k l m e q =
+    let x = count-most g (hiddenAt records) in
+    let y = most (isHidden (getD records g 0)) in
+    omega arith
+  where
+    most : (b : Bool) → one b ≤ 1
+    most true = omega arith
+    most false = omega arith

@@ -1,0 +1,172 @@
+-- The observation of one global, and of all: how many users and notes, and what a turn leaves.
+use Prim.Native.Nat.{ℕ, zero, suc, _+_, _*_, _≤_, _<_, _^_, max}
+use mathlib.Core.Path.{_≡_, refl, sym, ap, _∙_, subst}
+use mathlib.Core.Bool.{Bool, true, false}
+use mathlib.Core.List.{List, [], _∷_, _++_}
+use mathlib.Core.Logic.{⊎-elim}
+use native.Mathlib.Nat.{eq-or-lt-of-le}
+use native.Mathlib.Numerals.{add-one}
+use native.Mathlib.Omega.{arith}
+use lib.ListN.{length, getD, set, length-append}
+use lib.Seq.{sets, length-sets}
+use Rattle.base.specs.Bounded.{count}
+use Rattle.base.proofs.SetsLaws.{sets-append}
+use Rattle.base.proofs.CountLaws.{count-none}
+use Rattle.scope.specs.Table.{Table, recordOf, giveUser}
+use Rattle.scope.specs.Sound.{Sound}
+use Rattle.scope.specs.Outcome.{Result, stay, choose, each}
+use Rattle.scope.specs.Map.{leastFree, nextUser}
+use Rattle.scope.specs.Modes.{show, isHidden, observeOne, observe}
+use Rattle.scope.proofs.MoveLaws.{undeleted-below}
+use Rattle.scope.proofs.ResultLaws.{each-zero, each-value, each-notes, choose-then, choose-else}
+use Rattle.scope.proofs.ModeLaws.{hidden-of, next-user-below, observe-passed}
+use Rattle.deletion.specs.Leaving.{Leaves, Room}
+use Rattle.deletion.proofs.LeavingLaws.{leaves-stay}
+use Rattle.deletion.proofs.DeletionLaws.{record-read}
+use Rattle.modes.specs.Asks.{Taken, There, Shows, Filled, Observes}
+use Rattle.modes.proofs.CursorLaws.{taken-more}
+use Rattle.modes.proofs.HiddenLaws.{one, hiddenAt, count-next}
+
+-- ---- how many
+
+-- the users of one more turn
+pub values-more : (t : Table) (g : ℕ) → length (each (g + 1) observeOne t .value) ≡ length (each g observeOne t .value) + length (observeOne g (each g observeOne t .table) .value)
+values-more t g = ap length (each-value observeOne t g) ∙ length-append (each g observeOne t .value) (observeOne g (each g observeOne t .table) .value)
+
+one-count : (g : ℕ) (t : Table) → (length (observeOne g t .value) ≡ one (isHidden (recordOf t g))) × (length (observeOne g t .notes) ≡ 2 * one (isHidden (recordOf t g)))
+unfolding observeOne choose show
+one-count g t = go (isHidden (recordOf t g))
+  where
+    go : (b : Bool) → (length (choose b (show g 1 t) (stay [] t) .value) ≡ one b) × (length (choose b (show g 1 t) (stay [] t) .notes) ≡ 2 * one b)
+    go true = (refl, refl)
+    go false = (refl, refl)
+
+-- n hidden globals: n users, 2 n notes
+turns-count : (t : Table) → Sound t → (i : ℕ) → (length (each i observeOne t .value) ≡ count i (hiddenAt (t .records))) × (length (each i observeOne t .notes) ≡ 2 * count i (hiddenAt (t .records)))
+turns-count t p zero =
+    let z = count-none (hiddenAt (t .records)) in
+    let a = ap (λ (x : Result (List ℕ)). length (x .value)) (each-zero observeOne t) in
+    let b = ap (λ (x : Result (List ℕ)). length (x .notes)) (each-zero observeOne t) in
+    omega arith
+turns-count t p (suc i) =
+    let h = turns-count t p i in
+    let o = observe-passed t p i in
+    let k = one-count i (each i observeOne t .table) in
+    let r : one (isHidden (recordOf (each i observeOne t .table) i)) ≡ one (hiddenAt (t .records) i) = ap (λ (w : ℕ). one (isHidden w)) (o .records i (omega arith)) in
+    let n = count-next i (hiddenAt (t .records)) in
+    let a = values-more t i in
+    let b = ap length (each-notes observeOne t i) ∙ length-append (each i observeOne t .notes) (observeOne i (each i observeOne t .table) .notes) in
+    rw (← add-one i) (omega arith)
+
+pub observe-count : (t : Table) → Sound t → (length (observe t .value) ≡ count (t .counts .global) (hiddenAt (t .records))) × (length (observe t .notes) ≡ 2 * count (t .counts .global) (hiddenAt (t .records)))
+unfolding observe
+observe-count t p = turns-count t p (t .counts .global)
+
+-- ---- users in a row
+
+pub filled-none : (t : Table) (words : List ℕ) → Filled (each 0 observeOne t) 0 0 words words
+filled-none t words = subst (λ (x : Result (List ℕ)). Filled x 0 0 words words) (sym (each-zero observeOne t)) (record { values = refl; moved = refl })
+
+pub filled-more : (t : Table) (g n next : ℕ) (left : Table) (words words2 words3 : List ℕ) → left ≡ each g observeOne t .table
+    → Filled (each g observeOne t) 0 n words words2 → Filled (observeOne g left) n next words2 words3 → Filled (each (g + 1) observeOne t) 0 next words words3
+filled-more t g n next left words words2 words3 e h k =
+    let k2 = subst (λ (s : Table). Filled (observeOne g s) n next words2 words3) e k in
+    let xs = each g observeOne t .value in
+    let ys = observeOne g (each g observeOne t .table) .value in
+    let a = h .moved in
+    let b = k2 .moved in
+    let l = values-more t g in
+    let m : n ≡ 0 + length xs = omega arith in
+    record {
+      values = k2 .values
+          ∙ ap (λ (w : List ℕ). sets w n ys) (h .values)
+          ∙ ap (λ (i : ℕ). sets (sets words 0 xs) i ys) m
+          ∙ sym (sets-append xs ys words 0)
+          ∙ ap (λ (w : List ℕ). sets words 0 w) (sym (each-value observeOne t g));
+      moved = omega arith;
+    }
+
+-- more turns answer no fewer users
+pub values-up : (t : Table) (n m : ℕ) → n ≤ m → length (each n observeOne t .value) ≤ length (each m observeOne t .value)
+unfolding each
+values-up t n zero l = let e : n ≡ 0 = omega arith in rw e (omega arith)
+values-up t n (suc m) l = ⊎-elim
+    (λ (e : n ≡ suc m). rw e (omega arith))
+    (λ (k : n < suc m). let x = values-up t n m (omega arith) in simp length-append (omega arith))
+    (eq-or-lt-of-le l)
+
+-- ---- one global
+
+module _ (t : Table) (g from n outs : ℕ) (h : Observes t g from n outs) where
+  pub observe-words : g < length (t .records)
+  observe-words = let z = h .sound .sizes in let l = h .below in omega arith
+
+  record-is : getD (t .records) g 0 ≡ recordOf t g
+  record-is = record-read t g observe-words
+
+  module _ (b : Bool) (e : b ≡ isHidden (getD (t .records) g 0)) where
+    hidden-is : isHidden (recordOf t g) ≡ b
+    hidden-is = ap isHidden (sym record-is) ∙ sym e
+
+    stays : b ≡ false → observeOne g t ≡ stay [] t
+    unfolding observeOne
+    stays q = choose-else _ _ _ (hidden-is ∙ q)
+
+    pub one-stays : b ≡ false → (at : ℕ) (words users : List ℕ) → Leaves (observeOne g t) at at t words words × (Filled (observeOne g t) n n users users × Taken (t .globalFromUser) (t .counts .user) from)
+    one-stays q at words users = (
+      subst (λ (x : Result (List ℕ)). Leaves x at at t words words) (sym (stays q)) (leaves-stay t at words),
+      (subst (λ (x : Result (List ℕ)). Filled x n n users users) (sym (stays q)) (record { values = refl; moved = omega arith }), h .taken),
+    )
+
+    module _ (q : b ≡ true) where
+      shows : observeOne g t ≡ show g 1 t
+      unfolding observeOne
+      shows = choose-then _ _ _ (hidden-is ∙ q)
+
+      there : There t g
+      there = record { sound = h .sound; undeleted = hidden-of (recordOf t g) (hidden-is ∙ q) .0 }
+
+      pub one-asks : (at room : ℕ) → Room (observeOne g t) at room → Shows t g 1 from × Room (show g 1 t) at room
+      one-asks at room r = (
+        record { there = there; hidden = hidden-of (recordOf t g) (hidden-is ∙ q) .1; mode = omega arith; taken = h .taken },
+        subst (λ (x : Result (List ℕ)). Room x at room) shows r,
+      )
+
+      -- there is a place for the user
+      pub one-room : n < outs
+      unfolding show
+      one-room = let w = h .words in let x = ap (λ (y : Result (List ℕ)). length (y .value)) shows in omega arith
+
+      next-small : nextUser t < 4096
+      next-small =
+          let k = next-user-below t g (h .sound) (there .undeleted) (hidden-of (recordOf t g) (hidden-is ∙ q) .1) in
+          let z = h .sound .sizes in
+          omega arith
+
+      pub one-fits : (u : ℕ) → u ≡ nextUser t → u + 1 < 2 ^ 32
+      one-fits u p = let l = next-small in omega arith
+
+      after-taken : (u : ℕ) (left : Table) → u ≡ nextUser t → left ≡ show g 1 t .table → Taken (left .globalFromUser) (left .counts .user) (u + 1)
+      unfolding show giveUser nextUser
+      after-taken u left p k =
+          subst (λ (s : Table). Taken (s .globalFromUser) (s .counts .user) (u + 1)) (sym k)
+          (subst (λ (v : ℕ). Taken (set (t .globalFromUser) v (g + 1)) (max (t .counts .user) (v + 1)) (u + 1)) p
+          (taken-more (t .globalFromUser) (t .counts .user) u g p (small u p)))
+        where
+          small : (u : ℕ) → u ≡ leastFree (t .globalFromUser) (t .counts .user) → u < length (t .globalFromUser)
+          small u p =
+              let k = next-user-below t g (h .sound) (there .undeleted) (hidden-of (recordOf t g) (hidden-is ∙ q) .1) in
+              let z = h .sound .sizes in
+              omega arith
+
+      pub one-shows : (at next u : ℕ) (left : Table) (words words2 users : List ℕ) → Leaves (show g 1 t) at next left words words2 → u ≡ nextUser t
+          → Leaves (observeOne g t) at next left words words2 × (Filled (observeOne g t) n (n + 1) users (set users n u) × Taken (left .globalFromUser) (left .counts .user) (u + 1))
+      unfolding show
+      one-shows at next u left words words2 users k p = (
+        subst (λ (x : Result (List ℕ)). Leaves x at next left words words2) (sym shows) k,
+        (
+          subst (λ (x : Result (List ℕ)). Filled x n (n + 1) users (set users n u)) (sym shows)
+              (record { values = ap (λ (v : ℕ). set users n v) p; moved = refl }),
+          after-taken u left p (k .table),
+        ),
+      )

@@ -1,0 +1,63 @@
+-- What the operations inside Set mode and Observe ask of the table.
+use Prim.Native.Nat.{ℕ, _+_, _*_, _≤_, _<_}
+use mathlib.Core.Path.{_≡_}
+use mathlib.Core.List.{List}
+use mathlib.Core.Logic.{_≢_}
+use lib.ListN.{length, getD}
+use lib.Seq.{sets}
+use Rattle.scope.specs.Table.{Table, modeOf, recordOf}
+use Rattle.scope.specs.Sound.{Sound}
+use Rattle.scope.specs.Outcome.{Result}
+use Rattle.scope.specs.Modes.{setMode, observeOne, observe}
+
+-- Below the place `from`, which is at most the watermark, every index is mapped.
+pub record Taken (xs : List ℕ) (mark from : ℕ) : Type 0 where
+  pub within : from ≤ mark
+  pub before : (k : ℕ) → k < from → getD xs k 0 ≢ 0
+
+-- A sound table with an undeleted global.
+pub record There (t : Table) (g : ℕ) : Type 0 where
+  pub sound : Sound t
+  pub undeleted : recordOf t g < 36
+
+-- The global is hidden, and the new mode is another.
+pub record Shows (t : Table) (g m from : ℕ) : Type 0 where
+  pub there : There t g
+  pub hidden : modeOf (recordOf t g) ≡ 2
+  pub mode : m < 2
+  pub taken : Taken (t .globalFromUser) (t .counts .user) from
+
+-- The global is not hidden.
+pub record Hides (t : Table) (g : ℕ) : Type 0 where
+  pub there : There t g
+  pub shown : modeOf (recordOf t g) ≢ 2
+
+pub record Changes (t : Table) (g m : ℕ) : Type 0 where
+  pub there : There t g
+  pub mode : m < 2
+
+-- The mode is one of the three, and there is room for the notes.
+pub record Sets (t : Table) (g m room : ℕ) : Type 0 where
+  pub there : There t g
+  pub mode : m < 3
+  pub words : 3 * length (setMode g m t .notes) ≤ room
+
+-- ---- Observe
+
+-- The values of x stand from the place n on, words elsewhere are as they were, and the next place is past them.
+pub record Filled (x : Result (List ℕ)) (n next : ℕ) (words words' : List ℕ) : Type 0 where
+  pub values : words' ≡ sets words n (x .value)
+  pub moved : next ≡ n + length (x .value)
+
+-- A sound table with the cursor `from`; there is room for the user of g from the place n on.
+pub record Observes (t : Table) (g from n outs : ℕ) : Type 0 where
+  pub sound : Sound t
+  pub below : g < t .counts .global
+  pub taken : Taken (t .globalFromUser) (t .counts .user) from
+  pub words : n + length (observeOne g t .value) ≤ outs
+
+-- A sound table, with room for the users and for the notes.
+pub record ObservesAll (t : Table) (outs room : ℕ) : Type 0 where
+  pub sound : Sound t
+  pub users : length (observe t .value) ≤ outs
+  pub words : 3 * length (observe t .notes) ≤ room

@@ -1,0 +1,552 @@
+// Set mode and Observe. How the contracts read: crates/scope/specs/Contract.antt, and inside a call crates/deletion/specs/Leaving.antt.
+use deletion::Passed;
+use deletion::delete_global_if_unused;
+use scope::Counts;
+use scope::Global;
+use scope::SamplingMode;
+use scope::User;
+use table::is_sound;
+use table::put_note;
+ghost use mathlib.Core.Path.{_≡_};
+ghost use mathlib.Core.Bool.{_&&_, not};
+ghost use Prim.Native.Nat.{_+_, _*_, _≤_, _<_};
+ghost use lib.Dec.{eqb};
+ghost use lib.ListN.{length, getD};
+ghost use Rattle.base.specs.Choice.{pick};
+ghost use Rattle.base.specs.Bounded.{allBelow, count};
+ghost use Rattle.base.specs.Lent.{old, new, Fills};
+ghost use Rattle.scope.specs.Contract.{given, before, after, lent, Does, Meets};
+ghost use Rattle.scope.specs.Table.{assumedOf};
+ghost use Rattle.scope.specs.Outcome.{noting};
+ghost use Rattle.scope.specs.Map.{leastFree, nextUser};
+ghost use Rattle.scope.specs.Modes.{modeNumber, show, hide, change, setMode, setModeRefusal, setModeOf, isHidden, observeOne, observe, observeRefusal, observeOf};
+ghost use Rattle.deletion.specs.Leaving.{Leaves, Room};
+ghost use Rattle.modes.specs.Asks.{Taken, Shows, Changes, Hides, Sets, Filled, Observes, ObservesAll};
+ghost use Rattle.modes.specs.Counting.{modeNotes};
+ghost use Rattle.modes.specs.Answers.{modeSet, observed};
+
+// The counts after, and how many notes were made, with the user granted, if one was; or the number of the refusal.
+pub enum ModeSet {
+    Done(Counts, u32),
+    Shown(User, Counts, u32),
+    Refused(u32),
+}
+
+// How many users were filled, the counts after, and how many notes were made; or the number of the refusal.
+pub enum Observed {
+    Done(u32, Counts, u32),
+    Refused(u32),
+}
+
+// The counts after a global was shown, its user, and the place after the notes.
+pub struct Granted {
+    pub counts: Counts,
+    pub user: User,
+    pub at: usize,
+}
+
+fn mode_number(mode: SamplingMode) -> u32
+    ensures { λ r. ⌜ r ≡ modeNumber mode ⌝ }
+{
+    match mode {
+        SamplingMode::Sample => 0,
+        SamplingMode::Witness => 1,
+        SamplingMode::Hide => 2,
+    }
+}
+
+// The last word of C: 1 for yes, which is Sample.
+fn sample_word(m: u32) -> u32
+    ensures { λ r. ⌜ r ≡ pick (eqb m 0) 1 0 ⌝ }
+{
+    if m == 0 {
+        return 1;
+    }
+    0
+}
+
+// The least unmapped user index; those below `from` are mapped.
+fn next_user(gu: &[u32], mark: u32, from: u32) -> u32
+    requires { ⌜ mark ≤ length (now gu) ⌝ }
+    requires { ⌜ Taken (now gu) mark from ⌝ }
+    ensures { λ r. ⌜ r ≡ leastFree (old gu) mark ⌝ }
+{
+    let mut i = from;
+    while i < mark {
+        if gu[i as usize] == 0 {
+            return i;
+        }
+        i += 1;
+    }
+    i
+}
+
+// From Hide to mode m: C, then U with the least unmapped user index.
+fn show(
+    c: Counts,
+    gu: &mut [u32],
+    ug: &mut [u32],
+    sg: &[u32],
+    gs: &[u32],
+    assignment: &[u32],
+    records: &mut [u32],
+    global: Global,
+    m: u32,
+    from: u32,
+    at: usize,
+    notes: &mut [u32],
+) -> Granted
+    requires { ⌜ Shows (given c gu ug sg gs assignment records) (global .0) m from ⌝ }
+    requires { ⌜ Room (show (global .0) m (given c gu ug sg gs assignment records)) at (length (now notes)) ⌝ }
+    ensures { λ r. ⌜ Leaves (show (global .0) m (before c gu ug sg gs assignment records)) at (r .at)
+        (after (r .counts) gu ug sg gs assignment records) (old notes) (new notes) ⌝ }
+    ensures { λ r. ⌜ r .user .0 ≡ nextUser (before c gu ug sg gs assignment records) ⌝ }
+{
+    let g = global.0 as usize;
+    let next = at + 3;
+    let past = at + 6;
+    let sample = sample_word(m);
+    let w = records[g];
+    records[g] = w / 3 * 3 + m;
+    let u = next_user(gu, c.user, from);
+    let user = User(u);
+    let counts = c.map(gu, ug, user, global);
+    put_note(notes, at, 3, global.0, sample);
+    put_note(notes, next, 0, global.0, u + 1);
+    Granted {
+        counts,
+        user,
+        at: past,
+    }
+}
+
+// To Hide: U(g,-), then D if unused.
+fn hide(
+    c: Counts,
+    gu: &mut [u32],
+    ug: &mut [u32],
+    sg: &[u32],
+    gs: &[u32],
+    assignment: &[u32],
+    records: &mut [u32],
+    global: Global,
+    at: usize,
+    notes: &mut [u32],
+) -> Passed
+    requires { ⌜ Hides (given c gu ug sg gs assignment records) (global .0) ⌝ }
+    requires { ⌜ Room (hide (global .0) (given c gu ug sg gs assignment records)) at (length (now notes)) ⌝ }
+    ensures { λ r. ⌜ Leaves (hide (global .0) (before c gu ug sg gs assignment records)) at (r .at)
+        (after (r .counts) gu ug sg gs assignment records) (old notes) (new notes) ⌝ }
+{
+    let g = global.0 as usize;
+    let next = at + 3;
+    let user = User(ug[g] - 1);
+    let w = records[g];
+    records[g] = w / 3 * 3 + 2;
+    let counts = c.unmap(gu, ug, user, global);
+    put_note(notes, at, 0, global.0, 0);
+    let past = delete_global_if_unused(
+        counts,
+        gu,
+        ug,
+        sg,
+        gs,
+        assignment,
+        records,
+        global,
+        next,
+        notes,
+    );
+    Passed { counts, at: past }
+}
+
+// Between Sample and Witness: C.
+fn change(
+    c: Counts,
+    gu: &[u32],
+    ug: &[u32],
+    sg: &[u32],
+    gs: &[u32],
+    assignment: &[u32],
+    records: &mut [u32],
+    global: Global,
+    m: u32,
+    at: usize,
+    notes: &mut [u32],
+) -> Passed
+    requires { ⌜ Changes (given c gu ug sg gs assignment records) (global .0) m ⌝ }
+    requires { ⌜ Room (change (global .0) m (given c gu ug sg gs assignment records)) at (length (now notes)) ⌝ }
+    ensures { λ r. ⌜ Leaves (change (global .0) m (before c gu ug sg gs assignment records)) at (r .at)
+        (after (r .counts) gu ug sg gs assignment records) (old notes) (new notes) ⌝ }
+{
+    let g = global.0 as usize;
+    let next = at + 3;
+    let sample = sample_word(m);
+    let w = records[g];
+    records[g] = w / 3 * 3 + m;
+    put_note(notes, at, 3, global.0, sample);
+    Passed {
+        counts: c,
+        at: next,
+    }
+}
+
+// How many notes a change to mode m makes, by the solver word and the record of the global.
+fn mode_notes(solver: u32, w: u32, m: u32) -> u32
+    ensures { λ r. ⌜ r ≡ modeNotes solver w m ⌝ }
+{
+    if w % 3 == m {
+        return 0;
+    }
+    if m == 2 {
+        if (solver == 0) & (w / 9 % 2 == 1) {
+            return 2;
+        }
+        return 1;
+    }
+    if w % 3 == 2 {
+        return 2;
+    }
+    1
+}
+
+fn set_mode_refusal(
+    c: Counts,
+    gu: &[u32],
+    ug: &[u32],
+    sg: &[u32],
+    gs: &[u32],
+    assignment: &[u32],
+    records: &[u32],
+    global: Global,
+    mode: SamplingMode,
+    room: usize,
+) -> u32
+    ensures { λ r. ⌜ r ≡ setModeRefusal (before c gu ug sg gs assignment records) (global .0) mode room ⌝ }
+{
+    if !is_sound(c, gu, ug, sg, gs, assignment, records) {
+        return 1;
+    }
+    if c.global <= global.0 {
+        return 3;
+    }
+    let g = global.0 as usize;
+    let w = records[g];
+    if 36 <= w {
+        return 6;
+    }
+    if w / 18 % 2 == 1 {
+        return 7;
+    }
+    let n = mode_notes(sg[g], w, mode_number(mode)) as usize;
+    if room < 3 * n {
+        return 2;
+    }
+    0
+}
+
+// Same mode: nothing. Otherwise by the old mode and the new one.
+fn set_mode(
+    c: Counts,
+    gu: &mut [u32],
+    ug: &mut [u32],
+    sg: &[u32],
+    gs: &[u32],
+    assignment: &[u32],
+    records: &mut [u32],
+    global: Global,
+    m: u32,
+    notes: &mut [u32],
+) -> ModeSet
+    requires { ⌜ Sets (given c gu ug sg gs assignment records) (global .0) m (length (now notes)) ⌝ }
+    ensures { λ r. ⌜ Does (noting (λ us. us) (setMode (global .0) m (before c gu ug sg gs assignment records))) (modeSet r c)
+        (after (modeSet r c .counts) gu ug sg gs assignment records) (old notes) (new notes) ⌝ }
+{
+    let was = records[global.0 as usize] % 3;
+    if was == m {
+        return ModeSet::Done(c, 0);
+    }
+    if m == 2 {
+        let p = hide(c, gu, ug, sg, gs, assignment, records, global, 0, notes);
+        let counts = p.counts;
+        return ModeSet::Done(counts, (p.at / 3) as u32);
+    }
+    if was == 2 {
+        let p = show(
+            c,
+            gu,
+            ug,
+            sg,
+            gs,
+            assignment,
+            records,
+            global,
+            m,
+            0,
+            0,
+            notes,
+        );
+        let counts = p.counts;
+        let user = p.user;
+        return ModeSet::Shown(user, counts, (p.at / 3) as u32);
+    }
+    let p = change(c, gu, ug, sg, gs, assignment, records, global, m, 0, notes);
+    let counts = p.counts;
+    ModeSet::Done(counts, (p.at / 3) as u32)
+}
+
+// Set mode (01, `set_sampling_mode`; refusals 1, 3, 6, 7, 2): the global is sampled, a witness or hidden from now on.
+// Definition: crates/scope/specs/Modes.antt, `setModeOf`; its answer: `modeSet`.
+pub fn set_sampling_mode(
+    c: Counts,
+    gu: &mut [u32],
+    ug: &mut [u32],
+    sg: &[u32],
+    gs: &[u32],
+    assignment: &[u32],
+    records: &mut [u32],
+    global: Global,
+    mode: SamplingMode,
+    notes: &mut [u32],
+) -> ModeSet
+    ensures { λ r. ⌜ Meets (λ t room. setModeOf t (global .0) mode room) (modeSet r c)
+        (lent c gu ug sg gs assignment records notes) ⌝ }
+{
+    let n = set_mode_refusal(
+        c,
+        gu,
+        ug,
+        sg,
+        gs,
+        assignment,
+        records,
+        global,
+        mode,
+        notes.len(),
+    );
+    if n != 0 {
+        return ModeSet::Refused(n);
+    }
+    let m = mode_number(mode);
+    set_mode(c, gu, ug, sg, gs, assignment, records, global, m, notes)
+}
+
+// Undeleted and Hide.
+fn is_hidden(w: u32) -> bool
+    ensures { λ r. ⌜ r ≡ isHidden w ⌝ }
+{
+    (w < 36) & (w % 3 == 2)
+}
+
+// No hidden global is assumed.
+fn none_assumed(records: &[u32], mark: u32) -> bool
+    requires { ⌜ mark ≤ length (now records) ⌝ }
+    ensures { λ r. ⌜ r ≡ allBelow mark (λ g. not (isHidden (getD (old records) g 47) && eqb (assumedOf (getD (old records) g 47)) 1)) ⌝ }
+{
+    let mut g: u32 = 0;
+    while g < mark {
+        let w = records[g as usize];
+        if is_hidden(w) & (w / 18 % 2 == 1) {
+            return false;
+        }
+        g += 1;
+    }
+    true
+}
+
+fn hidden_word(w: u32) -> u32
+    ensures { λ r. ⌜ r ≡ pick (isHidden w) 1 0 ⌝ }
+{
+    if is_hidden(w) {
+        return 1;
+    }
+    0
+}
+
+// How many globals are hidden.
+fn count_hidden(records: &[u32], mark: u32) -> u32
+    requires { ⌜ mark ≤ length (now records) ⌝ }
+    ensures { λ r. ⌜ r ≡ count mark (λ g. isHidden (getD (old records) g 47)) ⌝ }
+{
+    let mut n: u32 = 0;
+    let mut g: u32 = 0;
+    while g < mark {
+        n += hidden_word(records[g as usize]);
+        g += 1;
+    }
+    n
+}
+
+fn observe_refusal(
+    c: Counts,
+    gu: &[u32],
+    ug: &[u32],
+    sg: &[u32],
+    gs: &[u32],
+    assignment: &[u32],
+    records: &[u32],
+    outs: usize,
+    room: usize,
+) -> u32
+    ensures { λ r. ⌜ r ≡ observeRefusal (before c gu ug sg gs assignment records) outs room ⌝ }
+{
+    if !is_sound(c, gu, ug, sg, gs, assignment, records) {
+        return 1;
+    }
+    if !none_assumed(records, c.global) {
+        return 7;
+    }
+    let n = count_hidden(records, c.global) as usize;
+    if (outs < n) | (room < 6 * n) {
+        return 2;
+    }
+    0
+}
+
+// After a global was observed: the counts, the cursor below which every user index is mapped, how many users were filled, and the place after the notes.
+pub struct Seen {
+    pub counts: Counts,
+    pub from: u32,
+    pub filled: usize,
+    pub at: usize,
+}
+
+// A hidden global goes to Witness; its user is filled.
+fn observe_one(
+    c: Counts,
+    gu: &mut [u32],
+    ug: &mut [u32],
+    sg: &[u32],
+    gs: &[u32],
+    assignment: &[u32],
+    records: &mut [u32],
+    global: Global,
+    from: u32,
+    filled: usize,
+    at: usize,
+    users: &mut [u32],
+    notes: &mut [u32],
+) -> Seen
+    requires { ⌜ Observes (given c gu ug sg gs assignment records) (global .0) from filled (length (now users)) ⌝ }
+    requires { ⌜ Room (observeOne (global .0) (given c gu ug sg gs assignment records)) at (length (now notes)) ⌝ }
+    ensures { λ r. ⌜ Leaves (observeOne (global .0) (before c gu ug sg gs assignment records)) at (r .at)
+        (after (r .counts) gu ug sg gs assignment records) (old notes) (new notes) ⌝ }
+    ensures { λ r. ⌜ Filled (observeOne (global .0) (before c gu ug sg gs assignment records)) filled (r .filled) (old users) (new users) ⌝ }
+    ensures { λ r. ⌜ Taken (new gu) (r .counts .user) (r .from) ⌝ }
+{
+    if !is_hidden(records[global.0 as usize]) {
+        return Seen {
+            counts: c,
+            from,
+            filled,
+            at,
+        };
+    }
+    let next = filled + 1;
+    let p = show(
+        c,
+        gu,
+        ug,
+        sg,
+        gs,
+        assignment,
+        records,
+        global,
+        1,
+        from,
+        at,
+        notes,
+    );
+    let counts = p.counts;
+    let user = p.user;
+    users[filled] = user.0;
+    Seen {
+        counts,
+        from: user.0 + 1,
+        filled: next,
+        at: p.at,
+    }
+}
+
+// Every global in ascending order, on a sound table with room for the users and the notes.
+fn observe_all(
+    c: Counts,
+    gu: &mut [u32],
+    ug: &mut [u32],
+    sg: &[u32],
+    gs: &[u32],
+    assignment: &[u32],
+    records: &mut [u32],
+    users: &mut [u32],
+    notes: &mut [u32],
+) -> Seen
+    requires { ⌜ ObservesAll (given c gu ug sg gs assignment records) (length (now users)) (length (now notes)) ⌝ }
+    ensures { λ r. ⌜ Leaves (observe (before c gu ug sg gs assignment records)) 0 (r .at)
+        (after (r .counts) gu ug sg gs assignment records) (old notes) (new notes) ⌝ }
+    ensures { λ r. ⌜ Filled (observe (before c gu ug sg gs assignment records)) 0 (r .filled) (old users) (new users) ⌝ }
+{
+    let last = c.global;
+    let mut k = Seen {
+        counts: c,
+        from: 0,
+        filled: 0,
+        at: 0,
+    };
+    let mut g: u32 = 0;
+    while g < last {
+        let counts = k.counts;
+        k = observe_one(
+            counts,
+            gu,
+            ug,
+            sg,
+            gs,
+            assignment,
+            records,
+            Global(g),
+            k.from,
+            k.filled,
+            k.at,
+            users,
+            notes,
+        );
+        g += 1;
+    }
+    k
+}
+
+// Observe (01, `observe_internal_vars`; refusals 1, 7, 2): undeleted Hide globals in ascending order go to Witness; their users are filled.
+// Definition: crates/scope/specs/Modes.antt, `observeOf`; its answer: `observed`.
+pub fn observe_internal_vars(
+    c: Counts,
+    gu: &mut [u32],
+    ug: &mut [u32],
+    sg: &[u32],
+    gs: &[u32],
+    assignment: &[u32],
+    records: &mut [u32],
+    users: &mut [u32],
+    notes: &mut [u32],
+) -> Observed
+    ensures { λ r. ⌜ Meets (λ t room. observeOf t (length (old users)) room) (observed r c)
+        (lent c gu ug sg gs assignment records notes) ⌝ }
+    ensures out { λ _. ⌜ Fills users 0 (observeOf (before c gu ug sg gs assignment records) (length (old users)) (length (old notes)) .words) ⌝ }
+{
+    let n = observe_refusal(
+        c,
+        gu,
+        ug,
+        sg,
+        gs,
+        assignment,
+        records,
+        users.len(),
+        notes.len(),
+    );
+    if n != 0 {
+        return Observed::Refused(n);
+    }
+    let k = observe_all(c, gu, ug, sg, gs, assignment, records, users, notes);
+    let counts = k.counts;
+    Observed::Done(k.filled as u32, counts, (k.at / 3) as u32)
+}
