@@ -1,8 +1,8 @@
 -- The deletion of a global, by the test that the code makes.
-use Prim.Native.Nat.{ℕ, zero, suc, _+_, _*_, _/_, _%_, _^_, _≤_, _<_}
-use mathlib.Core.Path.{_≡_, refl, sym, ap, _∙_, subst}
+use Prim.Native.Nat.{ℕ, zero, suc, _+_, _^_, _≤_, _<_}
+use mathlib.Core.Path.{_≡_, refl, sym, ap, _∙_}
 use mathlib.Core.Bool.{Bool, true, false, _&&_}
-use mathlib.Core.List.{List, [], _∷_, _++_}
+use mathlib.Core.List.{List, [], _∷_}
 use native.Mathlib.Omega.{arith}
 use lib.Dec.{eqb}
 use lib.ListN.{length, getD, set}
@@ -10,7 +10,7 @@ use lib.Seq.{sets}
 use Rattle.base.proofs.MemberLaws.{getD-default}
 use Rattle.scope.specs.Table.{Table, tableOf, isolatedOf, recordOf, putRecord}
 use Rattle.scope.specs.Notes.{notesWords}
-use Rattle.scope.specs.Outcome.{Result, stay, choose}
+use Rattle.scope.specs.Outcome.{choose}
 use Rattle.scope.specs.Modes.{isUnused, deleteIfUnused}
 use Rattle.deletion.specs.Leaving.{Leaves, Room, Live}
 use Rattle.deletion.proofs.LeavingLaws.{leaves-stay}

@@ -2,8 +2,6 @@
 use scope::Counts;
 use scope::Global;
 use table::put_note;
-ghost use mathlib.Core.Path.{_≡_};
-ghost use Prim.Native.Nat.{_≤_, _<_};
 ghost use lib.ListN.{length};
 ghost use Rattle.base.specs.Lent.{old, new};
 ghost use Rattle.scope.specs.Contract.{given, before, after};

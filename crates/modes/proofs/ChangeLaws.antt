@@ -1,25 +1,21 @@
 -- A change of mode: C between Sample and Witness; C and U from Hide; U(g,-), and D if unused, to Hide.
-use Prim.Native.Nat.{ℕ, zero, suc, _+_, _*_, _/_, _%_, _-_, _≤_, _<_, _^_}
-use mathlib.Core.Path.{_≡_, refl, sym, ap, _∙_, subst}
-use mathlib.Core.Bool.{Bool, true, false, _&&_}
-use mathlib.Core.List.{List, [], _∷_, _++_}
-use mathlib.Core.Logic.{_≢_}
+use Prim.Native.Nat.{ℕ, _+_, _*_, _/_, _-_, _≤_, _<_, _^_}
+use mathlib.Core.Path.{_≡_, sym, ap, _∙_, subst}
+use mathlib.Core.List.{List, [], _∷_}
 use native.Mathlib.Omega.{arith}
 use lib.Dec.{eqb}
 use lib.ListN.{length, getD, set, length-set}
-use lib.Seq.{sets, getD-set-same, getD-set-other}
+use lib.Seq.{sets, getD-set-same}
 use Rattle.base.specs.Choice.{pick}
 use Rattle.base.proofs.SetsLaws.{sets-append}
 use Rattle.scope.specs.declared.Counts.{Counts}
-use Rattle.scope.specs.Table.{Table, tableOf, modeOf, recordOf, withMode, coverUser, giveUser, takeUser, putRecord}
-use Rattle.scope.specs.Sound.{Sound}
-use Rattle.scope.specs.Notes.{Note, user+, user-, changes, notesWords}
-use Rattle.scope.specs.Outcome.{Result, joined}
+use Rattle.scope.specs.Table.{Table, tableOf, recordOf, withMode, coverUser, giveUser, takeUser, putRecord}
+use Rattle.scope.specs.Notes.{user-, notesWords}
+use Rattle.scope.specs.Outcome.{Result}
 use Rattle.scope.specs.Map.{leastFree, nextUser}
 use Rattle.scope.specs.Modes.{deleteIfUnused, show, hide, change}
 use Rattle.scope.proofs.PairLaws.{below-mark}
 use Rattle.scope.proofs.MoveLaws.{undeleted-below}
-use Rattle.scope.proofs.MapLaws.{next-user-before, next-user-most}
 use Rattle.scope.proofs.ModeLaws.{next-user-below}
 use Rattle.deletion.specs.Leaving.{Leaves, Room, Live}
 use Rattle.deletion.proofs.LeavingLaws.{leaves-then}

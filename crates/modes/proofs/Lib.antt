@@ -1,3 +1,4 @@
+pub mod AnswerLaws
 pub mod NotesLaws
 pub mod ChangeLaws
 pub mod SetModeLaws

@@ -1,17 +1,17 @@
 -- The number of notes that a change of mode makes is the number told.
-use Prim.Native.Nat.{ℕ, zero, suc, _+_, _*_, _/_, _%_, _-_, _≤_, _<_}
-use mathlib.Core.Path.{_≡_, refl, sym, ap, _∙_, subst}
+use Prim.Native.Nat.{ℕ, suc, _+_, _%_, _-_, _≤_}
+use mathlib.Core.Path.{_≡_, refl, ap, _∙_}
 use mathlib.Core.Bool.{Bool, true, false, _&&_}
-use mathlib.Core.List.{List, [], _∷_, _++_}
+use mathlib.Core.List.{List, [], _∷_}
 use native.Mathlib.Omega.{arith}
 use lib.Dec.{eqb}
-use lib.ListN.{length, getD, set}
+use lib.ListN.{length, getD}
 use lib.Seq.{getD-set-same}
 use borrow.Author.Tests.{eq-eqb, ne-eqb}
 use Rattle.base.specs.Choice.{pick}
 use Rattle.scope.specs.Table.{Table, modeOf, isolatedOf, recordOf, withMode, takeUser, putRecord}
-use Rattle.scope.specs.Notes.{Note, user-, deletes}
-use Rattle.scope.specs.Outcome.{Result, stay, choose, joined}
+use Rattle.scope.specs.Notes.{deletes}
+use Rattle.scope.specs.Outcome.{stay, choose}
 use Rattle.scope.specs.Modes.{isUnused, deleteIfUnused, show, hide, change, setMode}
 use Rattle.scope.proofs.MoveLaws.{undeleted-below}
 use Rattle.deletion.specs.Leaving.{Live}

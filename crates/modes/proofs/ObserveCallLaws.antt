@@ -1,10 +1,10 @@
 -- Observe: the refusals, by the tests that the code makes, the loop, and the call.
-use Prim.Native.Nat.{ℕ, zero, suc, _+_, _*_, _/_, _≤_, _<_, _^_}
-use mathlib.Core.Path.{_≡_, refl, sym, ap, _∙_, subst}
-use mathlib.Core.Bool.{Bool, true, false, _&&_, _||_, not}
+use Prim.Native.Nat.{ℕ, _+_, _*_, _/_, _≤_, _<_, _^_}
+use mathlib.Core.Path.{_≡_, sym, ap, _∙_, subst}
+use mathlib.Core.Bool.{Bool, true, false, _||_, not}
 use mathlib.Core.List.{List, [], _∷_}
 use native.Mathlib.Omega.{arith}
-use lib.Dec.{eqb, ltb}
+use lib.Dec.{ltb}
 use lib.ListN.{length}
 use lib.Seq.{sets, length-sets}
 use borrow.Author.Tests.{ltb-false, not-false}
@@ -15,17 +15,16 @@ use Rattle.base.proofs.MemberLaws.{or-left, or-right}
 use Rattle.scope.specs.declared.Counts.{Counts}
 use Rattle.scope.specs.Table.{Table}
 use Rattle.scope.specs.Sound.{soundb, Sizes, Sound}
-use Rattle.scope.specs.Outcome.{Result, each}
+use Rattle.scope.specs.Outcome.{each}
 use Rattle.scope.specs.Modes.{observeOne, observe, observeRefusal, observeOf}
-use Rattle.scope.specs.Contract.{Said, Does}
+use Rattle.scope.specs.Contract.{Does}
 use Rattle.scope.proofs.SoundLaws.{sound-of}
-use Rattle.scope.proofs.ResultLaws.{past, each-value}
+use Rattle.scope.proofs.ResultLaws.{past}
 use Rattle.scope.proofs.ModeLaws.{Observed as Seen, observe-passed}
 use Rattle.deletion.specs.Leaving.{Leaves, Room}
 use Rattle.deletion.proofs.LeavingLaws.{leaves-length, turns-none, turns-more, turns-room}
 use Rattle.deletion.proofs.CallLaws.{call-refused, call-accepted, refused-words, accepted-words}
 use Rattle.modes.specs.Asks.{Taken, Filled, Observes, ObservesAll}
-use Rattle.modes.specs.declared.Observed.{Observed}
 use Rattle.modes.specs.declared.Observed.the-variants.{Done, Refused}
 use Rattle.modes.specs.Answers.{observed}
 use Rattle.modes.proofs.CursorLaws.{taken-none}

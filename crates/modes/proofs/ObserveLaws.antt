@@ -2,13 +2,13 @@
 use Prim.Native.Nat.{ℕ, zero, suc, _+_, _*_, _≤_, _<_, _^_, max}
 use mathlib.Core.Path.{_≡_, refl, sym, ap, _∙_, subst}
 use mathlib.Core.Bool.{Bool, true, false}
-use mathlib.Core.List.{List, [], _∷_, _++_}
+use mathlib.Core.List.{List, []}
 use mathlib.Core.Logic.{⊎-elim}
 use native.Mathlib.Nat.{eq-or-lt-of-le}
 use native.Mathlib.Numerals.{add-one}
 use native.Mathlib.Omega.{arith}
 use lib.ListN.{length, getD, set, length-append}
-use lib.Seq.{sets, length-sets}
+use lib.Seq.{sets}
 use Rattle.base.specs.Bounded.{count}
 use Rattle.base.proofs.SetsLaws.{sets-append}
 use Rattle.base.proofs.CountLaws.{count-none}
@@ -17,7 +17,6 @@ use Rattle.scope.specs.Sound.{Sound}
 use Rattle.scope.specs.Outcome.{Result, stay, choose, each}
 use Rattle.scope.specs.Map.{leastFree, nextUser}
 use Rattle.scope.specs.Modes.{show, isHidden, observeOne, observe}
-use Rattle.scope.proofs.MoveLaws.{undeleted-below}
 use Rattle.scope.proofs.ResultLaws.{each-zero, each-value, each-notes, choose-then, choose-else}
 use Rattle.scope.proofs.ModeLaws.{hidden-of, next-user-below, observe-passed}
 use Rattle.deletion.specs.Leaving.{Leaves, Room}

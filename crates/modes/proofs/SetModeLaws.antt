@@ -1,8 +1,8 @@
 -- Set mode: the refusals, by the tests that the code makes, and the call.
-use Prim.Native.Nat.{ℕ, zero, suc, _+_, _*_, _/_, _%_, _≤_, _<_, _^_}
+use Prim.Native.Nat.{ℕ, _*_, _/_, _%_, _≤_, _<_, _^_}
 use mathlib.Core.Path.{_≡_, refl, sym, ap, _∙_, subst}
-use mathlib.Core.Bool.{Bool, true, false, not}
-use mathlib.Core.List.{List, [], _∷_, _++_}
+use mathlib.Core.Bool.{true, false, not}
+use mathlib.Core.List.{List, [], _∷_}
 use native.Mathlib.Omega.{arith}
 use lib.Dec.{eqb, ltb, leb}
 use lib.ListN.{length, getD}
@@ -13,7 +13,7 @@ use Rattle.scope.specs.declared.SamplingMode.{SamplingMode}
 use Rattle.scope.specs.declared.SamplingMode.the-variants.{Sample, Witness, Hide}
 use Rattle.scope.specs.Table.{Table, modeOf, assumedOf, isDeleted, recordOf}
 use Rattle.scope.specs.Sound.{soundb}
-use Rattle.scope.specs.Outcome.{Result, stay, choose, noting}
+use Rattle.scope.specs.Outcome.{Result, stay, noting}
 use Rattle.scope.specs.Map.{nextUser}
 use Rattle.scope.specs.Modes.{modeNumber, isUnused, deleteIfUnused, show, hide, change, setMode, setModeRefusal, setModeOf}
 use Rattle.scope.specs.Contract.{Said, Does}
@@ -23,9 +23,8 @@ use Rattle.deletion.specs.Leaving.{Leaves, Room}
 use Rattle.deletion.proofs.LeavingLaws.{leaves-stay}
 use Rattle.deletion.proofs.CallLaws.{call-refused, call-accepted, call-noted}
 use Rattle.deletion.proofs.DeletionLaws.{record-read}
-use Rattle.modes.specs.Asks.{Taken, There, Shows, Hides, Changes, Sets}
+use Rattle.modes.specs.Asks.{There, Shows, Hides, Changes, Sets}
 use Rattle.modes.specs.Counting.{modeNotes}
-use Rattle.modes.specs.declared.ModeSet.{ModeSet}
 use Rattle.modes.specs.declared.ModeSet.the-variants.{Done, Shown, Refused}
 use Rattle.modes.specs.Answers.{modeSet}
 use Rattle.modes.proofs.NotesLaws.{there-live, mode-notes, notes-few}

@@ -1,5 +1,4 @@
 -- The answers of Set mode and of Observe: document 01's number and values, and the counts that come back.
-use Prim.Native.Nat.{ℕ}
 use mathlib.Core.List.{[], _∷_}
 use Rattle.base.specs.Answer.{accepted, refused}
 use Rattle.scope.specs.declared.Counts.{Counts}

@@ -232,13 +232,14 @@ fn set_mode_refusal(
     }
     let g = global.0 as usize;
     let w = records[g];
+    let m = mode_number(mode);
     if 36 <= w {
         return 6;
     }
     if w / 18 % 2 == 1 {
         return 7;
     }
-    let n = mode_notes(sg[g], w, mode_number(mode)) as usize;
+    let n = mode_notes(sg[g], w, m) as usize;
     if room < 3 * n {
         return 2;
     }

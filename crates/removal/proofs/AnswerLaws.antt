@@ -1,9 +1,9 @@
 -- The number and the values tell the answer.
-use Prim.Native.Nat.{ℕ, suc}
-use mathlib.Core.Path.{_≡_, refl, ap}
-use mathlib.Core.List.{List, [], _∷_}
+use Prim.Native.Nat.{ℕ}
+use mathlib.Core.Path.{_≡_, ap}
+use mathlib.Core.List.{[], _∷_}
 use native.Mathlib.Omega.{arith}
-use Rattle.base.specs.Answer.{Answer, accepted, refused, numberOf, valuesOf}
+use Rattle.base.specs.Answer.{Answer, accepted, refused}
 use Rattle.scope.specs.declared.Counts.{Counts}
 use Rattle.scope.specs.Contract.{Said}
 use Rattle.removal.specs.declared.Removed.{Removed}

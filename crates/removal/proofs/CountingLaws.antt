@@ -1,22 +1,19 @@
 -- The number of notes that are made is the number told.
-use Prim.Native.Nat.{ℕ, zero, suc, _+_, _*_, _-_, _≤_, _<_}
-use mathlib.Core.Path.{_≡_, refl, sym, ap, _∙_, subst}
+use Prim.Native.Nat.{ℕ, suc, _≤_}
+use mathlib.Core.Path.{_≡_, refl, ap, _∙_}
 use mathlib.Core.Bool.{Bool, true, false, _&&_}
-use mathlib.Core.List.{List, [], _∷_, _++_}
-use mathlib.Core.Logic.{⊎-elim}
+use mathlib.Core.List.{List, [], _∷_}
 use native.Mathlib.Omega.{arith}
 use lib.Dec.{eqb}
-use lib.ListN.{length, getD, set, length-append}
-use lib.Seq.{getD-set-same, getD-set-other, set-out}
+use lib.ListN.{length, getD}
 use Rattle.base.specs.Choice.{pick}
-use Rattle.base.proofs.Truth.{split}
-use Rattle.scope.specs.Table.{Table, word, isolatedOf, assumedOf, recordOf, withUnit, takeSolver, putRecord}
-use Rattle.scope.specs.Notes.{Note, solver-, deletes}
-use Rattle.scope.specs.Outcome.{Result, stay, choose, joined, each}
+use Rattle.scope.specs.Table.{Table, isolatedOf, recordOf, takeSolver}
+use Rattle.scope.specs.Notes.{Note, deletes}
+use Rattle.scope.specs.Outcome.{stay, choose}
 use Rattle.scope.specs.Modes.{isUnused, deleteIfUnused}
-use Rattle.scope.specs.Remove.{removeHeld, learn, sweepHeld, sweepOne}
+use Rattle.scope.specs.Remove.{removeHeld}
 use Rattle.deletion.proofs.DeletionLaws.{cleared}
-use Rattle.removal.specs.Counting.{removalNotes, learnt, isLoose, sweptNotes, notesAt}
+use Rattle.removal.specs.Counting.{removalNotes}
 
 -- without its solver index a global is unused if it has no user and is isolated
 pub unused-without : (g s : ℕ) (t : Table) → isUnused (takeSolver g s t) g ≡ eqb (getD (t .userFromGlobal) g 0) 0 && eqb (isolatedOf (recordOf t g)) 1

@@ -1,15 +1,12 @@
 -- What is known of a held solver index of a sound table.
-use Prim.Native.Nat.{ℕ, _+_, _≤_, _<_}
-use mathlib.Core.Path.{_≡_}
+use Prim.Native.Nat.{ℕ}
 use native.Mathlib.Omega.{arith}
-use lib.ListN.{length, getD}
 use Rattle.scope.specs.Table.{Table}
 use Rattle.scope.specs.Sound.{Sound}
 use Rattle.scope.proofs.PairLaws.{below-mark}
 use Rattle.scope.proofs.MoveLaws.{undeleted-below}
 use Rattle.scope.proofs.RemoveLaws.{held-undeleted}
-use Rattle.deletion.specs.Leaving.{Live}
-use Rattle.removal.specs.Asks.{Holding, Sweepable}
+use Rattle.removal.specs.Asks.{Sweepable}
 
 pub holding-of : (t : Table) → Sound t → (s : ℕ) → Sweepable t s
 holding-of t h s g e =

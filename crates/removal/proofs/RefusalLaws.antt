@@ -1,25 +1,21 @@
 -- The refusals of Remove and of Sweep, by the tests that the code makes.
-use Prim.Native.Nat.{ℕ, zero, suc, _+_, _*_, _-_, _≤_, _<_, _^_}
-use mathlib.Core.Path.{_≡_, refl, sym, ap, _∙_, subst}
-use mathlib.Core.Bool.{Bool, true, false, _&&_, not}
-use mathlib.Core.List.{List, []}
-use native.Mathlib.Numerals.{add-one}
+use Prim.Native.Nat.{ℕ, zero, suc, _+_, _*_, _≤_, _<_}
+use mathlib.Core.Path.{_≡_, refl, sym, ap, _∙_}
+use mathlib.Core.Bool.{true, false}
+use mathlib.Core.List.{List}
 use native.Mathlib.Omega.{arith}
-use lib.Dec.{eqb, ltb}
+use lib.Dec.{eqb}
 use lib.ListN.{length, getD}
 use borrow.Author.Tests.{eq-eqb, ne-eqb, lt-ltb, le-ltb}
-use Rattle.base.specs.Choice.{pick}
 use Rattle.scope.specs.declared.Global.{Global}
-use Rattle.scope.specs.Table.{Table, word, recordOf}
+use Rattle.scope.specs.Table.{Table, word}
 use Rattle.scope.specs.Sound.{soundb}
 use Rattle.scope.specs.Outcome.{Result}
 use Rattle.scope.specs.Marks.{notHeld, holderOf}
-use Rattle.scope.specs.Remove.{removeHeld, remove, removeRefusal, sweep, sweepRefusal}
+use Rattle.scope.specs.Remove.{removeHeld, remove, removeRefusal}
 use Rattle.scope.proofs.SoundLaws.{sound-of}
 use Rattle.table.specs.Found.{foundGlobal}
-use Rattle.table.specs.declared.FoundGlobal.{FoundGlobal}
 use Rattle.table.specs.declared.FoundGlobal.the-variants.{At, Nothing}
-use Rattle.deletion.specs.Leaving.{Room}
 use Rattle.deletion.proofs.DeletionLaws.{record-read}
 use Rattle.removal.specs.Counting.{removalNotes}
 use Rattle.removal.specs.Asks.{Holding}

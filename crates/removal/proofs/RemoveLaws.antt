@@ -1,35 +1,30 @@
 -- The removal of a held solver index: S(g,-), then D if unused.
-use Prim.Native.Nat.{ℕ, zero, suc, _+_, _*_, _/_, _≤_, _<_, _^_}
+use Prim.Native.Nat.{ℕ, _+_, _*_, _/_, _≤_, _<_, _^_}
 use mathlib.Core.Path.{_≡_, refl, sym, ap, _∙_, subst}
-use mathlib.Core.Bool.{Bool, true, false, not}
-use mathlib.Core.List.{List, [], _∷_, _++_}
+use mathlib.Core.Bool.{true, not}
+use mathlib.Core.List.{List, [], _∷_}
 use native.Mathlib.Omega.{arith}
 use lib.Dec.{eqb, ltb}
-use lib.ListN.{length, getD, set, length-set, length-append}
-use lib.Seq.{sets, length-sets}
+use lib.ListN.{length, getD, set, length-set}
+use lib.Seq.{sets}
 use borrow.Author.Tests.{eqb-false, ltb-false, not-false}
-use Rattle.base.specs.Choice.{pick}
 use Rattle.scope.specs.declared.Counts.{Counts}
 use Rattle.scope.specs.declared.Global.{Global}
 use Rattle.scope.specs.Table.{Table, tableOf, recordOf, takeSolver}
 use Rattle.scope.specs.Sound.{soundb}
 use Rattle.scope.specs.Notes.{solver-, notesWords}
-use Rattle.scope.specs.Outcome.{Result, joined, noting}
+use Rattle.scope.specs.Outcome.{Result}
 use Rattle.scope.specs.Modes.{deleteIfUnused}
 use Rattle.scope.specs.Marks.{notHeld}
 use Rattle.scope.specs.Remove.{removeHeld, remove, removeRefusal, removeOf}
-use Rattle.scope.specs.Contract.{Said, Does}
-use Rattle.base.specs.Answer.{accepted}
+use Rattle.scope.specs.Contract.{Does}
 use Rattle.table.specs.Found.{foundGlobal}
-use Rattle.table.specs.declared.FoundGlobal.{FoundGlobal}
 use Rattle.table.specs.declared.FoundGlobal.the-variants.{At, Nothing}
 use Rattle.scope.proofs.ResultLaws.{past}
 use Rattle.deletion.specs.Leaving.{Leaves, Room, Live}
 use Rattle.deletion.proofs.LeavingLaws.{leaves-then}
 use Rattle.deletion.proofs.CallLaws.{call-refused, call-accepted, call-noted}
-use Rattle.removal.specs.Counting.{removalNotes}
 use Rattle.removal.specs.Asks.{Holding}
-use Rattle.removal.specs.declared.Removed.{Removed}
 use Rattle.removal.specs.declared.Removed.the-variants.{Done, Refused}
 use Rattle.removal.specs.Answers.{removed}
 use Rattle.removal.proofs.CountingLaws.{removal-notes, removal-few}

@@ -1,7 +1,7 @@
 -- The loop of a sweep, and the call.
-use Prim.Native.Nat.{ℕ, zero, suc, _+_, _*_, _/_, _≤_, _<_, _^_}
+use Prim.Native.Nat.{ℕ, _+_, _*_, _/_, _≤_, _<_, _^_}
 use mathlib.Core.Path.{_≡_, refl, sym, ap, _∙_, subst}
-use mathlib.Core.Bool.{Bool, true, false, not}
+use mathlib.Core.Bool.{true, false, not}
 use mathlib.Core.List.{List, []}
 use native.Mathlib.Omega.{arith}
 use lib.Dec.{ltb}
@@ -10,9 +10,9 @@ use borrow.Author.Tests.{ltb-false, not-false, lt-ltb, le-ltb}
 use Rattle.scope.specs.declared.Counts.{Counts}
 use Rattle.scope.specs.Table.{Table}
 use Rattle.scope.specs.Sound.{soundb}
-use Rattle.scope.specs.Outcome.{Result, each}
+use Rattle.scope.specs.Outcome.{each}
 use Rattle.scope.specs.Remove.{sweepOne, sweep, sweepRefusal, sweepOf}
-use Rattle.scope.specs.Contract.{Said, Does}
+use Rattle.scope.specs.Contract.{Does}
 use Rattle.scope.proofs.SoundLaws.{sound-of}
 use Rattle.scope.proofs.ResultLaws.{past}
 use Rattle.scope.proofs.RemoveLaws.{sweep-passed}
@@ -20,7 +20,6 @@ use Rattle.deletion.specs.Leaving.{Leaves, Room}
 use Rattle.deletion.proofs.LeavingLaws.{leaves-length, turns-none, turns-more, turns-room}
 use Rattle.deletion.proofs.CallLaws.{call-refused, call-accepted, call-noted}
 use Rattle.removal.specs.Asks.{Sweepable}
-use Rattle.removal.specs.declared.Removed.{Removed}
 use Rattle.removal.specs.declared.Removed.the-variants.{Done, Refused}
 use Rattle.removal.specs.Answers.{removed}
 use Rattle.removal.proofs.SweepLaws.{sweep-few}

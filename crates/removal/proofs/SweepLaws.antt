@@ -1,23 +1,22 @@
 -- Within a sweep each held solver index has a global of its own, so what the first pass reads of an index is what the second one meets.
 use Prim.Native.Nat.{ℕ, zero, suc, _+_, _*_, _≤_, _<_, _^_}
-use mathlib.Core.Path.{_≡_, refl, sym, ap, _∙_, subst}
+use mathlib.Core.Path.{_≡_, refl, sym, ap, _∙_}
 use mathlib.Core.Bool.{Bool, true, false, _&&_}
-use mathlib.Core.List.{List, [], _∷_, _++_}
+use mathlib.Core.List.{List, []}
 use native.Mathlib.Numerals.{add-one}
 use native.Mathlib.Omega.{arith}
 use lib.Dec.{eqb}
 use lib.ListN.{length, getD}
 use lib.Seq.{getD-set-same}
 use Rattle.base.specs.Choice.{pick}
-use Rattle.scope.specs.declared.Counts.{Counts}
 use Rattle.scope.specs.Table.{Table, word, isolatedOf, assumedOf, recordOf, withUnit, putRecord}
 use Rattle.scope.specs.Sound.{Sound}
-use Rattle.scope.specs.Outcome.{Result, stay, choose, joined, each}
+use Rattle.scope.specs.Outcome.{Result, stay, choose, each}
 use Rattle.scope.specs.Remove.{removeHeld, learn, sweepHeld, sweepOne, sweep}
 use Rattle.scope.proofs.ResultLaws.{each-zero}
 use Rattle.scope.proofs.RemoveLaws.{Swept, sweep-passed, learn-same}
 use Rattle.deletion.proofs.LeavingLaws.{each-count}
-use Rattle.removal.specs.Counting.{removalNotes, learnt, isLoose, sweptNotes, notesAt}
+use Rattle.removal.specs.Counting.{learnt, isLoose, sweptNotes, notesAt}
 use Rattle.removal.proofs.CountingLaws.{removal-notes, removal-few}
 use Rattle.removal.proofs.HeldLaws.{holding-of}
 

@@ -1,26 +1,24 @@
 -- The sweep of one solver index, and its notes, by the tests that the code makes.
 use Prim.Native.Nat.{ℕ, zero, suc, _+_, _*_, _/_, _%_, _≤_, _<_}
 use mathlib.Core.Path.{_≡_, refl, sym, ap, _∙_, subst}
-use mathlib.Core.Bool.{Bool, true, false}
+use mathlib.Core.Bool.{true, false}
 use mathlib.Core.List.{List, []}
 use native.Mathlib.Numerals.{add-one}
 use native.Mathlib.Omega.{arith}
-use lib.ListN.{length, getD, set, length-set}
+use lib.ListN.{getD, set, length-set}
 use lib.Seq.{set-getD, getD-set-same}
-use Rattle.base.specs.Choice.{pick}
 use Rattle.scope.specs.declared.Global.{Global}
 use Rattle.scope.specs.Table.{Table, tableOf, word, recordOf, withUnit, putRecord}
-use Rattle.scope.specs.Outcome.{Result, stay, choose}
+use Rattle.scope.specs.Outcome.{Result, stay}
 use Rattle.scope.specs.Remove.{removeHeld, learn, sweepHeld, sweepOne}
 use Rattle.scope.proofs.ResultLaws.{choose-then, choose-else}
 use Rattle.table.specs.Found.{foundGlobal}
-use Rattle.table.specs.declared.FoundGlobal.{FoundGlobal}
 use Rattle.table.specs.declared.FoundGlobal.the-variants.{At, Nothing}
-use Rattle.deletion.specs.Leaving.{Leaves, Room, Live}
+use Rattle.deletion.specs.Leaving.{Leaves, Room}
 use Rattle.deletion.proofs.LeavingLaws.{leaves-stay}
 use Rattle.deletion.proofs.DeletionLaws.{record-read}
 use Rattle.removal.specs.Counting.{removalNotes, learnt, isLoose, sweptNotes, notesAt}
-use Rattle.removal.specs.Asks.{Holding, Sweepable}
+use Rattle.removal.specs.Asks.{Holding}
 use Rattle.removal.proofs.RefusalLaws.{found-at, found-nothing}
 
 -- ---- a record

@@ -11,14 +11,14 @@ use table::put_note;
 ghost use mathlib.Core.Path.{_≡_};
 ghost use mathlib.Core.Bool.{true};
 ghost use Prim.Native.Nat.{_+_, _*_, _≤_, _<_};
-ghost use lib.ListN.{length, getD};
+ghost use lib.ListN.{length};
 ghost use Rattle.base.specs.Lent.{old, new};
 ghost use Rattle.scope.specs.Contract.{given, before, after, lent, Meets};
 ghost use Rattle.scope.specs.Sound.{soundb};
 ghost use Rattle.scope.specs.Outcome.{each};
-ghost use Rattle.scope.specs.Remove.{removeHeld, removeRefusal, removeOf, learn, sweepOne, sweep, sweepRefusal, sweepOf};
+ghost use Rattle.scope.specs.Remove.{removeHeld, removeRefusal, removeOf, sweepOne, sweep, sweepRefusal, sweepOf};
 ghost use Rattle.deletion.specs.Leaving.{Leaves, Room};
-ghost use Rattle.removal.specs.Counting.{removalNotes, learnt, isLoose, sweptNotes, notesAt};
+ghost use Rattle.removal.specs.Counting.{removalNotes, learnt, isLoose, notesAt};
 ghost use Rattle.removal.specs.Asks.{Holding, Sweepable};
 ghost use Rattle.removal.specs.Answers.{removed};
 

@@ -3,71 +3,52 @@ use mathlib.Core.Path.{refl}
 use borrow.Author.Needs.{needs}
 use Rattle.deletion.proofs.delete_global_if_unused.Statement.{statement}
 use Rattle.deletion.proofs.delete_global_if_unused.Tie as tie
-use Rattle.deletion.proofs.delete_global_if_unused.Reads as reads
-use Rattle.deletion.proofs.delete_global_if_unused.Lts as lts
-use Rattle.table.proofs.put_note.Reads as put-note-reads
 
--- src/lib.rt:32:13
 cast-g : tie.Need-cast-g
 cast-g c = search needs
 
--- src/lib.rt:33:13
 mul-r : tie.Need-mul-r
 mul-r c = search needs
 
--- src/lib.rt:33:13
 slice-read-r : tie.Need-slice-read-r
 slice-read-r c = search needs
 
--- src/lib.rt:34:9
 mul-if1 : tie.Need-mul-if1
 mul-if1 c = search needs
 
--- src/lib.rt:34:9
 shared-slice-read-if1 : tie.Need-shared-slice-read-if1
 shared-slice-read-if1 c = search needs
 
--- src/lib.rt:34:25
 mul-if1-2 : tie.Need-mul-if1-2
 mul-if1-2 c = search needs
 
--- src/lib.rt:34:25
 shared-slice-read-if1-2 : tie.Need-shared-slice-read-if1-2
 shared-slice-read-if1-2 c = search needs
 
--- src/lib.rt:35:22
 add-records : tie.Need-add-records
 add-records c = record { fits = delete-fits _ _ (c .before .before .before .before .before .before .before .before .before .before .before .before .pre .0) }
 
--- src/lib.rt:35:9
 mul-records : tie.Need-mul-records
 mul-records c = search needs
 
--- src/lib.rt:35:9
 slice-write-records : tie.Need-slice-write-records
 slice-write-records c = search needs
 
--- src/lib.rt:36:9
 put-note-requires : tie.Need-put-note-requires
 put-note-requires c κs = delete-room _ _ (c .before .before .before .before .before .before .before .before .before .before .before .before .before .pre .0) (c .before .if1 .taken) _ _ (c .before .before .before .before .before .before .before .before .before .before .before .before .before .pre .1)
 
--- src/lib.rt:37:16
 add-result : tie.Need-add-result
 add-result c = search needs
 
--- src/lib.rt:37:9
 same-length : tie.Need-same-length
 same-length c = search needs
 
--- src/lib.rt:37:9
 same-length-2 : tie.Need-same-length-2
 same-length-2 c = search needs
 
--- src/lib.rt:37:9
 returns : tie.Need-returns
 returns c = delete-leaves _ _ (c .before .before .before .before .before .before .before .before .before .before .before .before .before .before .before .before .pre .0) (c .before .before .before .before .if1 .taken) _ _ _ _ refl (c .before .before .put-note .ensures)
 
--- src/lib.rt:15:1
 returns-2 : tie.Need-returns-2
 returns-2 c = keep-leaves _ _ (c .before .before .before .before .before .before .before .before .before .before .before .before .pre .0) (c .if1 .left) _ _
 

@@ -4,60 +4,43 @@ use native.Mathlib.Omega.{arith}
 use borrow.Author.Needs.{needs}
 use Rattle.modes.proofs.change.Statement.{statement}
 use Rattle.modes.proofs.change.Tie as tie
-use Rattle.modes.proofs.change.Reads as reads
-use Rattle.modes.proofs.change.Lts as lts
-use Rattle.modes.proofs.sample_word.Reads as sample-word-reads
-use Rattle.table.proofs.put_note.Reads as put-note-reads
 
--- src/lib.rt:184:13
 cast-g : tie.Need-cast-g
 cast-g c = search needs
 
--- src/lib.rt:185:16
 add-next : tie.Need-add-next
 add-next c = search needs
 
--- src/lib.rt:186:9
 sample-word-requires : tie.Need-sample-word-requires
 sample-word-requires c κs = search needs
 
--- src/lib.rt:187:13
 mul-w : tie.Need-mul-w
 mul-w c = search needs
 
--- src/lib.rt:187:13
 slice-read-w : tie.Need-slice-read-w
 slice-read-w c = there-live _ _ (c .before .before .before .before .before .before .before .before .before .before .pre .0 .there) .words
 
--- src/lib.rt:188:18
 mul-records : tie.Need-mul-records
 mul-records c = record { fits = base-fits _ _ (c .before .before .before .before .before .before .before .before .before .before .pre .0 .there) }
 
--- src/lib.rt:188:18
 add-records : tie.Need-add-records
 add-records c = record { fits = mode-fits _ _ (c .before .before .before .before .before .before .before .before .before .before .pre .0 .there) _ (let l = (c .before .before .before .before .before .before .before .before .before .before .pre .0 .mode) in omega arith) }
 
--- src/lib.rt:188:5
 mul-records-2 : tie.Need-mul-records-2
 mul-records-2 c = let l = there-live _ _ (c .before .before .before .before .before .before .before .before .before .before .pre .0 .there) .small in omega arith
 
--- src/lib.rt:188:5
 slice-write-records : tie.Need-slice-write-records
 slice-write-records c = there-live _ _ (c .before .before .before .before .before .before .before .before .before .before .pre .0 .there) .words
 
--- src/lib.rt:189:5
 put-note-requires : tie.Need-put-note-requires
 put-note-requires c κs = change-room _ _ _ _ _ (c .before .before .before .before .before .before .before .before .before .before .before .pre .1)
 
--- src/lib.rt:166:1
 same-length : tie.Need-same-length
 same-length c = search needs
 
--- src/lib.rt:166:1
 same-length-2 : tie.Need-same-length-2
 same-length-2 c = search needs
 
--- src/lib.rt:166:1
 returns : tie.Need-returns
 returns c = change-leaves _ _ _ (c .before .before .before .before .before .before .before .before .before .before .before .before .before .before .pre .0) _ _ _ _ (c .before .before .before .before .before .sample-word .ensures) (c .before .before .put-note .ensures)
 

@@ -6,9 +6,6 @@ use Rattle.base.specs.Bounded.{count}
 use borrow.Author.Needs.{needs}
 use Rattle.modes.proofs.count_hidden.Statement.{statement}
 use Rattle.modes.proofs.count_hidden.Tie as tie
-use Rattle.modes.proofs.count_hidden.Reads as reads
-use Rattle.modes.proofs.count_hidden.Lts as lts
-use Rattle.modes.proofs.hidden_word.Reads as hidden-word-reads
 
 abbrev Inv-loop : tie.InvT-loop
 Inv-loop records mark n₀ g₀ n g = (g ≤ mark) × (n ≡ count g (hiddenAt records))
@@ -16,43 +13,33 @@ Inv-loop records mark n₀ g₀ n g = (g ≤ mark) × (n ≡ count g (hiddenAt r
 abbrev μ-loop : tie.MeasureT-loop
 μ-loop records mark n₀ g₀ n g = mark - g
 
--- src/lib.rt:373:5
 loop-holds : tie.Need-loop-holds Inv-loop μ-loop
 loop-holds c = (omega arith, hidden-none (c .before .args .records .now))
 
--- src/lib.rt:374:34
 cast-hidden-word : tie.Need-cast-hidden-word Inv-loop μ-loop
 cast-hidden-word c = search needs
 
--- src/lib.rt:374:26
 mul-hidden-word : tie.Need-mul-hidden-word Inv-loop μ-loop
 mul-hidden-word c = search needs
 
--- src/lib.rt:374:26
 shared-slice-read-hidden-word : tie.Need-shared-slice-read-hidden-word Inv-loop μ-loop
 shared-slice-read-hidden-word c = search needs
 
--- src/lib.rt:374:14
 hidden-word-requires : tie.Need-hidden-word-requires Inv-loop μ-loop
 hidden-word-requires c κs = search needs
 
--- src/lib.rt:374:9
 add-n : tie.Need-add-n Inv-loop μ-loop
 add-n c = record { fits = hidden-fits (c .before .before .before .before .before .args .records .now) _ _ _ _ (c .before .before .loop-test .taken) (let b = (c .before .before .before .before .before .fits .mark .fits) in omega arith) (c .before .before .before .loop .inv .1) (c .hidden-word .ensures) }
 
--- src/lib.rt:375:9
 add-g : tie.Need-add-g Inv-loop μ-loop
 add-g c = search needs
 
--- src/lib.rt:373:5
 loop-less : tie.Need-loop-less Inv-loop μ-loop
 loop-less c = search needs
 
--- src/lib.rt:373:5
 loop-again : tie.Need-loop-again Inv-loop μ-loop
 loop-again c = (search needs, hidden-more (c .before .before .before .before .before .args .records .now) _ _ _ _ (c .before .before .before .before .before .pre) (c .before .before .loop-test .taken) (c .before .before .before .loop .inv .1) (c .hidden-word .ensures))
 
--- src/lib.rt:367:1
 returns : tie.Need-returns Inv-loop μ-loop
 returns c = hidden-end (c .before .before .before .args .records .now) _ _ _ (let a = (c .before .loop .inv .0) in let b = (c .loop-test .left) in omega arith) (c .before .loop .inv .1)
 

@@ -6,85 +6,61 @@ use mathlib.Core.Path.{_∙_}
 use borrow.Author.Needs.{needs}
 use Rattle.modes.proofs.hide.Statement.{statement}
 use Rattle.modes.proofs.hide.Tie as tie
-use Rattle.modes.proofs.hide.Reads as reads
-use Rattle.modes.proofs.hide.Lts as lts
-use Rattle.deletion.proofs.delete_global_if_unused.Reads as delete-global-if-unused-reads
-use Rattle.scope.proofs.Counts.unmap.Reads as unmap-reads
-use Rattle.table.proofs.put_note.Reads as put-note-reads
 
--- src/lib.rt:143:13
 cast-g : tie.Need-cast-g
 cast-g c = search needs
 
--- src/lib.rt:144:16
 add-next : tie.Need-add-next
 add-next c = search needs
 
--- src/lib.rt:145:21
 mul-w : tie.Need-mul-w
 mul-w c = search needs
 
--- src/lib.rt:145:21
 slice-read-w : tie.Need-slice-read-w
 slice-read-w c = there-live _ _ (c .before .before .before .before .before .before .before .before .before .pre .0 .there) .user
 
--- src/lib.rt:145:21
 sub-w : tie.Need-sub-w
 sub-w c = hide-user _ _ (c .before .before .before .before .before .before .before .before .before .pre .0)
 
--- src/lib.rt:146:13
 mul-w-2 : tie.Need-mul-w-2
 mul-w-2 c = search needs
 
--- src/lib.rt:146:13
 slice-read-w-2 : tie.Need-slice-read-w-2
 slice-read-w-2 c = there-live _ _ (c .before .before .before .before .before .before .before .before .before .before .pre .0 .there) .words
 
--- src/lib.rt:147:18
 mul-records : tie.Need-mul-records
 mul-records c = record { fits = base-fits _ _ (c .before .before .before .before .before .before .before .before .before .before .pre .0 .there) }
 
--- src/lib.rt:147:18
 add-records : tie.Need-add-records
 add-records c = record { fits = mode-fits _ _ (c .before .before .before .before .before .before .before .before .before .before .pre .0 .there) _ (omega arith) }
 
--- src/lib.rt:147:5
 mul-records-2 : tie.Need-mul-records-2
 mul-records-2 c = let l = there-live _ _ (c .before .before .before .before .before .before .before .before .before .before .pre .0 .there) .small in omega arith
 
--- src/lib.rt:147:5
 slice-write-records : tie.Need-slice-write-records
 slice-write-records c = there-live _ _ (c .before .before .before .before .before .before .before .before .before .before .pre .0 .there) .words
 
--- src/lib.rt:148:9
 unmap-requires : tie.Need-unmap-requires
 unmap-requires c κs = hide-asks _ _ (c .before .before .before .before .before .before .before .before .before .before .before .before .pre .0)
 
--- src/lib.rt:149:5
 put-note-requires : tie.Need-put-note-requires
 put-note-requires c κs = hide-room _ _ _ _ (c .before .before .before .before .before .before .before .before .before .before .before .before .before .before .before .before .before .before .pre .1)
 
--- src/lib.rt:150:9
 delete-global-if-unused-requires : tie.Need-delete-global-if-unused-requires
 delete-global-if-unused-requires c κs = hide-delete _ _ (c .before .before .before .before .before .before .before .before .before .before .before .before .before .before .before .before .before .before .before .before .before .before .before .before .before .pre .0) _ _ _ (c .before .before .before .before .before .before .before .before .before .before .before .before .unmap .ensures) _ _ _ (c .before .before .before .before .before .before .before .before .before .before .before .before .before .before .before .before .before .before .before .before .before .before .before .before .before .pre .1) (c .before .before .before .before .before .before .put-note .kept .0)
 
--- src/lib.rt:126:1
 same-length : tie.Need-same-length
 same-length c = search needs
 
--- src/lib.rt:126:1
 same-length-2 : tie.Need-same-length-2
 same-length-2 c = search needs
 
--- src/lib.rt:126:1
 same-length-3 : tie.Need-same-length-3
 same-length-3 c = (c .before .before .before .before .delete-global-if-unused .kept .1 .1 .1 .1 .1 .1 .0) ∙ simp length-set
 
--- src/lib.rt:126:1
 same-length-4 : tie.Need-same-length-4
 same-length-4 c = search needs
 
--- src/lib.rt:126:1
 returns : tie.Need-returns
 returns c = hide-leaves _ _ (c .before .before .before .before .before .before .before .before .before .before .before .before .before .before .before .before .before .before .before .before .before .before .before .before .before .before .before .before .before .before .pre .0) _ _ _ (c .before .before .before .before .before .before .before .before .before .before .before .before .before .before .before .before .before .unmap .ensures) _ _ _ _ _ _ (c .before .before .before .before .before .before .before .before .before .before .before .put-note .ensures) (c .before .before .before .before .delete-global-if-unused .ensures)
 

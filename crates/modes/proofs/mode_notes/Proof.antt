@@ -1,27 +1,19 @@
 use Rattle.modes.proofs.NotesLaws.{notes-same, notes-unused, notes-hide, notes-show, notes-change}
-use borrow.Author.Needs.{needs}
 use Rattle.modes.proofs.mode_notes.Statement.{statement}
 use Rattle.modes.proofs.mode_notes.Tie as tie
-use Rattle.modes.proofs.mode_notes.Reads as reads
-use Rattle.modes.proofs.mode_notes.Lts as lts
 
--- src/lib.rt:201:9
 returns : tie.Need-returns
 returns c = notes-same _ _ _ (c .if1 .taken)
 
--- src/lib.rt:205:13
 returns-2 : tie.Need-returns-2
 returns-2 c = notes-unused _ _ _ (c .before .before .if1 .left) (c .before .if2 .taken) (c .if3 .taken)
 
--- src/lib.rt:207:9
 returns-3 : tie.Need-returns-3
 returns-3 c = notes-hide _ _ _ (c .before .before .if1 .left) (c .before .if2 .taken) (c .if3 .left)
 
--- src/lib.rt:210:9
 returns-4 : tie.Need-returns-4
 returns-4 c = notes-show _ _ _ (c .before .before .if1 .left) (c .before .if2 .left) (c .if4 .taken)
 
--- src/lib.rt:197:1
 returns-5 : tie.Need-returns-5
 returns-5 c = notes-change _ _ _ (c .before .before .if1 .left) (c .before .if2 .left) (c .if4 .left)
 

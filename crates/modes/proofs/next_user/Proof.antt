@@ -10,8 +10,6 @@ use lib.ListN.{getD}
 use borrow.Author.Needs.{needs}
 use Rattle.modes.proofs.next_user.Statement.{statement}
 use Rattle.modes.proofs.next_user.Tie as tie
-use Rattle.modes.proofs.next_user.Reads as reads
-use Rattle.modes.proofs.next_user.Lts as lts
 
 abbrev Inv-loop : tie.InvT-loop
 Inv-loop gu mark from i₀ i = (i ≤ mark) × ((k : ℕ) → k < i → eqb (getD gu k 0) 0 ≡ false)
@@ -19,39 +17,30 @@ Inv-loop gu mark from i₀ i = (i ≤ mark) × ((k : ℕ) → k < i → eqb (get
 abbrev μ-loop : tie.MeasureT-loop
 μ-loop gu mark from i₀ i = mark - i
 
--- src/lib.rt:77:5
 loop-holds : tie.Need-loop-holds Inv-loop μ-loop
 loop-holds c = ((c .pre .1) .within, λ k l. ne-eqb _ _ ((c .pre .1) .before k l))
 
--- src/lib.rt:78:15
 cast-if1 : tie.Need-cast-if1 Inv-loop μ-loop
 cast-if1 c = search needs
 
--- src/lib.rt:78:12
 mul-if1 : tie.Need-mul-if1 Inv-loop μ-loop
 mul-if1 c = search needs
 
--- src/lib.rt:78:12
 shared-slice-read-if1 : tie.Need-shared-slice-read-if1 Inv-loop μ-loop
 shared-slice-read-if1 c = search needs
 
--- src/lib.rt:79:13
 returns : tie.Need-returns Inv-loop μ-loop
 returns c = next-found _ _ _ (c .before .before .before .loop .inv .0) (c .before .before .before .loop .inv .1) (λ h. (c .if1 .taken))
 
--- src/lib.rt:81:9
 add-i : tie.Need-add-i Inv-loop μ-loop
 add-i c = search needs
 
--- src/lib.rt:77:5
 loop-less : tie.Need-loop-less Inv-loop μ-loop
 loop-less c = search needs
 
--- src/lib.rt:77:5
 loop-again : tie.Need-loop-again Inv-loop μ-loop
 loop-again c = (search needs, below-more _ _ (c .before .before .before .loop .inv .1) (ne-eqb _ _ (c .if1 .left)))
 
--- src/lib.rt:71:1
 returns-2 : tie.Need-returns-2 Inv-loop μ-loop
 returns-2 c = next-found _ _ _ (c .before .loop .inv .0) (c .before .loop .inv .1) (λ h. absurd (let l = (c .loop-test .left) in omega arith))
 

@@ -7,9 +7,6 @@ use Rattle.base.specs.Bounded.{allBelow}
 use borrow.Author.Needs.{needs}
 use Rattle.modes.proofs.none_assumed.Statement.{statement}
 use Rattle.modes.proofs.none_assumed.Tie as tie
-use Rattle.modes.proofs.none_assumed.Reads as reads
-use Rattle.modes.proofs.none_assumed.Lts as lts
-use Rattle.modes.proofs.is_hidden.Reads as is-hidden-reads
 
 abbrev Inv-loop : tie.InvT-loop
 Inv-loop records mark g₀ g = (g ≤ mark) × (allBelow g (fine records) ≡ true)
@@ -17,43 +14,33 @@ Inv-loop records mark g₀ g = (g ≤ mark) × (allBelow g (fine records) ≡ tr
 abbrev μ-loop : tie.MeasureT-loop
 μ-loop records mark g₀ g = mark - g
 
--- src/lib.rt:347:5
 loop-holds : tie.Need-loop-holds Inv-loop μ-loop
 loop-holds c = (omega arith, fine-none (c .before .args .records .now))
 
--- src/lib.rt:348:25
 cast-w : tie.Need-cast-w Inv-loop μ-loop
 cast-w c = search needs
 
--- src/lib.rt:348:17
 mul-w : tie.Need-mul-w Inv-loop μ-loop
 mul-w c = search needs
 
--- src/lib.rt:348:17
 shared-slice-read-w : tie.Need-shared-slice-read-w Inv-loop μ-loop
 shared-slice-read-w c = search needs
 
--- src/lib.rt:349:12
 is-hidden-requires : tie.Need-is-hidden-requires Inv-loop μ-loop
 is-hidden-requires c κs = search needs
 
--- src/lib.rt:350:13
 returns : tie.Need-returns Inv-loop μ-loop
 returns c = fine-fails (c .before .before .before .before .before .before .args .records .now) _ _ (c .before .before .before .before .before .before .pre) (c .before .before .before .loop-test .taken) _ (c .before .is-hidden .ensures) (c .if1 .taken)
 
--- src/lib.rt:352:9
 add-g : tie.Need-add-g Inv-loop μ-loop
 add-g c = search needs
 
--- src/lib.rt:347:5
 loop-less : tie.Need-loop-less Inv-loop μ-loop
 loop-less c = search needs
 
--- src/lib.rt:347:5
 loop-again : tie.Need-loop-again Inv-loop μ-loop
 loop-again c = (search needs, fine-more (c .before .before .before .before .before .before .args .records .now) _ _ (c .before .before .before .before .before .before .pre) (c .before .before .before .loop-test .taken) _ (c .before .is-hidden .ensures) (c .before .before .before .before .loop .inv .1) (c .if1 .left))
 
--- src/lib.rt:342:1
 returns-2 : tie.Need-returns-2 Inv-loop μ-loop
 returns-2 c = fine-end (c .before .before .before .args .records .now) _ _ (let a = (c .before .loop .inv .0) in let b = (c .loop-test .left) in omega arith) (c .before .loop .inv .1)
 

@@ -3,12 +3,8 @@ use native.Mathlib.Omega.{arith}
 use mathlib.Core.Path.{refl}
 use Prim.Native.Nat.{_-_, _≤_}
 use Rattle.scope.specs.Table.{tableOf}
-use borrow.Author.Needs.{needs}
 use Rattle.modes.proofs.observe_all.Statement.{statement}
 use Rattle.modes.proofs.observe_all.Tie as tie
-use Rattle.modes.proofs.observe_all.Reads as reads
-use Rattle.modes.proofs.observe_all.Lts as lts
-use Rattle.modes.proofs.observe_one.Reads as observe-one-reads
 
 abbrev Inv-loop : tie.InvT-loop
 Inv-loop gu₀ ug₀ sg gs assignment records₀ users₀ notes₀ last k₀ g₀ gu ug records users notes k g = (g ≤ last) × Observing (tableOf (k₀ .counts) gu₀ ug₀ sg gs assignment records₀) g (k .from) (k .filled) (k .at) (tableOf (k .counts) gu ug sg gs assignment records) users₀ users notes₀ notes
@@ -16,47 +12,36 @@ Inv-loop gu₀ ug₀ sg gs assignment records₀ users₀ notes₀ last k₀ g�
 abbrev μ-loop : tie.MeasureT-loop
 μ-loop gu₀ ug₀ sg gs assignment records₀ users₀ notes₀ last k₀ g₀ gu ug records users notes k g = last - g
 
--- src/lib.rt:496:5
 loop-holds : tie.Need-loop-holds Inv-loop μ-loop
 loop-holds c = (omega arith, observing-none _ _ _)
 
--- src/lib.rt:498:9
 observe-one-requires : tie.Need-observe-one-requires Inv-loop μ-loop
 observe-one-requires c κs = observing-asks _ _ _ _ _ _ _ _ _ _ (c .before .before .before .before .before .before .before .loop .inv .1) _ _ (c .before .before .before .before .before .before .before .before .before .before .before .before .before .before .before .before .pre) refl refl (c .before .before .before .before .before .before .loop-test .taken)
 
--- src/lib.rt:513:9
 add-g : tie.Need-add-g Inv-loop μ-loop
 add-g c = let l = (c .before .before .before .before .before .before .before .before .before .before .before .before .before .before .before .before .before .loop-test .taken) in let z = (c .before .before .before .before .before .before .before .before .before .before .before .before .before .before .before .before .before .before .before .before .before .before .before .before .before .before .before .pre .sound .sizes) in omega arith
 
--- src/lib.rt:496:5
 loop-less : tie.Need-loop-less Inv-loop μ-loop
 loop-less c = let l = (c .before .before .before .before .before .before .before .before .before .before .before .before .before .before .before .before .before .loop-test .taken) in omega arith
 
--- src/lib.rt:496:5
 loop-again : tie.Need-loop-again Inv-loop μ-loop
 loop-again c = (let l = (c .before .before .before .before .before .before .before .before .before .before .before .before .before .before .before .before .before .loop-test .taken) in omega arith, observing-more _ _ _ _ _ _ _ _ _ _ (c .before .before .before .before .before .before .before .before .before .before .before .before .before .before .before .before .before .before .loop .inv .1) _ _ _ _ _ _ (c .before .before .before .before .before .before .before .before .before .before .observe-one .ensures))
 
--- src/lib.rt:472:1
 same-length : tie.Need-same-length Inv-loop μ-loop
 same-length c = observing-sizes _ _ _ _ _ _ _ _ _ _ (c .before .loop .inv .1) _ _ (c .before .before .before .before .before .before .before .before .before .before .pre) .globalFromUser
 
--- src/lib.rt:472:1
 same-length-2 : tie.Need-same-length-2 Inv-loop μ-loop
 same-length-2 c = observing-sizes _ _ _ _ _ _ _ _ _ _ (c .before .loop .inv .1) _ _ (c .before .before .before .before .before .before .before .before .before .before .pre) .userFromGlobal
 
--- src/lib.rt:472:1
 same-length-3 : tie.Need-same-length-3 Inv-loop μ-loop
 same-length-3 c = observing-sizes _ _ _ _ _ _ _ _ _ _ (c .before .loop .inv .1) _ _ (c .before .before .before .before .before .before .before .before .before .before .pre) .records
 
--- src/lib.rt:472:1
 same-length-4 : tie.Need-same-length-4 Inv-loop μ-loop
 same-length-4 c = observing-sizes _ _ _ _ _ _ _ _ _ _ (c .before .loop .inv .1) _ _ (c .before .before .before .before .before .before .before .before .before .before .pre) .filled
 
--- src/lib.rt:472:1
 same-length-5 : tie.Need-same-length-5 Inv-loop μ-loop
 same-length-5 c = observing-sizes _ _ _ _ _ _ _ _ _ _ (c .before .loop .inv .1) _ _ (c .before .before .before .before .before .before .before .before .before .before .pre) .notes
 
--- src/lib.rt:472:1
 returns : tie.Need-returns Inv-loop μ-loop
 returns c = observing-end _ _ _ _ _ _ _ _ _ _ (c .before .loop .inv .1) (let a = (c .before .loop .inv .0) in let b = (c .loop-test .left) in omega arith)
 

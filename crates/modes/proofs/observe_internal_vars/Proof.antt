@@ -2,64 +2,46 @@ use Rattle.modes.proofs.ObserveCallLaws.{observe-refused, observe-asks,
 use borrow.Author.Needs.{needs}
 use Rattle.modes.proofs.observe_internal_vars.Statement.{statement}
 use Rattle.modes.proofs.observe_internal_vars.Tie as tie
-use Rattle.modes.proofs.observe_internal_vars.Reads as reads
-use Rattle.modes.proofs.observe_internal_vars.Lts as lts
-use Rattle.modes.proofs.observe_all.Reads as observe-all-reads
-use Rattle.modes.proofs.observe_refusal.Reads as observe-refusal-reads
 
--- src/lib.rt:535:9
 observe-refusal-requires : tie.Need-observe-refusal-requires
 observe-refusal-requires c κs = search needs
 
--- src/lib.rt:547:9
 same-length : tie.Need-same-length
 same-length c = search needs
 
--- src/lib.rt:547:9
 same-length-2 : tie.Need-same-length-2
 same-length-2 c = search needs
 
--- src/lib.rt:547:9
 same-length-3 : tie.Need-same-length-3
 same-length-3 c = search needs
 
--- src/lib.rt:547:9
 returns : tie.Need-returns
 returns c = observe-refused _ _ _ _ (c .before .observe-refusal .ensures) (c .if1 .taken)
 
--- src/lib.rt:549:9
 observe-all-requires : tie.Need-observe-all-requires
 observe-all-requires c κs = observe-asks _ _ _ _ (c .before .before .before .before .before .before .observe-refusal .ensures) (c .before .before .before .before .before .if1 .left)
 
--- src/lib.rt:551:20
 cast-t32 : tie.Need-cast-t32
 cast-t32 c = record { fits = observe-fits _ _ _ _ (c .before .before .before .before .before .before .before .before .before .before .before .before .before .before .before .before .before .before .before .observe-refusal .ensures) (c .before .before .before .before .before .before .before .before .before .before .before .before .before .before .before .before .before .before .if1 .left) _ _ _ _ _ _ _ (c .before .before .before .before .before .before .before .before .before .before .before .before .observe-all .ensures) .0 }
 
--- src/lib.rt:551:45
 cast-t33 : tie.Need-cast-t33
 cast-t33 c = record { fits = observe-fits _ _ _ _ (c .before .before .before .before .before .before .before .before .before .before .before .before .before .before .before .before .before .before .before .before .observe-refusal .ensures) (c .before .before .before .before .before .before .before .before .before .before .before .before .before .before .before .before .before .before .before .if1 .left) _ _ _ _ _ _ _ (c .before .before .before .before .before .before .before .before .before .before .before .before .before .observe-all .ensures) .1 }
 
--- src/lib.rt:520:1
 same-length-4 : tie.Need-same-length-4
 same-length-4 c = search needs
 
--- src/lib.rt:520:1
 same-length-5 : tie.Need-same-length-5
 same-length-5 c = search needs
 
--- src/lib.rt:520:1
 same-length-6 : tie.Need-same-length-6
 same-length-6 c = search needs
 
--- src/lib.rt:520:1
 same-length-7 : tie.Need-same-length-7
 same-length-7 c = search needs
 
--- src/lib.rt:520:1
 same-length-8 : tie.Need-same-length-8
 same-length-8 c = search needs
 
--- src/lib.rt:520:1
 returns-2 : tie.Need-returns-2
 returns-2 c = observe-does _ _ _ _ (c .before .before .before .before .before .before .before .before .before .before .before .before .before .before .before .before .before .before .before .before .observe-refusal .ensures) (c .before .before .before .before .before .before .before .before .before .before .before .before .before .before .before .before .before .before .before .if1 .left) _ _ _ _ _ _ _ _ (c .before .before .before .before .before .before .before .before .before .before .before .before .before .observe-all .ensures)
 

@@ -4,72 +4,52 @@ use native.Mathlib.Omega.{arith}
 use borrow.Author.Needs.{needs}
 use Rattle.modes.proofs.observe_one.Statement.{statement}
 use Rattle.modes.proofs.observe_one.Tie as tie
-use Rattle.modes.proofs.observe_one.Reads as reads
-use Rattle.modes.proofs.observe_one.Lts as lts
-use Rattle.modes.proofs.is_hidden.Reads as is-hidden-reads
-use Rattle.modes.proofs.show.Reads as show-reads
 
--- src/lib.rt:437:27
 cast-is-hidden : tie.Need-cast-is-hidden
 cast-is-hidden c = search needs
 
--- src/lib.rt:437:19
 mul-is-hidden : tie.Need-mul-is-hidden
 mul-is-hidden c = search needs
 
--- src/lib.rt:437:19
 slice-read-is-hidden : tie.Need-slice-read-is-hidden
 slice-read-is-hidden c = observe-words _ _ _ _ _ (c .before .before .before .before .before .before .before .before .before .before .pre .0)
 
--- src/lib.rt:437:9
 is-hidden-requires : tie.Need-is-hidden-requires
 is-hidden-requires c κs = search needs
 
--- src/lib.rt:438:9
 returns : tie.Need-returns
 returns c = one-stays _ _ _ _ _ (c .before .before .before .before .before .before .before .before .before .before .before .before .pre .0) _ (c .before .is-hidden .ensures) (not-true _ (c .if1 .taken)) _ _ _
 
--- src/lib.rt:445:16
 add-next : tie.Need-add-next
 add-next c = search needs
 
--- src/lib.rt:446:9
 show-requires : tie.Need-show-requires
 show-requires c κs = one-asks _ _ _ _ _ (c .before .before .before .before .before .before .before .before .before .before .before .before .before .before .before .before .pre .0) _ (c .before .before .before .before .before .is-hidden .ensures) (not-false _ (c .before .before .before .before .if1 .left)) _ _ (c .before .before .before .before .before .before .before .before .before .before .before .before .before .before .before .before .pre .1)
 
--- src/lib.rt:462:5
 mul-users : tie.Need-mul-users
 mul-users c = let l = one-room _ _ _ _ _ (c .before .before .before .before .before .before .before .before .before .before .before .before .before .before .before .before .before .before .before .before .before .before .before .before .before .before .before .pre .0) _ (c .before .before .before .before .before .before .before .before .before .before .before .before .before .before .before .before .is-hidden .ensures) (not-false _ (c .before .before .before .before .before .before .before .before .before .before .before .before .before .before .before .if1 .left)) in let k = (c .before .before .before .before .before .before .before .before .before .before .before .before .before .before .before .before .before .before .before .before .before .before .before .before .before .before .before .good) in omega arith
 
--- src/lib.rt:462:5
 slice-write-users : tie.Need-slice-write-users
 slice-write-users c = one-room _ _ _ _ _ (c .before .before .before .before .before .before .before .before .before .before .before .before .before .before .before .before .before .before .before .before .before .before .before .before .before .before .before .pre .0) _ (c .before .before .before .before .before .before .before .before .before .before .before .before .before .before .before .before .is-hidden .ensures) (not-false _ (c .before .before .before .before .before .before .before .before .before .before .before .before .before .before .before .if1 .left))
 
--- src/lib.rt:465:15
 add-t22 : tie.Need-add-t22
 add-t22 c = record { fits = one-fits _ _ _ _ _ (c .before .before .before .before .before .before .before .before .before .before .before .before .before .before .before .before .before .before .before .before .before .before .before .before .before .before .before .before .pre .0) _ (c .before .before .before .before .before .before .before .before .before .before .before .before .before .before .before .before .before .is-hidden .ensures) (not-false _ (c .before .before .before .before .before .before .before .before .before .before .before .before .before .before .before .before .if1 .left)) _ (c .before .before .before .before .before .before .before .before .before .before .before .show .ensures .1) }
 
--- src/lib.rt:415:1
 same-length : tie.Need-same-length
 same-length c = search needs
 
--- src/lib.rt:415:1
 same-length-2 : tie.Need-same-length-2
 same-length-2 c = search needs
 
--- src/lib.rt:415:1
 same-length-3 : tie.Need-same-length-3
 same-length-3 c = search needs
 
--- src/lib.rt:415:1
 same-length-4 : tie.Need-same-length-4
 same-length-4 c = search needs
 
--- src/lib.rt:415:1
 same-length-5 : tie.Need-same-length-5
 same-length-5 c = search needs
 
--- src/lib.rt:415:1
 returns-2 : tie.Need-returns-2
 returns-2 c = one-shows _ _ _ _ _ (c .before .before .before .before .before .before .before .before .before .before .before .before .before .before .before .before .before .before .before .before .before .before .before .before .before .before .before .before .pre .0) _ (c .before .before .before .before .before .before .before .before .before .before .before .before .before .before .before .before .before .is-hidden .ensures) (not-false _ (c .before .before .before .before .before .before .before .before .before .before .before .before .before .before .before .before .if1 .left)) _ _ _ _ _ _ _ (c .before .before .before .before .before .before .before .before .before .before .before .show .ensures .0) (c .before .before .before .before .before .before .before .before .before .before .before .show .ensures .1)
 

@@ -1,15 +1,10 @@
 use borrow.Author.Tests.{eq-eqb, ne-eqb}
-use borrow.Author.Needs.{needs}
 use Rattle.modes.proofs.sample_word.Statement.{statement}
 use Rattle.modes.proofs.sample_word.Tie as tie
-use Rattle.modes.proofs.sample_word.Reads as reads
-use Rattle.modes.proofs.sample_word.Lts as lts
 
--- src/lib.rt:65:9
 returns : tie.Need-returns
 returns c = rw (eq-eqb _ _ (c .if1 .taken))
 
--- src/lib.rt:61:1
 returns-2 : tie.Need-returns-2
 returns-2 c = rw (ne-eqb _ _ (c .if1 .left))
 

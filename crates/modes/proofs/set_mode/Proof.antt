@@ -3,109 +3,79 @@ use Rattle.modes.proofs.NotesLaws.{there-live}
 use borrow.Author.Needs.{needs}
 use Rattle.modes.proofs.set_mode.Statement.{statement}
 use Rattle.modes.proofs.set_mode.Tie as tie
-use Rattle.modes.proofs.set_mode.Reads as reads
-use Rattle.modes.proofs.set_mode.Lts as lts
-use Rattle.modes.proofs.change.Reads as change-reads
-use Rattle.modes.proofs.hide.Reads as hide-reads
-use Rattle.modes.proofs.show.Reads as show-reads
 
--- src/lib.rt:267:23
 cast-was : tie.Need-cast-was
 cast-was c = search needs
 
--- src/lib.rt:267:15
 mul-was : tie.Need-mul-was
 mul-was c = search needs
 
--- src/lib.rt:267:15
 slice-read-was : tie.Need-slice-read-was
 slice-read-was c = there-live _ _ (c .before .before .before .before .before .before .before .before .before .pre .there) .words
 
--- src/lib.rt:269:9
 returns : tie.Need-returns
 returns c = same-does _ _ _ _ (c .before .before .before .before .before .before .before .before .before .before .pre) (c .if1 .taken) _
 
--- src/lib.rt:272:13
 hide-requires : tie.Need-hide-requires
 hide-requires c κs = hide-asks _ _ _ _ (c .before .before .before .before .before .before .before .before .before .before .before .before .before .before .before .pre) (c .before .before .before .before .before .if1 .left) (c .before .before .before .before .if2 .taken)
 
--- src/lib.rt:274:38
 cast-t33 : tie.Need-cast-t33
 cast-t33 c = record { fits = set-fits _ _ _ _ (c .before .before .before .before .before .before .before .before .before .before .before .before .before .before .before .before .before .before .before .before .before .before .before .before .before .before .pre) _ (hide-is _ _ _ _ (c .before .before .before .before .before .before .before .before .before .before .before .before .before .before .before .before .before .before .before .before .before .before .before .before .before .before .pre) (c .before .before .before .before .before .before .before .before .before .before .before .before .before .before .before .before .if1 .left) (c .before .before .before .before .before .before .before .before .before .before .before .before .before .before .before .if2 .taken)) _ _ _ _ (c .before .before .before .before .before .before .before .before .before .before .hide .ensures) }
 
--- src/lib.rt:274:9
 same-length : tie.Need-same-length
 same-length c = search needs
 
--- src/lib.rt:274:9
 same-length-2 : tie.Need-same-length-2
 same-length-2 c = search needs
 
--- src/lib.rt:274:9
 same-length-3 : tie.Need-same-length-3
 same-length-3 c = search needs
 
--- src/lib.rt:274:9
 same-length-4 : tie.Need-same-length-4
 same-length-4 c = search needs
 
--- src/lib.rt:274:9
 returns-2 : tie.Need-returns-2
 returns-2 c = hide-does _ _ _ _ (c .before .before .before .before .before .before .before .before .before .before .before .before .before .before .before .before .before .before .before .before .before .before .before .before .before .before .pre) (c .before .before .before .before .before .before .before .before .before .before .before .before .before .before .before .before .if1 .left) (c .before .before .before .before .before .before .before .before .before .before .before .before .before .before .before .if2 .taken) _ _ _ _ _ (c .before .before .before .before .before .before .before .before .before .before .hide .ensures)
 
--- src/lib.rt:277:13
 show-requires : tie.Need-show-requires
 show-requires c κs = show-asks _ _ _ _ (c .before .before .before .before .before .before .before .before .before .before .before .before .before .before .before .before .pre) (c .before .before .before .before .before .before .if1 .left) (c .before .before .before .before .before .if2 .left) (c .before .before .before .before .if3 .taken)
 
--- src/lib.rt:293:45
 cast-t43 : tie.Need-cast-t43
 cast-t43 c = record { fits = set-fits _ _ _ _ (c .before .before .before .before .before .before .before .before .before .before .before .before .before .before .before .before .before .before .before .before .before .before .before .before .before .before .before .before .pre) _ (show-is _ _ _ _ (c .before .before .before .before .before .before .before .before .before .before .before .before .before .before .before .before .before .before .before .before .before .before .before .before .before .before .before .before .pre) (c .before .before .before .before .before .before .before .before .before .before .before .before .before .before .before .before .before .before .if1 .left) (c .before .before .before .before .before .before .before .before .before .before .before .before .before .before .before .before .before .if2 .left) (c .before .before .before .before .before .before .before .before .before .before .before .before .before .before .before .before .if3 .taken)) _ _ _ _ (c .before .before .before .before .before .before .before .before .before .before .before .show .ensures .0) }
 
--- src/lib.rt:293:9
 same-length-5 : tie.Need-same-length-5
 same-length-5 c = search needs
 
--- src/lib.rt:293:9
 same-length-6 : tie.Need-same-length-6
 same-length-6 c = search needs
 
--- src/lib.rt:293:9
 same-length-7 : tie.Need-same-length-7
 same-length-7 c = search needs
 
--- src/lib.rt:293:9
 same-length-8 : tie.Need-same-length-8
 same-length-8 c = search needs
 
--- src/lib.rt:293:9
 returns-3 : tie.Need-returns-3
 returns-3 c = show-does _ _ _ _ (c .before .before .before .before .before .before .before .before .before .before .before .before .before .before .before .before .before .before .before .before .before .before .before .before .before .before .before .before .pre) (c .before .before .before .before .before .before .before .before .before .before .before .before .before .before .before .before .before .before .if1 .left) (c .before .before .before .before .before .before .before .before .before .before .before .before .before .before .before .before .before .if2 .left) (c .before .before .before .before .before .before .before .before .before .before .before .before .before .before .before .before .if3 .taken) _ _ _ _ _ _ (c .before .before .before .before .before .before .before .before .before .before .before .show .ensures .0) (c .before .before .before .before .before .before .before .before .before .before .before .show .ensures .1)
 
--- src/lib.rt:295:9
 change-requires : tie.Need-change-requires
 change-requires c κs = change-asks _ _ _ _ (c .before .before .before .before .before .before .before .before .before .before .before .before .before .before .before .before .pre) (c .before .before .before .before .before .before .if1 .left) (c .before .before .before .before .before .if2 .left) (c .before .before .before .before .if3 .left)
 
--- src/lib.rt:297:27
 cast-t22 : tie.Need-cast-t22
 cast-t22 c = record { fits = set-fits _ _ _ _ (c .before .before .before .before .before .before .before .before .before .before .before .before .before .before .before .before .before .before .before .before .before .before .before .pre) _ (change-is _ _ _ _ (c .before .before .before .before .before .before .before .before .before .before .before .before .before .before .before .before .before .before .before .before .before .before .before .pre) (c .before .before .before .before .before .before .before .before .before .before .before .before .before .if1 .left) (c .before .before .before .before .before .before .before .before .before .before .before .before .if2 .left) (c .before .before .before .before .before .before .before .before .before .before .before .if3 .left)) _ _ _ _ (c .before .before .before .before .before .before .change .ensures) }
 
--- src/lib.rt:251:1
 same-length-9 : tie.Need-same-length-9
 same-length-9 c = search needs
 
--- src/lib.rt:251:1
 same-length-10 : tie.Need-same-length-10
 same-length-10 c = search needs
 
--- src/lib.rt:251:1
 same-length-11 : tie.Need-same-length-11
 same-length-11 c = search needs
 
--- src/lib.rt:251:1
 same-length-12 : tie.Need-same-length-12
 same-length-12 c = search needs
 
--- src/lib.rt:251:1
 returns-4 : tie.Need-returns-4
 returns-4 c = change-does _ _ _ _ (c .before .before .before .before .before .before .before .before .before .before .before .before .before .before .before .before .before .before .before .before .before .before .before .pre) (c .before .before .before .before .before .before .before .before .before .before .before .before .before .if1 .left) (c .before .before .before .before .before .before .before .before .before .before .before .before .if2 .left) (c .before .before .before .before .before .before .before .before .before .before .before .if3 .left) _ _ _ _ _ (c .before .before .before .before .before .before .change .ensures)
 

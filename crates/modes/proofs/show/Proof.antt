@@ -4,90 +4,64 @@ use native.Mathlib.Omega.{arith}
 use borrow.Author.Needs.{needs}
 use Rattle.modes.proofs.show.Statement.{statement}
 use Rattle.modes.proofs.show.Tie as tie
-use Rattle.modes.proofs.show.Reads as reads
-use Rattle.modes.proofs.show.Lts as lts
-use Rattle.modes.proofs.next_user.Reads as next-user-reads
-use Rattle.modes.proofs.sample_word.Reads as sample-word-reads
-use Rattle.scope.proofs.Counts.map.Reads as map-reads
-use Rattle.table.proofs.put_note.Reads as put-note-reads
 
--- src/lib.rt:107:13
 cast-g : tie.Need-cast-g
 cast-g c = search needs
 
--- src/lib.rt:108:16
 add-next : tie.Need-add-next
 add-next c = search needs
 
--- src/lib.rt:109:16
 add-past : tie.Need-add-past
 add-past c = search needs
 
--- src/lib.rt:110:9
 sample-word-requires : tie.Need-sample-word-requires
 sample-word-requires c κs = search needs
 
--- src/lib.rt:111:13
 mul-w : tie.Need-mul-w
 mul-w c = search needs
 
--- src/lib.rt:111:13
 slice-read-w : tie.Need-slice-read-w
 slice-read-w c = there-live _ _ (c .before .before .before .before .before .before .before .before .before .before .pre .0 .there) .words
 
--- src/lib.rt:112:18
 mul-records : tie.Need-mul-records
 mul-records c = record { fits = base-fits _ _ (c .before .before .before .before .before .before .before .before .before .before .pre .0 .there) }
 
--- src/lib.rt:112:18
 add-records : tie.Need-add-records
 add-records c = record { fits = mode-fits _ _ (c .before .before .before .before .before .before .before .before .before .before .pre .0 .there) _ (let l = (c .before .before .before .before .before .before .before .before .before .before .pre .0 .mode) in omega arith) }
 
--- src/lib.rt:112:5
 mul-records-2 : tie.Need-mul-records-2
 mul-records-2 c = let l = there-live _ _ (c .before .before .before .before .before .before .before .before .before .before .pre .0 .there) .small in omega arith
 
--- src/lib.rt:112:5
 slice-write-records : tie.Need-slice-write-records
 slice-write-records c = there-live _ _ (c .before .before .before .before .before .before .before .before .before .before .pre .0 .there) .words
 
--- src/lib.rt:113:9
 next-user-requires : tie.Need-next-user-requires
 next-user-requires c κs = show-next _ _ _ _ (c .before .before .before .before .before .before .before .before .before .before .before .pre .0)
 
--- src/lib.rt:115:9
 map-requires : tie.Need-map-requires
 map-requires c κs = show-asks _ _ _ _ (c .before .before .before .before .before .before .before .before .before .before .before .before .before .before .pre .0) _ (c .before .before .next-user .ensures)
 
--- src/lib.rt:116:5
 put-note-requires : tie.Need-put-note-requires
 put-note-requires c κs = let r = show-room _ _ _ _ _ (c .before .before .before .before .before .before .before .before .before .before .before .before .before .before .before .before .before .before .before .before .pre .1) in omega arith
 
--- src/lib.rt:117:40
 add-put-note : tie.Need-add-put-note
 add-put-note c = let l = show-asks _ _ _ _ (c .before .before .before .before .before .before .before .before .before .before .before .before .before .before .before .before .before .before .before .before .before .before .before .before .pre .0) _ (c .before .before .before .before .before .before .before .before .before .before .before .before .next-user .ensures) in omega arith
 
--- src/lib.rt:117:5
 put-note-requires-2 : tie.Need-put-note-requires-2
 put-note-requires-2 c κs = let r = show-room _ _ _ _ _ (c .before .before .before .before .before .before .before .before .before .before .before .before .before .before .before .before .before .before .before .before .before .before .before .before .pre .1) in let k = (c .before .before .before .put-note .kept .0) in omega arith
 
--- src/lib.rt:87:1
 same-length : tie.Need-same-length
 same-length c = search needs
 
--- src/lib.rt:87:1
 same-length-2 : tie.Need-same-length-2
 same-length-2 c = search needs
 
--- src/lib.rt:87:1
 same-length-3 : tie.Need-same-length-3
 same-length-3 c = search needs
 
--- src/lib.rt:87:1
 same-length-4 : tie.Need-same-length-4
 same-length-4 c = search needs
 
--- src/lib.rt:87:1
 returns : tie.Need-returns
 returns c = (show-leaves _ _ _ _ (c .before .before .before .before .before .before .before .before .before .before .before .before .before .before .before .before .before .before .before .before .before .before .before .before .before .before .before .pre .0) _ (c .before .before .before .before .before .before .before .before .before .before .before .before .before .before .before .next-user .ensures) _ _ _ (c .before .before .before .before .before .before .before .before .before .before .before .before .map .ensures) _ _ _ _ _ (c .before .before .before .before .before .before .before .before .before .before .before .before .before .before .before .before .before .before .sample-word .ensures) (c .before .before .before .before .before .before .put-note .ensures) (c .before .before .put-note2 .ensures), show-user _ _ _ _ (c .before .before .before .before .before .before .before .before .before .before .before .before .before .before .before .before .before .before .before .before .before .before .before .before .before .before .before .pre .0) _ (c .before .before .before .before .before .before .before .before .before .before .before .before .before .before .before .next-user .ensures))
 

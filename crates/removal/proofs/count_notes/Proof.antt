@@ -2,7 +2,7 @@ use Rattle.removal.proofs.SweepLaws.{count-none, count-more, count-smal
 use Rattle.removal.proofs.HeldLaws.{holding-of}
 use Rattle.scope.proofs.SoundLaws.{sound-of}
 use native.Mathlib.Omega.{arith}
-use Prim.Native.Nat.{_+_, _*_, _-_, _≤_}
+use Prim.Native.Nat.{_*_, _-_, _≤_}
 use mathlib.Core.Path.{_≡_}
 use lib.ListN.{length}
 use Rattle.scope.specs.Table.{tableOf}
@@ -11,9 +11,6 @@ use Rattle.scope.specs.Remove.{sweepOne}
 use borrow.Author.Needs.{needs}
 use Rattle.removal.proofs.count_notes.Statement.{statement}
 use Rattle.removal.proofs.count_notes.Tie as tie
-use Rattle.removal.proofs.count_notes.Reads as reads
-use Rattle.removal.proofs.count_notes.Lts as lts
-use Rattle.removal.proofs.notes_at.Reads as notes-at-reads
 
 abbrev Inv-loop : tie.InvT-loop
 Inv-loop c gu ug sg gs assignment records last n₀ s₀ n s = (s ≤ last) × (n ≡ length (each s sweepOne (tableOf c gu ug sg gs assignment records) .notes)) × (n ≤ 2 * s)
@@ -21,31 +18,24 @@ Inv-loop c gu ug sg gs assignment records last n₀ s₀ n s = (s ≤ last) × (
 abbrev μ-loop : tie.MeasureT-loop
 μ-loop c gu ug sg gs assignment records last n₀ s₀ n s = last - s
 
--- src/lib.rt:210:5
 loop-holds : tie.Need-loop-holds Inv-loop μ-loop
 loop-holds c = (omega arith, count-none _, omega arith)
 
--- src/lib.rt:211:14
 notes-at-requires : tie.Need-notes-at-requires Inv-loop μ-loop
 notes-at-requires c κs = holding-of _ (sound-of _ (c .before .before .before .before .before .before .before .before .pre)) _
 
--- src/lib.rt:211:9
 add-n : tie.Need-add-n Inv-loop μ-loop
 add-n c = record { fits = count-fits _ (sound-of _ (c .before .before .before .before .before .before .before .before .before .pre)) _ _ _ (c .before .loop-test .taken) (c .before .before .loop .inv .2) (c .notes-at .ensures) }
 
--- src/lib.rt:212:9
 add-s : tie.Need-add-s Inv-loop μ-loop
 add-s c = search needs
 
--- src/lib.rt:210:5
 loop-less : tie.Need-loop-less Inv-loop μ-loop
 loop-less c = search needs
 
--- src/lib.rt:210:5
 loop-again : tie.Need-loop-again Inv-loop μ-loop
 loop-again c = (search needs, count-more _ (sound-of _ (c .before .before .before .before .before .before .before .before .before .pre)) _ _ _ (c .before .before .loop .inv .1) (c .notes-at .ensures), count-small _ _ _ _ (c .before .before .loop .inv .2) (c .notes-at .ensures))
 
--- src/lib.rt:195:1
 returns : tie.Need-returns Inv-loop μ-loop
 returns c = count-end _ _ _ (let a = (c .before .loop .inv .0) in let b = (c .loop-test .left) in omega arith) (c .before .loop .inv .1)
 

@@ -2,34 +2,25 @@ use Rattle.removal.proofs.SweepOneLaws.{learnt-none, learnt-some}
 use borrow.Author.Needs.{needs}
 use Rattle.removal.proofs.learnt_record.Statement.{statement}
 use Rattle.removal.proofs.learnt_record.Tie as tie
-use Rattle.removal.proofs.learnt_record.Reads as reads
-use Rattle.removal.proofs.learnt_record.Lts as lts
 
--- src/lib.rt:157:9
 returns : tie.Need-returns
 returns c = learnt-none _ _ (c .if1 .taken)
 
--- src/lib.rt:159:5
 mul-result : tie.Need-mul-result
 mul-result c = search needs
 
--- src/lib.rt:159:5
 add-result : tie.Need-add-result
 add-result c = search needs
 
--- src/lib.rt:159:23
 mul-result-2 : tie.Need-mul-result-2
 mul-result-2 c = search needs
 
--- src/lib.rt:159:5
 add-result-2 : tie.Need-add-result-2
 add-result-2 c = search needs
 
--- src/lib.rt:159:5
 add-result-3 : tie.Need-add-result-3
 add-result-3 c = search needs
 
--- src/lib.rt:151:1
 returns-2 : tie.Need-returns-2
 returns-2 c = learnt-some _ _ (c .if1 .left)
 

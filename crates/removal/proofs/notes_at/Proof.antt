@@ -5,78 +5,55 @@ use mathlib.Core.Path.{sym, _∙_}
 use borrow.Author.Needs.{needs}
 use Rattle.removal.proofs.notes_at.Statement.{statement}
 use Rattle.removal.proofs.notes_at.Tie as tie
-use Rattle.removal.proofs.notes_at.Reads as reads
-use Rattle.removal.proofs.notes_at.Lts as lts
-use Rattle.removal.proofs.is_loose.Reads as is-loose-reads
-use Rattle.removal.proofs.learnt_record.Reads as learnt-record-reads
-use Rattle.removal.proofs.removal_notes.Reads as removal-notes-reads
-use Rattle.table.proofs.holder.Reads as holder-reads
 
--- src/lib.rt:183:35
 holder-requires : tie.Need-holder-requires
 holder-requires c κs = search needs
 
--- src/lib.rt:183:25
 enum-known-global : tie.Need-enum-known-global
 enum-known-global c = search needs
 
--- src/lib.rt:184:9
 enum-told : tie.Need-enum-told
 enum-told c = search needs
 
--- src/lib.rt:184:9
 returns : tie.Need-returns
 returns c = notes-none _ _ (sym (c .enum-told .given .1) ∙ (c .before .before .holder .ensures))
 
--- src/lib.rt:186:13
 cast-g : tie.Need-cast-g
 cast-g c = search needs
 
--- src/lib.rt:187:27
 mul-learnt-record : tie.Need-mul-learnt-record
 mul-learnt-record c = search needs
 
--- src/lib.rt:187:27
 shared-slice-read-learnt-record : tie.Need-shared-slice-read-learnt-record
 shared-slice-read-learnt-record c = ((c .before .before .before .before .before .before .before .before .before .before .before .before .pre) _ (found-at _ _ (sym (c .before .before .before .global .given .1) ∙ (c .before .before .before .before .before .holder .ensures)))) .live .words
 
--- src/lib.rt:187:50
 cast-learnt-record : tie.Need-cast-learnt-record
 cast-learnt-record c = search needs
 
--- src/lib.rt:187:39
 mul-learnt-record-2 : tie.Need-mul-learnt-record-2
 mul-learnt-record-2 c = search needs
 
--- src/lib.rt:187:39
 shared-slice-read-learnt-record-2 : tie.Need-shared-slice-read-learnt-record-2
 shared-slice-read-learnt-record-2 c = ((c .before .before .before .before .before .before .before .before .before .before .before .before .before .before .pre) _ (found-at _ _ (sym (c .before .before .before .before .before .global .given .1) ∙ (c .before .before .before .before .before .before .before .holder .ensures)))) .value
 
--- src/lib.rt:187:9
 learnt-record-requires : tie.Need-learnt-record-requires
 learnt-record-requires c κs = learn-asks _ _ _ ((c .before .before .before .before .before .before .before .before .before .before .before .before .before .before .pre) _ (found-at _ _ (sym (c .before .before .before .before .before .global .given .1) ∙ (c .before .before .before .before .before .before .before .holder .ensures))))
 
--- src/lib.rt:188:9
 is-loose-requires : tie.Need-is-loose-requires
 is-loose-requires c κs = search needs
 
--- src/lib.rt:189:9
 returns-2 : tie.Need-returns-2
 returns-2 c = notes-kept _ _ _ (sym (c .before .before .before .before .before .before .before .before .global .given .1) ∙ (c .before .before .before .before .before .before .before .before .before .before .holder .ensures)) ((c .before .before .before .before .before .before .before .before .before .before .before .before .before .before .before .before .before .pre) _ (found-at _ _ (sym (c .before .before .before .before .before .before .before .before .global .given .1) ∙ (c .before .before .before .before .before .before .before .before .before .before .holder .ensures)))) _ (c .before .before .learnt-record .ensures) (sym (c .before .is-loose .ensures) ∙ not-true _ (c .if1 .taken))
 
--- src/lib.rt:191:19
 mul-removal-notes : tie.Need-mul-removal-notes
 mul-removal-notes c = search needs
 
--- src/lib.rt:191:19
 shared-slice-read-removal-notes : tie.Need-shared-slice-read-removal-notes
 shared-slice-read-removal-notes c = ((c .before .before .before .before .before .before .before .before .before .before .before .before .before .before .before .before .before .before .pre) _ (found-at _ _ (sym (c .before .before .before .before .before .before .before .before .before .global .given .1) ∙ (c .before .before .before .before .before .before .before .before .before .before .before .holder .ensures)))) .live .user
 
--- src/lib.rt:191:5
 removal-notes-requires : tie.Need-removal-notes-requires
 removal-notes-requires c κs = search needs
 
--- src/lib.rt:170:1
 returns-3 : tie.Need-returns-3
 returns-3 c = notes-removed _ _ _ (sym (c .before .before .before .before .before .before .before .before .before .before .global .given .1) ∙ (c .before .before .before .before .before .before .before .before .before .before .before .before .holder .ensures)) ((c .before .before .before .before .before .before .before .before .before .before .before .before .before .before .before .before .before .before .before .pre) _ (found-at _ _ (sym (c .before .before .before .before .before .before .before .before .before .before .global .given .1) ∙ (c .before .before .before .before .before .before .before .before .before .before .before .before .holder .ensures)))) _ (c .before .before .before .before .learnt-record .ensures) (sym (c .before .before .before .is-loose .ensures) ∙ not-false _ (c .before .before .if1 .left)) _ (c .removal-notes .ensures)
 

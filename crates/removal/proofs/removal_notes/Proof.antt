@@ -1,15 +1,10 @@
 use Rattle.removal.proofs.CountingLaws.{removal-two, removal-one}
-use borrow.Author.Needs.{needs}
 use Rattle.removal.proofs.removal_notes.Statement.{statement}
 use Rattle.removal.proofs.removal_notes.Tie as tie
-use Rattle.removal.proofs.removal_notes.Reads as reads
-use Rattle.removal.proofs.removal_notes.Lts as lts
 
--- src/lib.rt:78:9
 returns : tie.Need-returns
 returns c = removal-two _ _ (c .if1 .taken)
 
--- src/lib.rt:74:1
 returns-2 : tie.Need-returns-2
 returns-2 c = removal-one _ _ (c .if1 .left)
 

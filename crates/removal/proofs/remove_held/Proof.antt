@@ -2,45 +2,31 @@ use Rattle.removal.proofs.RemoveLaws.{remove-room, remove-asks, remove-
 use borrow.Author.Needs.{needs}
 use Rattle.removal.proofs.remove_held.Statement.{statement}
 use Rattle.removal.proofs.remove_held.Tie as tie
-use Rattle.removal.proofs.remove_held.Reads as reads
-use Rattle.removal.proofs.remove_held.Lts as lts
-use Rattle.deletion.proofs.delete_global_if_unused.Reads as delete-global-if-unused-reads
-use Rattle.scope.proofs.Counts.remove.Reads as remove-reads
-use Rattle.table.proofs.put_note.Reads as put-note-reads
 
--- src/lib.rt:55:16
 add-next : tie.Need-add-next
 add-next c = search needs
 
--- src/lib.rt:56:9
 remove-requires : tie.Need-remove-requires
 remove-requires c κs = search needs
 
--- src/lib.rt:57:5
 put-note-requires : tie.Need-put-note-requires
 put-note-requires c κs = remove-room _ _ _ _ _ (c .before .before .before .before .before .before .before .before .before .before .before .before .before .before .before .pre .1)
 
--- src/lib.rt:58:9
 delete-global-if-unused-requires : tie.Need-delete-global-if-unused-requires
 delete-global-if-unused-requires c κs = remove-asks _ _ _ _ _ _ (c .before .before .before .before .before .before .before .before .before .before .before .before .remove .ensures) _ _ _ (c .before .before .before .before .before .before .before .before .before .before .before .before .before .before .before .before .before .before .before .before .before .before .pre .0) (c .before .before .before .before .before .before .before .before .before .before .before .before .before .before .before .before .before .before .before .before .before .before .pre .1) (c .before .before .before .before .before .before .put-note .kept .0)
 
--- src/lib.rt:37:1
 same-length : tie.Need-same-length
 same-length c = search needs
 
--- src/lib.rt:37:1
 same-length-2 : tie.Need-same-length-2
 same-length-2 c = search needs
 
--- src/lib.rt:37:1
 same-length-3 : tie.Need-same-length-3
 same-length-3 c = search needs
 
--- src/lib.rt:37:1
 same-length-4 : tie.Need-same-length-4
 same-length-4 c = search needs
 
--- src/lib.rt:37:1
 returns : tie.Need-returns
 returns c = remove-leaves _ _ _ _ _ _ (c .before .before .before .before .before .before .before .before .before .before .before .before .before .before .before .before .before .remove .ensures) _ _ _ _ _ _ (c .before .before .before .before .before .before .before .before .before .before .before .put-note .ensures) (c .before .before .before .before .delete-global-if-unused .ensures)
 

@@ -4,73 +4,52 @@ use mathlib.Core.Path.{sym, _∙_}
 use borrow.Author.Needs.{needs}
 use Rattle.removal.proofs.remove_refusal.Statement.{statement}
 use Rattle.removal.proofs.remove_refusal.Tie as tie
-use Rattle.removal.proofs.remove_refusal.Reads as reads
-use Rattle.removal.proofs.remove_refusal.Lts as lts
-use Rattle.removal.proofs.removal_notes.Reads as removal-notes-reads
-use Rattle.table.proofs.holder.Reads as holder-reads
-use Rattle.table.proofs.is_sound.Reads as is-sound-reads
 
--- src/lib.rt:96:9
 is-sound-requires : tie.Need-is-sound-requires
 is-sound-requires c κs = search needs
 
--- src/lib.rt:97:9
 returns : tie.Need-returns
 returns c = remove-1 _ _ _ (sym (c .before .is-sound .ensures) ∙ not-true _ (c .if1 .taken))
 
--- src/lib.rt:99:35
 holder-requires : tie.Need-holder-requires
 holder-requires c κs = search needs
 
--- src/lib.rt:99:25
 enum-known-global : tie.Need-enum-known-global
 enum-known-global c = search needs
 
--- src/lib.rt:100:9
 enum-told : tie.Need-enum-told
 enum-told c = search needs
 
--- src/lib.rt:100:9
 returns-2 : tie.Need-returns-2
 returns-2 c = remove-8 _ _ _ (sym (c .before .before .before .before .is-sound .ensures) ∙ not-false _ (c .before .before .before .if1 .left)) (sym (c .enum-told .given .1) ∙ (c .before .before .holder .ensures))
 
--- src/lib.rt:102:13
 cast-g : tie.Need-cast-g
 cast-g c = search needs
 
--- src/lib.rt:103:27
 mul-removal-notes : tie.Need-mul-removal-notes
 mul-removal-notes c = search needs
 
--- src/lib.rt:103:27
 shared-slice-read-removal-notes : tie.Need-shared-slice-read-removal-notes
 shared-slice-read-removal-notes c = remove-holding _ _ _ (sym (c .before .before .before .global .given .1) ∙ (c .before .before .before .before .before .holder .ensures)) (sym (c .before .before .before .before .before .before .before .is-sound .ensures) ∙ not-false _ (c .before .before .before .before .before .before .if1 .left)) .live .user
 
--- src/lib.rt:103:34
 mul-removal-notes-2 : tie.Need-mul-removal-notes-2
 mul-removal-notes-2 c = search needs
 
--- src/lib.rt:103:34
 shared-slice-read-removal-notes-2 : tie.Need-shared-slice-read-removal-notes-2
 shared-slice-read-removal-notes-2 c = remove-holding _ _ _ (sym (c .before .before .before .before .global .given .1) ∙ (c .before .before .before .before .before .before .holder .ensures)) (sym (c .before .before .before .before .before .before .before .before .is-sound .ensures) ∙ not-false _ (c .before .before .before .before .before .before .before .if1 .left)) .live .words
 
--- src/lib.rt:103:13
 removal-notes-requires : tie.Need-removal-notes-requires
 removal-notes-requires c κs = search needs
 
--- src/lib.rt:103:13
 cast-n : tie.Need-cast-n
 cast-n c = search needs
 
--- src/lib.rt:104:15
 mul-if2 : tie.Need-mul-if2
 mul-if2 c = search needs
 
--- src/lib.rt:105:9
 returns-3 : tie.Need-returns-3
 returns-3 c = remove-2 _ _ _ (sym (c .before .before .before .before .before .before .before .before .before .before .is-sound .ensures) ∙ not-false _ (c .before .before .before .before .before .before .before .before .before .if1 .left)) _ (sym (c .before .before .before .before .before .before .global .given .1) ∙ (c .before .before .before .before .before .before .before .before .holder .ensures)) _ (c .before .removal-notes .ensures) (c .if2 .taken)
 
--- src/lib.rt:83:1
 returns-4 : tie.Need-returns-4
 returns-4 c = remove-0 _ _ _ (sym (c .before .before .before .before .before .before .before .before .before .before .is-sound .ensures) ∙ not-false _ (c .before .before .before .before .before .before .before .before .before .if1 .left)) _ (sym (c .before .before .before .before .before .before .global .given .1) ∙ (c .before .before .before .before .before .before .before .before .holder .ensures)) _ (c .before .removal-notes .ensures) (c .if2 .left)
 

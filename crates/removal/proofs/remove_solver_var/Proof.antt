@@ -3,85 +3,61 @@ use mathlib.Core.Path.{sym, _∙_}
 use borrow.Author.Needs.{needs}
 use Rattle.removal.proofs.remove_solver_var.Statement.{statement}
 use Rattle.removal.proofs.remove_solver_var.Tie as tie
-use Rattle.removal.proofs.remove_solver_var.Reads as reads
-use Rattle.removal.proofs.remove_solver_var.Lts as lts
-use Rattle.removal.proofs.remove_held.Reads as remove-held-reads
-use Rattle.removal.proofs.remove_refusal.Reads as remove-refusal-reads
-use Rattle.table.proofs.holder.Reads as holder-reads
 
--- src/lib.rt:117:9
 remove-refusal-requires : tie.Need-remove-refusal-requires
 remove-refusal-requires c κs = search needs
 
--- src/lib.rt:119:9
 same-length : tie.Need-same-length
 same-length c = search needs
 
--- src/lib.rt:119:9
 same-length-2 : tie.Need-same-length-2
 same-length-2 c = search needs
 
--- src/lib.rt:119:9
 same-length-3 : tie.Need-same-length-3
 same-length-3 c = search needs
 
--- src/lib.rt:119:9
 returns : tie.Need-returns
 returns c = remove-refused _ _ _ _ (c .before .remove-refusal .ensures) (c .if1 .taken)
 
--- src/lib.rt:121:35
 holder-requires : tie.Need-holder-requires
 holder-requires c κs = search needs
 
--- src/lib.rt:121:25
 enum-known-global : tie.Need-enum-known-global
 enum-known-global c = search needs
 
--- src/lib.rt:122:9
 enum-told : tie.Need-enum-told
 enum-told c = search needs
 
--- src/lib.rt:122:9
 same-length-4 : tie.Need-same-length-4
 same-length-4 c = search needs
 
--- src/lib.rt:122:9
 same-length-5 : tie.Need-same-length-5
 same-length-5 c = search needs
 
--- src/lib.rt:122:9
 same-length-6 : tie.Need-same-length-6
 same-length-6 c = search needs
 
--- src/lib.rt:122:9
 returns-2 : tie.Need-returns-2
 returns-2 c = absurd (never-nothing _ _ _ (removable _ _ _ _ (c .before .before .before .before .before .remove-refusal .ensures) (c .before .before .before .before .if1 .left)) (sym (c .enum-told .given .1) ∙ (c .before .before .holder .ensures)))
 
--- src/lib.rt:124:9
 remove-held-requires : tie.Need-remove-held-requires
 remove-held-requires c κs = held-asks _ _ _ (removable _ _ _ _ (c .before .before .before .before .before .before .before .before .before .before .remove-refusal .ensures) (c .before .before .before .before .before .before .before .before .before .if1 .left)) _ (sym (c .before .before .before .before .before .global .given .1) ∙ (c .before .before .before .before .before .before .before .holder .ensures))
 
--- src/lib.rt:126:27
 cast-t33 : tie.Need-cast-t33
 cast-t33 c = record { fits = held-fits _ _ _ (removable _ _ _ _ (c .before .before .before .before .before .before .before .before .before .before .before .before .before .before .before .before .before .before .before .before .before .remove-refusal .ensures) (c .before .before .before .before .before .before .before .before .before .before .before .before .before .before .before .before .before .before .before .before .if1 .left)) _ (sym (c .before .before .before .before .before .before .before .before .before .before .before .before .before .before .before .before .global .given .1) ∙ (c .before .before .before .before .before .before .before .before .before .before .before .before .before .before .before .before .before .before .holder .ensures)) _ _ _ _ (c .before .before .before .before .before .before .before .before .before .before .remove-held .ensures) }
 
--- src/lib.rt:103:1
 same-length-7 : tie.Need-same-length-7
 same-length-7 c = search needs
 
--- src/lib.rt:103:1
 same-length-8 : tie.Need-same-length-8
 same-length-8 c = search needs
 
--- src/lib.rt:103:1
 same-length-9 : tie.Need-same-length-9
 same-length-9 c = search needs
 
--- src/lib.rt:103:1
 same-length-10 : tie.Need-same-length-10
 same-length-10 c = search needs
 
--- src/lib.rt:103:1
 returns-3 : tie.Need-returns-3
 returns-3 c = remove-does _ _ _ (removable _ _ _ _ (c .before .before .before .before .before .before .before .before .before .before .before .before .before .before .before .before .before .before .before .before .before .remove-refusal .ensures) (c .before .before .before .before .before .before .before .before .before .before .before .before .before .before .before .before .before .before .before .before .if1 .left)) _ (sym (c .before .before .before .before .before .before .before .before .before .before .before .before .before .before .before .before .global .given .1) ∙ (c .before .before .before .before .before .before .before .before .before .before .before .before .before .before .before .before .before .before .holder .ensures)) _ _ _ _ _ _ (c .before .before .before .before .before .before .before .before .before .before .before .before .before .before .before .before .before .before .before .before .before .remove-refusal .ensures) (c .before .before .before .before .before .before .before .before .before .before .before .before .before .before .before .before .before .before .before .before .if1 .left) (c .before .before .before .before .before .before .before .before .before .before .remove-held .ensures)
 

@@ -2,19 +2,13 @@ use Rattle.removal.proofs.SweepCallLaws.{sweep-start, sweep-asks, sweep
 use Rattle.scope.proofs.SoundLaws.{sound-of}
 use native.Mathlib.Omega.{arith}
 use mathlib.Core.Path.{refl}
-use Prim.Native.Nat.{_+_, _*_, _-_, _≤_}
-use mathlib.Core.Path.{_≡_}
-use lib.ListN.{length}
+use Prim.Native.Nat.{_-_, _≤_}
 use Rattle.scope.specs.Table.{tableOf}
 use Rattle.scope.specs.Outcome.{each}
 use Rattle.scope.specs.Remove.{sweepOne}
 use Rattle.deletion.specs.Leaving.{Leaves}
-use borrow.Author.Needs.{needs}
 use Rattle.removal.proofs.sweep_all.Statement.{statement}
 use Rattle.removal.proofs.sweep_all.Tie as tie
-use Rattle.removal.proofs.sweep_all.Reads as reads
-use Rattle.removal.proofs.sweep_all.Lts as lts
-use Rattle.removal.proofs.sweep_one.Reads as sweep-one-reads
 
 abbrev Inv-loop : tie.InvT-loop
 Inv-loop gu ug sg₀ gs₀ assignment records₀ notes₀ last p₀ s₀ sg gs records notes p s = (s ≤ last) × Leaves (each s sweepOne (tableOf (p₀ .counts) gu ug sg₀ gs₀ assignment records₀)) 0 (p .at) (tableOf (p .counts) gu ug sg gs assignment records) notes₀ notes
@@ -22,43 +16,33 @@ Inv-loop gu ug sg₀ gs₀ assignment records₀ notes₀ last p₀ s₀ sg gs r
 abbrev μ-loop : tie.MeasureT-loop
 μ-loop gu ug sg₀ gs₀ assignment records₀ notes₀ last p₀ s₀ sg gs records notes p s = last - s
 
--- src/lib.rt:299:5
 loop-holds : tie.Need-loop-holds Inv-loop μ-loop
 loop-holds c = (omega arith, sweep-start _ _)
 
--- src/lib.rt:301:9
 sweep-one-requires : tie.Need-sweep-one-requires Inv-loop μ-loop
 sweep-one-requires c κs = sweep-asks _ (c .before .before .before .before .before .before .before .before .before .before .before .before .before .before .pre .0) _ _ _ _ _ (c .before .before .before .before .before .before .loop .inv .1) _ (c .before .before .before .before .before .loop-test .taken) (c .before .before .before .before .before .before .before .before .before .before .before .before .before .before .pre .1) refl
 
--- src/lib.rt:313:9
 add-s : tie.Need-add-s Inv-loop μ-loop
 add-s c = let l = (c .before .before .before .before .before .before .before .before .before .before .before .before .before .before .loop-test .taken) in let z = sound-of _ (c .before .before .before .before .before .before .before .before .before .before .before .before .before .before .before .before .before .before .before .before .before .before .before .pre .0) .sizes in omega arith
 
--- src/lib.rt:299:5
 loop-less : tie.Need-loop-less Inv-loop μ-loop
 loop-less c = let l = (c .before .before .before .before .before .before .before .before .before .before .before .before .before .before .loop-test .taken) in omega arith
 
--- src/lib.rt:299:5
 loop-again : tie.Need-loop-again Inv-loop μ-loop
 loop-again c = (let l = (c .before .before .before .before .before .before .before .before .before .before .before .before .before .before .loop-test .taken) in omega arith, sweep-turn _ _ _ _ _ _ _ _ _ (c .before .before .before .before .before .before .before .before .before .before .before .before .before .before .before .loop .inv .1) (c .before .before .before .before .before .before .before .before .sweep-one .ensures))
 
--- src/lib.rt:281:1
 same-length : tie.Need-same-length Inv-loop μ-loop
 same-length c = sweep-sizes _ (c .before .before .before .before .before .before .before .before .before .pre .0) _ _ _ _ _ (c .before .loop .inv .1) .solvers
 
--- src/lib.rt:281:1
 same-length-2 : tie.Need-same-length-2 Inv-loop μ-loop
 same-length-2 c = sweep-sizes _ (c .before .before .before .before .before .before .before .before .before .pre .0) _ _ _ _ _ (c .before .loop .inv .1) .holders
 
--- src/lib.rt:281:1
 same-length-3 : tie.Need-same-length-3 Inv-loop μ-loop
 same-length-3 c = sweep-sizes _ (c .before .before .before .before .before .before .before .before .before .pre .0) _ _ _ _ _ (c .before .loop .inv .1) .records
 
--- src/lib.rt:281:1
 same-length-4 : tie.Need-same-length-4 Inv-loop μ-loop
 same-length-4 c = sweep-sizes _ (c .before .before .before .before .before .before .before .before .before .pre .0) _ _ _ _ _ (c .before .loop .inv .1) .notes
 
--- src/lib.rt:281:1
 returns : tie.Need-returns Inv-loop μ-loop
 returns c = sweep-end _ _ _ _ _ _ (let a = (c .before .loop .inv .0) in let b = (c .loop-test .left) in omega arith) (c .before .loop .inv .1)
 

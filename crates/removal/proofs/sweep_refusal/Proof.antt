@@ -4,36 +4,25 @@ use mathlib.Core.Path.{sym, _∙_}
 use borrow.Author.Needs.{needs}
 use Rattle.removal.proofs.sweep_refusal.Statement.{statement}
 use Rattle.removal.proofs.sweep_refusal.Tie as tie
-use Rattle.removal.proofs.sweep_refusal.Reads as reads
-use Rattle.removal.proofs.sweep_refusal.Lts as lts
-use Rattle.removal.proofs.count_notes.Reads as count-notes-reads
-use Rattle.table.proofs.is_sound.Reads as is-sound-reads
 
--- src/lib.rt:228:9
 is-sound-requires : tie.Need-is-sound-requires
 is-sound-requires c κs = search needs
 
--- src/lib.rt:229:9
 returns : tie.Need-returns
 returns c = sweep-1 _ _ (sym (c .before .is-sound .ensures) ∙ not-true _ (c .if1 .taken))
 
--- src/lib.rt:231:13
 count-notes-requires : tie.Need-count-notes-requires
 count-notes-requires c κs = (sym (c .before .is-sound .ensures) ∙ not-false _ (c .if1 .left))
 
--- src/lib.rt:231:13
 cast-n : tie.Need-cast-n
 cast-n c = search needs
 
--- src/lib.rt:232:15
 mul-if2 : tie.Need-mul-if2
 mul-if2 c = search needs
 
--- src/lib.rt:233:9
 returns-2 : tie.Need-returns-2
 returns-2 c = sweep-2 _ _ (sym (c .before .before .before .is-sound .ensures) ∙ not-false _ (c .before .before .if1 .left)) _ (c .before .count-notes .ensures) (c .if2 .taken)
 
--- src/lib.rt:216:1
 returns-3 : tie.Need-returns-3
 returns-3 c = sweep-0 _ _ (sym (c .before .before .before .is-sound .ensures) ∙ not-false _ (c .before .before .if1 .left)) _ (c .before .count-notes .ensures) (c .if2 .left)
 

@@ -1,0 +1,4 @@
+pub mod CountLaws
+pub mod PlaceLaws
+pub mod AllLaws
+pub mod CallLaws

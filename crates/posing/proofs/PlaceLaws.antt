@@ -1,0 +1,91 @@
+-- Laws of one user: mapped, then granted.
+use Prim.Native.Nat.{ℕ, zero, suc, _+_, _-_, _*_, _≤_, _<_}
+use mathlib.Core.Path.{_≡_, refl, sym, ap, _∙_, subst}
+use mathlib.Core.Bool.{Bool, true, false}
+use mathlib.Core.List.{List, [], _∷_, _++_}
+use native.Mathlib.Omega.{arith}
+use lib.Dec.{eqb}
+use lib.ListN.{length, getD, length-append}
+use Rattle.scope.specs.Table.{Table, recordOf}
+use Rattle.scope.specs.Sound.{Sound, soundb}
+use Rattle.scope.specs.Outcome.{Result, _then_}
+use Rattle.scope.specs.Map.{mapUser, undeleted, toMap}
+use Rattle.scope.specs.Grant.{grant}
+use Rattle.scope.proofs.SoundLaws.{sound-of, sound-to}
+use Rattle.scope.proofs.MapLaws.{MapRoom, Mapped, map-user-mapped, mapped-global}
+use Rattle.scope.proofs.GrantLaws.{grant-granted}
+use Rattle.inner.specs.Cursor.{Passed}
+use Rattle.inner.specs.Leaves.{Leaves}
+use Rattle.inner.proofs.LeavesLaws.{leaves-then, leaves-length}
+use Rattle.granting.specs.Grants.{GrantAsks}
+use Rattle.naming.specs.Maps.{free, MapAsks}
+use Rattle.posing.specs.declared.Cursors.{Cursors}
+use Rattle.posing.specs.Poses.{Ahead, placed, PlaceAsks}
+
+map-room : (t : Table) (u at room : ℕ) → PlaceAsks t u at room → MapRoom t u
+map-room t u at room h = record { sound = sound-of t (h .sound); within = h .within; room = h .enough }
+
+-- the notes of both
+both : (t : Table) (u : ℕ) → length (placed u t .notes) ≡ length (mapUser u t .notes) + length (grant (mapUser u t .value) (mapUser u t .table) .notes)
+both t u = length-append (mapUser u t .notes) (grant (mapUser u t .value) (mapUser u t .table) .notes)
+
+pub map-asks : (t : Table) (u at room : ℕ) → PlaceAsks t u at room → MapAsks t u at room
+map-asks t u at room h =
+    let n = map-user-mapped t u (map-room t u at room h) .count in
+    let e = both t u in
+    let w = h .words in
+    record { sound = h .sound; within = h .within; enough = h .enough; words = omega arith }
+
+pub grant-asks : (t : Table) (u at g at1 : ℕ) (t1 : Table) (words words1 : List ℕ) → PlaceAsks t u at (length words)
+    → Leaves (mapUser u t) at g at1 t1 words words1 → GrantAsks t1 g at1 (length words1)
+grant-asks t u at g at1 t1 words words1 h m =
+    let x = map-user-mapped t u (map-room t u at _ h) in
+    let k = mapped-global (mapUser u t .table) u (mapUser u t .value) (x .sound) (x .has) in
+    let e = both t u in
+    let w = h .words in
+    let q = m .moved in
+    let n = leaves-length _ _ _ _ _ _ _ m in
+    subst (λ (s : Table). GrantAsks s g at1 (length words1)) (sym (m .table))
+    (subst (λ (j : ℕ). GrantAsks (mapUser u t .table) j at1 (length words1)) (sym (m .value))
+    (record { sound = sound-to _ (x .sound); below = k .1; alive = k .0; words = omega arith }))
+
+pub placed-leaves : (t : Table) (u at g at1 s at2 : ℕ) (t1 t2 : Table) (words words1 words2 : List ℕ)
+    → Leaves (mapUser u t) at g at1 t1 words words1
+    → Leaves (grant g t1) at1 s at2 t2 words1 words2
+    → Leaves (placed u t) at s at2 t2 words words2
+placed-leaves t u at g at1 s at2 t1 t2 words words1 words2 a b = leaves-then (mapUser u t) grant at g at1 s at2 t1 t2 words words1 words2 a b
+
+-- a mapping leaves the solver indices alone
+pub solver-ahead : (t : Table) (u at g at1 from : ℕ) (t1 : Table) (words words1 : List ℕ) → PlaceAsks t u at (length words)
+    → Leaves (mapUser u t) at g at1 t1 words words1
+    → Passed (λ i. eqb (getD (t .globalFromSolver) i 0) 0) (t .counts .solver) from
+    → Passed (λ i. eqb (getD (t1 .globalFromSolver) i 0) 0) (t1 .counts .solver) from
+solver-ahead t u at g at1 from t1 words words1 h m p =
+    let x = map-user-mapped t u (map-room t u at _ h) .same in
+    let a : t1 .globalFromSolver ≡ t .globalFromSolver = ap (λ (s : Table). s .globalFromSolver) (m .table) ∙ x .globalFromSolver in
+    let b : t1 .counts .solver ≡ t .counts .solver = ap (λ (s : Table). s .counts .solver) (m .table) ∙ x .solver in
+    subst (λ (l : List ℕ). Passed (λ i. eqb (getD l i 0) 0) (t1 .counts .solver) from) (sym a)
+    (subst (λ (n : ℕ). Passed (λ i. eqb (getD (t .globalFromSolver) i 0) 0) n from) (sym b) p)
+
+-- and a grant the globals
+pub global-ahead : (g at1 s at2 from after : ℕ) (t1 t2 : Table) (words1 words2 : List ℕ)
+    → GrantAsks t1 g at1 (length words1)
+    → Leaves (grant g t1) at1 s at2 t2 words1 words2
+    → Passed (free (t1 .records)) (t1 .counts .global) from
+    → Passed (λ i. eqb (getD (t2 .globalFromSolver) i 0) 0) (t2 .counts .solver) after
+    → Ahead t2 (record { solver = after; global = from })
+global-ahead g at1 s at2 from after t1 t2 words1 words2 h m p q =
+    let x = grant-granted t1 g (sound-of t1 (h .sound)) (h .alive) .same in
+    let a : t2 .records ≡ t1 .records = ap (λ (s : Table). s .records) (m .table) ∙ x .records in
+    let b : t2 .counts .global ≡ t1 .counts .global = ap (λ (s : Table). s .counts .global) (m .table) ∙ x .global in
+    record { solver = q; global = rw (a, b) p }
+
+-- the solver index is one of the capacity
+pub placed-small : (t : Table) (u : ℕ) → MapRoom t u → placed u t .value < t .counts .capacity
+placed-small t u r =
+    let x = map-user-mapped t u r in
+    let k = mapped-global (mapUser u t .table) u (mapUser u t .value) (x .sound) (x .has) in
+    let y = grant-granted (mapUser u t .table) (mapUser u t .value) (x .sound) (k .0) .below in
+    let z = x .sound .sizes in
+    let c = x .same .capacity in
+    omega arith
