@@ -1,28 +1,26 @@
 -- Laws of Grant.
-use Prim.Native.Nat.{ℕ, zero, suc, _+_, _-_, _*_, _/_, _%_, _^_, _≤_, _<_, max}
-use mathlib.Core.Path.{_≡_, refl, sym, ap, _∙_, subst}
-use mathlib.Core.Bool.{Bool, true, false, _&&_, not}
+use Prim.Native.Nat.{ℕ, zero, suc, _+_, _-_, _*_, _/_, _^_, _≤_, _<_, max}
+use mathlib.Core.Path.{_≡_, refl, sym, ap, _∙_}
+use mathlib.Core.Bool.{true, false, _&&_, not}
 use mathlib.Core.List.{List, [], _∷_}
-use mathlib.Core.Logic.{⊎-elim}
 use native.Mathlib.Omega.{arith}
 use lib.Dec.{eqb, ltb, leb}
 use lib.ListN.{length, getD, set}
-use lib.Seq.{sets, getD-set-same, getD-set-other}
-use borrow.Author.Tests.{lt-ltb, le-ltb, le-leb, lt-leb, ne-eqb, leb-false, ltb-false, not-false}
-use Rattle.base.specs.Answer.{Answer, accepted, refused, numberOf, valuesOf}
-use Rattle.base.proofs.Truth.{same}
+use lib.Seq.{sets, getD-set-other}
+use borrow.Author.Tests.{le-ltb, le-leb, lt-leb, ne-eqb, leb-false, ltb-false, not-false}
+use Rattle.base.specs.Answer.{numberOf, valuesOf}
 use Rattle.base.proofs.MemberLaws.{getD-default}
 use Rattle.scope.specs.declared.Counts.{Counts}
 use Rattle.scope.specs.declared.Solver.{Solver}
 use Rattle.scope.specs.Table.{Table, tableOf, word, unitOf, recordOf, isDeleted, coverSolver, giveSolver}
 use Rattle.scope.specs.Sound.{Sound, soundb}
 use Rattle.scope.specs.Notes.{notesWords}
-use Rattle.scope.specs.Outcome.{Result, stay, short, noting}
+use Rattle.scope.specs.Outcome.{short}
 use Rattle.scope.specs.Map.{leastFree}
 use Rattle.scope.specs.Grant.{nextSolver, grantOne, grant, grantRefusal, grantOf}
 use Rattle.scope.specs.Contract.{Said, Does}
 use Rattle.scope.proofs.SoundLaws.{sound-of}
-use Rattle.scope.proofs.PairLaws.{free-below, free-most}
+use Rattle.scope.proofs.GrantLaws.{next-solver-below, grant-free, grant-has, toGrant, grant-count}
 use Rattle.inner.specs.Cursor.{Passed}
 use Rattle.inner.specs.Leaves.{Leaves}
 use Rattle.inner.proofs.CursorLaws.{passed-least}
@@ -30,18 +28,6 @@ use Rattle.inner.proofs.LeavesLaws.{leaves-stay, does-refused, does-noting, no-
 use Rattle.granting.specs.declared.Granted.{Granted}
 use Rattle.granting.specs.declared.Granted.the-variants.{Done, Refused}
 use Rattle.granting.specs.Grants.{GrantAsks, granted}
-
--- ---- which case it is
-
-pub grant-new : (t : Table) (g : ℕ) → getD (t .solverFromGlobal) g 0 ≡ 0 → grant g t ≡ grantOne g t
-unfolding grant word
-grant-new t g e = rw e
-
-pub grant-kept : (t : Table) (g s : ℕ) → getD (t .solverFromGlobal) g 0 ≡ s + 1 → grant g t ≡ stay s t
-unfolding grant word
-grant-kept t g s e =
-    let q : getD (t .solverFromGlobal) g 0 ≡ suc s = omega arith in
-    rw q
 
 -- ---- what a fresh grant asks
 
@@ -53,13 +39,13 @@ pub record Fresh (t : Table) (g at room : ℕ) : Type 0 where
   pub words : at + 3 ≤ room
 
 pub fresh-of : (t : Table) (g at room : ℕ) → GrantAsks t g at room → getD (t .solverFromGlobal) g 0 ≡ 0 → Fresh t g at room
-unfolding grantOne
+unfolding grantOne nextSolver
 fresh-of t g at room h e =
     let s = sound-of t (h .sound) in
     let z = s .sizes in
-    let f = free-below g (s .solver) (h .below) e in
+    let f = next-solver-below t g s (h .below) e in
     let b = h .below in
-    let w : at + 3 * 1 ≤ room = rw (grant-new t g e) at (h .words) in
+    let w : at + 3 * 1 ≤ room = rw (grant-free t g e) at (h .words) in
     record { sound = s; below = omega arith; free = omega arith; words = omega arith }
 
 abbrev pub NextAsks : Table → ℕ → ℕ → ℕ → ℕ → Type 0
@@ -102,7 +88,7 @@ next-leaves : (t : Table) (g unit at : ℕ) (solver : Solver) (c : Counts) (from
     → Leaves (grant g t) at (solver .0) next (tableOf c (t .globalFromUser) (t .userFromGlobal) sg gs a (t .records)) notes noted
 unfolding grantOne nextSolver giveSolver notesWords
 next-leaves t g unit at solver c from next sg gs a notes noted u e h =
-    rw (grant-new t g e)
+    rw (grant-free t g e)
     (record {
       value = h .0;
       table = λ i. tableOf (h .1 .0 i) (t .globalFromUser) (t .userFromGlobal) (h .1 .1 .1 .1 .0 i) (h .1 .1 .1 .1 .1 .0 i)
@@ -124,7 +110,7 @@ next-passed t g unit at solver c from next sg gs a notes noted h =
 
 -- the index held
 pub kept-leaves : (t : Table) (g at s : ℕ) (notes : List ℕ) → getD (t .solverFromGlobal) g 0 ≡ s + 1 → Leaves (grant g t) at s at t notes notes
-kept-leaves t g at s notes e = rw (grant-kept t g s e) (leaves-stay s at t notes)
+kept-leaves t g at s notes e = rw (grant-has t g s e) (leaves-stay s at t notes)
 
 pub reads-below : (t : Table) (g at room : ℕ) → GrantAsks t g at room → g < length (t .records)
 reads-below t g at room h = let z = sound-of t (h .sound) .sizes in let b = h .below in omega arith
@@ -143,12 +129,12 @@ next-done t g at room solver c from next sg gs a notes noted h e n =
 -- ---- refusals
 
 short-is : (t : Table) (g room : ℕ) → short room (grant g t .notes) ≡ eqb (getD (t .solverFromGlobal) g 0) 0 && ltb room 3
-unfolding grant word grantOne
-short-is t g room = go (getD (t .solverFromGlobal) g 0) refl
+unfolding toGrant word
+short-is t g room = ap (λ (n : ℕ). ltb room (3 * n)) (grant-count t g) ∙ go (getD (t .solverFromGlobal) g 0)
   where
-    go : (w : ℕ) → getD (t .solverFromGlobal) g 0 ≡ w → ltb room (3 * length (word (grantOne g t) (λ s. stay s t) w .notes)) ≡ eqb w 0 && ltb room 3
-    go zero e = refl
-    go (suc s) e = rw (ne-eqb (suc s) 0 (λ z. omega arith), le-ltb room 0 (omega arith))
+    go : (w : ℕ) → ltb room (3 * word 1 (λ s. 0) w) ≡ eqb w 0 && ltb room 3
+    go zero = refl
+    go (suc s) = rw (ne-eqb (suc s) 0 (λ z. omega arith), le-ltb room 0 (omega arith))
 
 module _ (t : Table) (g room : ℕ) where
   pub refuse-1 : soundb t ≡ false → 1 ≡ grantRefusal t g room
@@ -199,10 +185,10 @@ asks-of t g n room q e =
     }
 
 notes-few : (t : Table) (g : ℕ) → length (grant g t .notes) ≤ 1
-unfolding grant word grantOne
-notes-few t g = go (getD (t .solverFromGlobal) g 0)
+unfolding toGrant word
+notes-few t g = let e = grant-count t g in let x = go (getD (t .solverFromGlobal) g 0) in omega arith
   where
-    go : (w : ℕ) → length (word (grantOne g t) (λ s. stay s t) w .notes) ≤ 1
+    go : (w : ℕ) → word {A = ℕ} 1 (λ s. 0) w ≤ 1
     go zero = omega arith
     go (suc s) = omega arith
 

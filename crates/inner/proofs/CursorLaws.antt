@@ -1,17 +1,18 @@
 -- Laws of the cursor.
-use Prim.Native.Nat.{ℕ, _+_, _≤_, _<_, max}
-use mathlib.Core.Path.{_≡_, refl, sym, ap, _∙_, subst}
+use Prim.Native.Nat.{ℕ, _+_, _≤_, _<_}
+use mathlib.Core.Path.{_≡_, sym}
 use mathlib.Core.Bool.{Bool, true, false}
 use mathlib.Core.List.{List}
 use mathlib.Core.Logic.{⊎-elim}
 use native.Mathlib.Omega.{arith}
-use lib.Dec.{eqb, leb}
-use lib.ListN.{length, getD}
-use borrow.Author.Tests.{eq-eqb, ne-eqb, le-leb, lt-leb}
+use lib.Dec.{eqb}
+use lib.ListN.{getD}
+use borrow.Author.Tests.{eq-eqb}
 use Rattle.base.specs.Bounded.{least}
 use Rattle.base.proofs.LeastLaws.{least-is, least-has}
 use Rattle.scope.specs.Map.{leastFree}
 use Rattle.inner.specs.Cursor.{Passed}
+use Rattle.base.proofs.Truth.{same}
 
 -- a search starts at 0
 pub passed-none : (free : ℕ → Bool) (mark : ℕ) → Passed free mark 0
@@ -25,7 +26,7 @@ passed-more free mark from l h n =
       below = λ k m. ⊎-elim
           (λ (e : k ≡ from). rw e n)
           (λ (e : k ≡ from → ⊥). h .below k (omega arith))
-          (Rattle.base.proofs.Truth.same k from);
+          (same k from);
     }
 
 -- up to what is free, or to the mark

@@ -1,5 +1,5 @@
 -- Laws of what a step leaves, and of a call that is refused or accepted.
-use Prim.Native.Nat.{ℕ, zero, suc, _+_, _*_, _/_, _≤_, _<_}
+use Prim.Native.Nat.{ℕ, zero, suc, _+_, _*_, _/_}
 use mathlib.Core.Path.{_≡_, refl, sym, ap, _∙_, subst}
 use mathlib.Core.Bool.{Bool, true, false}
 use mathlib.Core.List.{List, [], _∷_, _++_, append-assoc}
@@ -8,7 +8,6 @@ use lib.ListN.{length, length-append}
 use lib.Seq.{sets, length-sets}
 use Rattle.base.specs.Answer.{accepted, refused}
 use Rattle.base.proofs.SetsLaws.{sets-append}
-use Rattle.scope.specs.declared.Counts.{Counts}
 use Rattle.scope.specs.Table.{Table}
 use Rattle.scope.specs.Notes.{Note, noteWords, notesWords}
 use Rattle.scope.specs.Outcome.{Result, stay, _then_, giving, joined, Outcome, orElse, unless, noting}

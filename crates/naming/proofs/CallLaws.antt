@@ -2,26 +2,24 @@
 use Prim.Native.Nat.{ℕ, zero, suc, _+_, _-_, _*_, _/_, _^_, _≤_, _<_}
 use mathlib.Core.Path.{_≡_, refl, sym, ap, _∙_, subst}
 use mathlib.Core.Bool.{Bool, true, false, _&&_, not}
-use mathlib.Core.List.{List, [], _∷_, _++_}
-use mathlib.Core.Logic.{⊎-elim}
+use mathlib.Core.List.{List, [], _∷_}
 use native.Mathlib.Omega.{arith}
-use lib.Dec.{eqb, ltb, leb}
+use lib.Dec.{ltb, leb}
 use lib.ListN.{length, getD}
 use borrow.Author.Tests.{lt-ltb, le-ltb, le-leb, lt-leb, leb-false, ltb-false, not-false}
-use Rattle.base.specs.Answer.{Answer, accepted, refused, numberOf, valuesOf}
+use Rattle.base.specs.Answer.{accepted, numberOf, valuesOf}
 use Rattle.base.specs.Bounded.{count}
-use Rattle.base.proofs.Truth.{same}
 use Rattle.base.proofs.CountLaws.{count-most}
 use Rattle.scope.specs.declared.Counts.{Counts}
 use Rattle.scope.specs.declared.Global.{Global}
 use Rattle.scope.specs.declared.User.{User}
 use Rattle.scope.specs.Table.{Table, word}
-use Rattle.scope.specs.Sound.{Sizes, Sound, soundb}
-use Rattle.scope.specs.Outcome.{Result, giving, short, noting}
+use Rattle.scope.specs.Sound.{Sizes, soundb}
+use Rattle.scope.specs.Outcome.{giving, short}
 use Rattle.scope.specs.Map.{leastFree, mapUser, nextUser, newUser, undeleted, toMap, unsampled, mapRefusal, mapOf, newUserRefusal, newUserOf}
 use Rattle.scope.specs.Contract.{Said, Does}
 use Rattle.scope.proofs.SoundLaws.{sound-of}
-use Rattle.scope.proofs.MapLaws.{map-user-count, mapped-global, next-user-to-map, next-user-within, to-map-free, to-map-has}
+use Rattle.scope.proofs.MapLaws.{map-user-count, mapped-global, next-user-to-map, next-user-within}
 use Rattle.inner.specs.Leaves.{Leaves}
 use Rattle.inner.proofs.LeavesLaws.{leaves-giving, does-refused, does-noting, no-refusal}
 use Rattle.naming.specs.declared.UserMapped.{UserMapped}

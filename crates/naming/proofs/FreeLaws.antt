@@ -1,21 +1,19 @@
 -- Laws of the global taken for a user, and of its cursor.
-use Prim.Native.Nat.{ℕ, zero, suc, _+_, _-_, _*_, _≤_, _<_, max}
-use mathlib.Core.Path.{_≡_, refl, sym, ap, _∙_, subst}
-use mathlib.Core.Bool.{Bool, true, false, _||_, not}
-use mathlib.Core.List.{List, [], _∷_}
+use Prim.Native.Nat.{ℕ, _+_, _-_, _≤_, _<_}
+use mathlib.Core.Path.{_≡_, sym, ap, _∙_}
+use mathlib.Core.Bool.{true, false, _||_, not}
+use mathlib.Core.List.{List}
 use mathlib.Core.Logic.{⊎-elim}
 use native.Mathlib.Omega.{arith}
 use lib.Dec.{eqb, ltb, leb}
 use lib.ListN.{length, getD, set}
 use lib.Seq.{getD-set-same, getD-set-other}
 use borrow.Author.Tests.{lt-ltb, le-ltb, le-leb, lt-leb}
-use Rattle.base.specs.Choice.{pick}
 use Rattle.base.specs.Bounded.{least, count}
 use Rattle.base.proofs.Truth.{same}
 use Rattle.base.proofs.CountLaws.{count-up, count-stay}
 use Rattle.base.proofs.MemberLaws.{getD-default}
-use Rattle.scope.specs.declared.Counts.{Counts}
-use Rattle.scope.specs.Table.{word, modeOf, coverUser}
+use Rattle.scope.specs.Table.{modeOf}
 use Rattle.scope.proofs.ResultLaws.{word-none, word-some}
 use Rattle.inner.specs.Cursor.{Passed}
 use Rattle.inner.proofs.CursorLaws.{passed-more, passed-found, passed-end, passed-least, passed-kept}

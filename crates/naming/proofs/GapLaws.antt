@@ -1,7 +1,7 @@
 -- Laws of the inner mapping: the gap below a user is filled by the function itself, and the user is mapped after it.
-use Prim.Native.Nat.{ℕ, zero, suc, _+_, _-_, _*_, _≤_, _<_, max}
+use Prim.Native.Nat.{ℕ, _+_, _-_, _≤_, _<_, max}
 use mathlib.Core.Path.{_≡_, refl, sym, ap, _∙_, subst}
-use mathlib.Core.Bool.{Bool, true, false}
+use mathlib.Core.Bool.{true}
 use mathlib.Core.List.{List, [], _∷_, _++_}
 use mathlib.Core.Logic.{⊎-elim}
 use native.Mathlib.Omega.{arith}
@@ -11,13 +11,13 @@ use Rattle.base.proofs.Truth.{split}
 use Rattle.scope.specs.declared.Counts.{Counts}
 use Rattle.scope.specs.declared.Global.{Global}
 use Rattle.scope.specs.Table.{Table, tableOf, coverUser, giveUser}
-use Rattle.scope.specs.Sound.{Sound, soundb}
+use Rattle.scope.specs.Sound.{soundb}
 use Rattle.scope.specs.Notes.{notesWords}
-use Rattle.scope.specs.Outcome.{Result, stay, _then_, giving, joined, each}
-use Rattle.scope.specs.Map.{globalFor, mapOne, fillGap, mapUser, undeleted, toMap}
+use Rattle.scope.specs.Outcome.{Result, stay, _then_, each}
+use Rattle.scope.specs.Map.{globalFor, mapOne, fillGap, mapUser}
 use Rattle.scope.proofs.SoundLaws.{sound-of, sound-to}
 use Rattle.scope.proofs.ResultLaws.{each-suc}
-use Rattle.scope.proofs.MapLaws.{Fresh, Mappable, map-one-fresh, gapStep, Filled, GapRoom, fill-gap-filled, to-map-free, map-user-free, map-user-has, MapRoom, map-last-mappable}
+use Rattle.scope.proofs.MapLaws.{Mappable, map-one-fresh, gapStep, Filled, GapRoom, fill-gap-filled, to-map-free, map-user-free, map-user-has, fill-gap-count}
 use Rattle.inner.specs.Cursor.{Passed}
 use Rattle.inner.specs.Leaves.{Leaves}
 use Rattle.inner.proofs.CursorLaws.{passed-none}
@@ -80,9 +80,6 @@ gap-sizes t u at i next s words words' h g =
 
 -- ---- one turn: the user i is at the watermark of s
 
-fill-count : (n : ℕ) (t : Table) → length (fillGap n t .notes) ≡ n
-fill-count n t = Rattle.scope.proofs.MapLaws.fill-gap-count n t
-
 pub gap-asks : (t : Table) (u at i next : ℕ) (s : Table) (words words' : List ℕ) → MapAsks t u at (length words) → Gap t u at i next s words words' → i < u
     → MapAsks s i next (length words')
 gap-asks t u at i next s words words' h g l =
@@ -94,7 +91,7 @@ gap-asks t u at i next s words words' h g l =
     let e = to-map-free t u (unmapped t u (h .sound) (omega arith)) in
     let q = to-map-free s i (f .sound .user .atail i (omega arith)) in
     let m = g .done .moved in
-    let c = fill-count (i - t .counts .user) t in
+    let c = fill-gap-count (i - t .counts .user) t in
     let n = leaves-length _ _ _ _ _ _ _ (g .done) in
     let w = h .words in
     let r = h .enough in
@@ -233,7 +230,7 @@ module _ (t : Table) (u at i next : ℕ) (s : Table) (words words' : List ℕ) (
       let n = leaves-length _ _ _ _ _ _ _ (p .done) in
       let v = h .words in
       let q = p .done .moved in
-      let c = fill-count (i - t .counts .user) t in
+      let c = fill-gap-count (i - t .counts .user) t in
       let d = gap-end t u at i next s words words' p l in
       let x = to-map-free t u (gap-new t u at i next s words words' h p e) in
       (omega arith, (k, (omega arith, (omega arith, (omega arith, (omega arith, (omega arith, (omega arith, omega arith))))))))

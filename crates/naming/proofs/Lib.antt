@@ -1,4 +1,3 @@
-pub mod FoundLaws
 pub mod FreeLaws
 pub mod GapLaws
 pub mod CallLaws

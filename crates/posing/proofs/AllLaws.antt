@@ -1,7 +1,6 @@
 -- Laws of the loop over the literals.
-use Prim.Native.Nat.{ℕ, zero, suc, _+_, _-_, _*_, _/_, _%_, _≤_, _<_}
+use Prim.Native.Nat.{ℕ, zero, suc, _+_, _-_, _≤_, _<_}
 use mathlib.Core.Path.{_≡_, refl, sym, ap, _∙_, subst}
-use mathlib.Core.Bool.{Bool, true, false}
 use mathlib.Core.List.{List, [], _∷_, _++_}
 use mathlib.Core.Logic.{⊎-elim}
 use native.Mathlib.Nat.{eq-or-lt-of-le}
@@ -11,16 +10,15 @@ use lib.Seq.{sets, length-sets}
 use Rattle.base.proofs.SetsLaws.{sets-append}
 use Rattle.scope.specs.Literals.{codeOf, indexOf, signOf}
 use Rattle.scope.specs.Table.{Table}
-use Rattle.scope.specs.Sound.{soundb}
-use Rattle.scope.specs.Outcome.{Result, giving, each}
-use Rattle.scope.specs.Pose.{poseOne, pose, usersToMap}
+use Rattle.scope.specs.Outcome.{Result, each}
+use Rattle.scope.specs.Pose.{poseOne, pose}
 use Rattle.scope.proofs.SoundLaws.{sound-of, sound-to}
 use Rattle.scope.proofs.ResultLaws.{each-suc}
-use Rattle.scope.proofs.PoseLaws.{PoseRoom, poseStep, pose-room, pose-posed, pose-part-words}
+use Rattle.scope.proofs.PoseLaws.{PoseRoom, poseStep, pose-room, pose-posed, pose-part-words, Posed}
 use Rattle.inner.specs.Leaves.{Leaves}
 use Rattle.inner.proofs.CursorLaws.{passed-none}
 use Rattle.inner.proofs.LeavesLaws.{leaves-stay, leaves-giving, leaves-joined, leaves-length}
-use Rattle.posing.specs.Poses.{Within, Ahead, placed, PlaceAsks, PoseAsks}
+use Rattle.posing.specs.Poses.{Ahead, placed, PlaceAsks, PoseAsks}
 use Rattle.posing.proofs.PlaceLaws.{placed-small}
 
 -- The first i literals are done.
@@ -132,7 +130,7 @@ pub same-sizes : (t : Table) (lits : List ℕ) (outs i at : ℕ) (s : Table) (wo
     → Done t lits i at s words words' out out' → SameSizes t s words words' out out'
 same-sizes t lits outs i at s words words' out out' h d =
     let p = room-of t lits outs _ h in
-    let o = subst (λ (x : Table). Rattle.scope.proofs.PoseLaws.Posed t lits i x) (sym (d .step .table)) (pose-posed t lits p i (d .most)) in
+    let o = subst (λ (x : Table). Posed t lits i x) (sym (d .step .table)) (pose-posed t lits p i (d .most)) in
     let a = sound-of t (h .sound) .sizes in
     let b = o .sound .sizes in
     let c = o .capacity in

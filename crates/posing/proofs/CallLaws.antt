@@ -1,8 +1,8 @@
 -- Laws of the call Pose: the one-pass count is the definition's, refusals, and what an accepted call does.
-use Prim.Native.Nat.{ℕ, zero, suc, _+_, _-_, _*_, _/_, _^_, _≤_, _<_, max, min}
-use mathlib.Core.Path.{_≡_, refl, sym, ap, _∙_, subst}
+use Prim.Native.Nat.{ℕ, zero, suc, _+_, _-_, _*_, _/_, _^_, _≤_, _<_}
+use mathlib.Core.Path.{_≡_, refl, sym, ap, _∙_}
 use mathlib.Core.Bool.{Bool, true, false, _&&_, _||_, not, true≢false}
-use mathlib.Core.List.{List, [], _∷_, _++_}
+use mathlib.Core.List.{List, [], _∷_}
 use mathlib.Core.Logic.{⊎-elim}
 use native.Mathlib.Nat.{eq-or-lt-of-le}
 use native.Mathlib.Omega.{arith}
@@ -10,33 +10,31 @@ use lib.Dec.{eqb, ltb, leb}
 use lib.ListN.{length, getD}
 use lib.Seq.{sets}
 use borrow.Author.Tests.{lt-ltb, le-ltb, le-leb, lt-leb, leb-false, ltb-false, eqb-false, ne-eqb, eq-eqb, not-false}
-use Rattle.base.specs.Answer.{Answer, accepted, refused, numberOf, valuesOf}
-use Rattle.base.specs.Choice.{pick}
+use Rattle.base.specs.Answer.{accepted, refused, numberOf, valuesOf}
 use Rattle.base.specs.Bounded.{count, anyOf}
 use Rattle.base.proofs.Truth.{split}
-use Rattle.base.proofs.CountLaws.{count-same}
-use Rattle.base.proofs.MemberLaws.{any-none, any-intro, or-left, or-right, or-neither, or-first, or-second}
+use Rattle.base.proofs.MemberLaws.{any-none, any-intro, or-left, or-right, or-neither}
 use Rattle.scope.specs.declared.Counts.{Counts}
 use Rattle.scope.specs.Literals.{indexOf}
 use Rattle.scope.specs.Table.{Table, word}
-use Rattle.scope.specs.Sound.{Sizes, Sound, soundb}
-use Rattle.scope.specs.Notes.{notesWords}
-use Rattle.scope.specs.Outcome.{Result, Outcome, short, unless}
+use Rattle.scope.specs.Sound.{Sizes, soundb}
+use Rattle.scope.specs.Outcome.{Outcome, short, unless}
 use Rattle.scope.specs.Map.{undeleted, unsampled}
 use Rattle.scope.specs.Pose.{pose, wanted, usersToMap, poseRefusal, poseOf}
 use Rattle.scope.specs.Contract.{Said, Does}
 use Rattle.scope.proofs.SoundLaws.{sound-of}
 use Rattle.scope.proofs.MapLaws.{isUngranted}
-use Rattle.scope.proofs.PoseLaws.{isNamed, isPassed, usersToGrant, PoseRoom, pose-room-of, pose-count}
-use Rattle.scope.proofs.WantedLaws.{count-either, count-range, count-never}
+use Rattle.scope.proofs.PoseLaws.{isNamed, isPassed, usersToGrant, pose-room-of, pose-count}
+use Rattle.scope.proofs.WantedLaws.{count-either, count-range}
 use Rattle.inner.specs.Leaves.{Leaves}
-use Rattle.inner.proofs.LeavesLaws.{does-refused, does-accepted, no-refusal}
+use Rattle.inner.proofs.LeavesLaws.{does-refused, no-refusal}
 use Rattle.naming.specs.Maps.{alive, isUnsampled}
 use Rattle.naming.proofs.CallLaws.{undeleted-is, used-small}
 use Rattle.posing.specs.declared.PosedLits.{PosedLits}
 use Rattle.posing.specs.declared.PosedLits.the-variants.{Done, Refused}
 use Rattle.posing.specs.Poses.{named, isLow, needsGrant, countNamed, Covers, Within, PoseAsks, posed}
 use Rattle.posing.proofs.CountLaws.{named-most}
+use Rattle.base.proofs.CountLaws.{count-most}
 
 -- ---- the count of users
 
@@ -268,7 +266,7 @@ asks-of t lits sampling n outs room q e =
 
 grants-most : (t : Table) (lits : List ℕ) → usersToGrant t lits ≤ t .counts .capacity
 unfolding usersToGrant
-grants-most t lits = Rattle.base.proofs.CountLaws.count-most (t .counts .capacity) _
+grants-most t lits = count-most (t .counts .capacity) _
 
 -- the count of notes fits a word
 pub count-small : (t : Table) (lits : List ℕ) (outs room at : ℕ) (v : List ℕ) (left : Table) (words words' : List ℕ) → PoseAsks t lits outs room → Leaves (pose lits t) 0 v at left words words' → at / 3 < 2 ^ 32

@@ -1,23 +1,22 @@
 -- Laws of the counting pass: after i literals the users seen are those named, and each was counted once.
-use Prim.Native.Nat.{ℕ, zero, suc, _+_, _-_, _*_, _/_, _^_, _≤_, _<_, max, min}
-use mathlib.Core.Path.{_≡_, refl, sym, ap, _∙_, subst}
+use Prim.Native.Nat.{ℕ, zero, suc, _+_, _-_, _^_, _≤_, _<_, max}
+use mathlib.Core.Path.{_≡_, refl, sym, ap, _∙_}
 use mathlib.Core.Bool.{Bool, true, false, _&&_, _||_, not, true≢false}
-use mathlib.Core.List.{List, [], _∷_, _++_}
+use mathlib.Core.List.{List, [], _∷_}
 use mathlib.Core.Logic.{⊎-elim}
 use native.Mathlib.Numerals.{add-one}
 use native.Mathlib.Omega.{arith}
-use lib.Dec.{eqb, ltb, leb}
+use lib.Dec.{eqb, ltb}
 use lib.ListN.{length, getD, set, take, replicate}
 use lib.Seq.{take-suc, take-all, getD-set-same, getD-set-other}
 use mir.Val.{boolByte}
 use borrow.Author.Tests.{eq-eqb, ne-eqb}
 use Rattle.base.specs.Choice.{pick}
-use Rattle.base.specs.Bounded.{count, anyOf}
+use Rattle.base.specs.Bounded.{anyOf}
 use Rattle.base.proofs.Truth.{same}
-use Rattle.base.proofs.CountLaws.{count-most, count-same, count-no}
+use Rattle.base.proofs.CountLaws.{count-most}
 use Rattle.base.proofs.MemberLaws.{any-append, any-start}
 use Rattle.scope.specs.Literals.{indexOf}
-use Rattle.scope.specs.Table.{word}
 use Rattle.scope.proofs.ResultLaws.{word-none, word-some}
 use Rattle.scope.proofs.WantedLaws.{count-either, count-never, count-point}
 use Rattle.posing.specs.declared.Needs.{Needs}

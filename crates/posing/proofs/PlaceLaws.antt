@@ -1,25 +1,22 @@
 -- Laws of one user: mapped, then granted.
-use Prim.Native.Nat.{ℕ, zero, suc, _+_, _-_, _*_, _≤_, _<_}
-use mathlib.Core.Path.{_≡_, refl, sym, ap, _∙_, subst}
-use mathlib.Core.Bool.{Bool, true, false}
-use mathlib.Core.List.{List, [], _∷_, _++_}
+use Prim.Native.Nat.{ℕ, _+_, _-_, _<_}
+use mathlib.Core.Path.{_≡_, sym, ap, _∙_, subst}
+use mathlib.Core.List.{List}
 use native.Mathlib.Omega.{arith}
 use lib.Dec.{eqb}
 use lib.ListN.{length, getD, length-append}
-use Rattle.scope.specs.Table.{Table, recordOf}
-use Rattle.scope.specs.Sound.{Sound, soundb}
-use Rattle.scope.specs.Outcome.{Result, _then_}
-use Rattle.scope.specs.Map.{mapUser, undeleted, toMap}
+use Rattle.scope.specs.Table.{Table}
+use Rattle.scope.specs.Outcome.{_then_}
+use Rattle.scope.specs.Map.{mapUser}
 use Rattle.scope.specs.Grant.{grant}
 use Rattle.scope.proofs.SoundLaws.{sound-of, sound-to}
-use Rattle.scope.proofs.MapLaws.{MapRoom, Mapped, map-user-mapped, mapped-global}
+use Rattle.scope.proofs.MapLaws.{MapRoom, map-user-mapped, mapped-global}
 use Rattle.scope.proofs.GrantLaws.{grant-granted}
 use Rattle.inner.specs.Cursor.{Passed}
 use Rattle.inner.specs.Leaves.{Leaves}
 use Rattle.inner.proofs.LeavesLaws.{leaves-then, leaves-length}
 use Rattle.granting.specs.Grants.{GrantAsks}
 use Rattle.naming.specs.Maps.{free, MapAsks}
-use Rattle.posing.specs.declared.Cursors.{Cursors}
 use Rattle.posing.specs.Poses.{Ahead, placed, PlaceAsks}
 
 map-room : (t : Table) (u at room : ℕ) → PlaceAsks t u at room → MapRoom t u

@@ -5,7 +5,6 @@ use mathlib.Core.Bool.{Bool, true, _&&_}
 use mathlib.Core.List.{List, [], _∷_}
 use lib.Dec.{eqb, ltb}
 use lib.ListN.{length, getD}
-use lib.Seq.{sets}
 use Rattle.base.specs.Bounded.{count, anyOf}
 use Rattle.base.specs.Answer.{accepted, refused}
 use Rattle.scope.specs.declared.Counts.{Counts}

@@ -1,6 +1,7 @@
 pub mod KindLaws
 pub mod StoreLaws
 pub mod LiteralLaws
+pub mod ChainLaws
 pub mod StepLaws
 pub mod CallLaws
 pub mod RenameLaws

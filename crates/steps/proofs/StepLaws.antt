@@ -18,6 +18,7 @@ use Rattle.scope.specs.Write.{unmatched, outside, unheld, stepRefusal, renameRe
 use Rattle.scope.proofs.ResultLaws.{past}
 use Rattle.steps.specs.Refusals.{literalRefusal}
 use Rattle.steps.proofs.LiteralLaws.{Clear, clear}
+use Rattle.steps.proofs.ChainLaws.{first-some, first-none, first-zero}
 
 -- ---- all of a list or none
 
@@ -73,42 +74,26 @@ module _ (t : Table) (step : ProofStep) (s : Bool) (lits hashes : List ℕ) wher
   unfolding stepRefusal literalRefusal
   refuse-literals r k h e q p = rw (h, e) (p ∙ ap (literalRefusal t s) (literals-part step lits k q))
 
-  -- with other refusals after them
-  chain : Bool → Bool → Bool → Bool → ℕ → ℕ
-  chain a b c d rest = pick a 1 (pick b 14 (pick c 3 (pick d 8 rest)))
+  -- as a list
+  tests : List (Bool × ℕ)
+  tests =
+      (not (soundb t), 0)
+      ∷ (unmatched step lits hashes, 13)
+      ∷ (outside t s (literalsOf step lits), 2)
+      ∷ (unheld t s (literalsOf step lits), 7)
+      ∷ []
 
   pub refused-first : (n rest : ℕ) → n ≡ stepRefusal t step s lits hashes 0 → (n ≡ 0 → ⊥) → n ≡ stepRefusal t step s lits hashes rest
-  unfolding stepRefusal chain
-  refused-first n rest e h = go (not (soundb t)) (unmatched step lits hashes) (outside t s (literalsOf step lits)) (unheld t s (literalsOf step lits)) e
-    where
-      go : (a b c d : Bool) → n ≡ chain a b c d 0 → n ≡ chain a b c d rest
-      go true b c d q = q
-      go false true c d q = q
-      go false false true d q = q
-      go false false false true q = q
-      go false false false false q = absurd (h q)
+  unfolding stepRefusal tests
+  refused-first n rest e h = first-some tests n rest e h
 
   pub refused-later : (n rest : ℕ) → n ≡ stepRefusal t step s lits hashes 0 → n ≡ 0 → stepRefusal t step s lits hashes rest ≡ rest
-  unfolding stepRefusal chain
-  refused-later n rest e h = go (not (soundb t)) (unmatched step lits hashes) (outside t s (literalsOf step lits)) (unheld t s (literalsOf step lits)) (sym e ∙ h)
-    where
-      go : (a b c d : Bool) → chain a b c d 0 ≡ 0 → chain a b c d rest ≡ rest
-      go true b c d q = absurd (omega arith)
-      go false true c d q = absurd (omega arith)
-      go false false true d q = absurd (omega arith)
-      go false false false true q = absurd (omega arith)
-      go false false false false q = refl
+  unfolding stepRefusal tests
+  refused-later n rest e z = first-none tests n rest e z
 
   pub refused-none : (rest : ℕ) → stepRefusal t step s lits hashes rest ≡ 0 → (stepRefusal t step s lits hashes 0 ≡ 0) × (rest ≡ 0)
-  unfolding stepRefusal chain
-  refused-none rest e = go (not (soundb t)) (unmatched step lits hashes) (outside t s (literalsOf step lits)) (unheld t s (literalsOf step lits)) e
-    where
-      go : (a b c d : Bool) → chain a b c d rest ≡ 0 → (chain a b c d 0 ≡ 0) × (rest ≡ 0)
-      go true b c d q = absurd (omega arith)
-      go false true c d q = absurd (omega arith)
-      go false false true d q = absurd (omega arith)
-      go false false false true q = absurd (omega arith)
-      go false false false false q = (refl, q)
+  unfolding stepRefusal tests
+  refused-none rest e = first-zero tests rest e
 
   -- where none applies
   pub record StepClear : Type 0 where

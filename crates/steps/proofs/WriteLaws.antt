@@ -24,7 +24,7 @@ use Rattle.scope.specs.Contract.{Said}
 use Rattle.scope.specs.Write.{renameLits, holders, lacked, stepRefusal, stepBytes, writeRefusal, writeOf}
 use Rattle.steps.specs.declared.write.Recorded.{Recorded}
 use Rattle.steps.specs.declared.write.Recorded.the-variants as W
-use Rattle.steps.specs.Refusals.{laidAnswer, laidBytes}
+use Rattle.steps.specs.Refusals.{laid, laidBytes}
 use Rattle.steps.specs.Answers.{recorded}
 use Rattle.steps.proofs.UnitLaws.{encode-one, encode-none}
 use Rattle.steps.proofs.StepLaws.{literals-part, refused-first, refused-later}
@@ -56,20 +56,49 @@ lacked-by step r b e q = q ∙ ap (λ (x : KindRule). lacked (x .writes)) e
 
 -- ---- bytes with room or without
 
+pub short-laid : (bs o : List ℕ) (n : ℕ) → n ≡ length bs → length o < n → (W.Refused 2 ≡ laid bs (length o)) × (o ≡ sets o 0 (laidBytes bs (length o)))
+short-laid bs o n e l =
+    let h = lt-ltb (length o) (length bs) (omega arith) in
+    (rw h, rw h)
+
+pub whole-laid : (bs o p : List ℕ) (n : ℕ) → n ≡ length bs → n ≤ length o → p ≡ sets o 0 bs → (W.Done n ≡ laid bs (length o)) × (p ≡ sets o 0 (laidBytes bs (length o)))
+whole-laid bs o p n e l q =
+    let h = le-ltb (length o) (length bs) (omega arith) in
+    (rw h (ap W.Done e), rw h q)
+
+-- of a step whose literals are read back from a buffer
 pub laid-short : (f : Format) (step : ProofStep) (xs ys : List ℕ) (n : ℕ) (o : List ℕ) → xs ≡ ys → n ≡ length (encode f (clauseSteps step xs)) → length o < n
-    → (refused 2 [] ≡ laidAnswer (encode f (clauseSteps step ys)) (length o)) × (o ≡ sets o 0 (laidBytes (encode f (clauseSteps step ys)) (length o)))
+    → (W.Refused 2 ≡ laid (encode f (clauseSteps step ys)) (length o)) × (o ≡ sets o 0 (laidBytes (encode f (clauseSteps step ys)) (length o)))
 laid-short f step xs ys n o e q l =
-    let bs = encode f (clauseSteps step ys) in
-    let k : length o < length bs = subst (λ (m : ℕ). length o < m) (q ∙ ap (λ (zs : List ℕ). length (encode f (clauseSteps step zs))) e) l in
-    (rw (lt-ltb (length o) (length bs) k), rw (lt-ltb (length o) (length bs) k))
+    short-laid (encode f (clauseSteps step ys)) o n (q ∙ ap (λ (zs : List ℕ). length (encode f (clauseSteps step zs))) e) l
 
 pub laid-whole : (f : Format) (step : ProofStep) (xs ys : List ℕ) (n : ℕ) (o p : List ℕ) → xs ≡ ys → n ≡ length (encode f (clauseSteps step xs)) → n ≤ length o
     → p ≡ sets o 0 (encode f (clauseSteps step xs))
-    → (accepted (n ∷ []) ≡ laidAnswer (encode f (clauseSteps step ys)) (length o)) × (p ≡ sets o 0 (laidBytes (encode f (clauseSteps step ys)) (length o)))
+    → (W.Done n ≡ laid (encode f (clauseSteps step ys)) (length o)) × (p ≡ sets o 0 (laidBytes (encode f (clauseSteps step ys)) (length o)))
 laid-whole f step xs ys n o p e q l r =
-    let bs = encode f (clauseSteps step ys) in
-    let w : n ≡ length bs = q ∙ ap (λ (zs : List ℕ). length (encode f (clauseSteps step zs))) e in
-    (rw (le-ltb (length o) (length bs) (omega arith), w), rw (le-ltb (length o) (length bs) (omega arith)) (r ∙ ap (λ (zs : List ℕ). sets o 0 (encode f (clauseSteps step zs))) e))
+    whole-laid (encode f (clauseSteps step ys)) o p n (q ∙ ap (λ (zs : List ℕ). length (encode f (clauseSteps step zs))) e) l
+    (r ∙ ap (λ (zs : List ℕ). sets o 0 (encode f (clauseSteps step zs))) e)
+
+-- an answer opened
+pub laid-done : (bs : List ℕ) (room n : ℕ) (r : Recorded) → r ≡ laid bs room → r ≡ W.Done n → (ltb room (length bs) ≡ false) × (n ≡ length bs)
+laid-done bs room n r e q = go (ltb room (length bs)) refl (sym q ∙ e)
+  where
+    go : (b : Bool) → ltb room (length bs) ≡ b → W.Done n ≡ pick b (W.Refused 2) (W.Done (length bs)) → (ltb room (length bs) ≡ false) × (n ≡ length bs)
+    go true y w = (cc, cc)
+    go false y w = (y, cc)
+
+pub laid-refused : (bs : List ℕ) (room n : ℕ) (r : Recorded) → r ≡ laid bs room → r ≡ W.Refused n → ltb room (length bs) ≡ true
+laid-refused bs room n r e q = go (ltb room (length bs)) refl (sym q ∙ e)
+  where
+    go : (b : Bool) → ltb room (length bs) ≡ b → W.Refused n ≡ pick b (W.Refused 2) (W.Done (length bs)) → ltb room (length bs) ≡ true
+    go true y w = y
+    go false y w = cc
+
+pub filled-done : (bs o p : List ℕ) → ltb (length o) (length bs) ≡ false → p ≡ sets o 0 (laidBytes bs (length o)) → p ≡ sets o 0 bs
+filled-done bs o p e q = q ∙ rw e
+
+pub filled-refused : (bs o p : List ℕ) → ltb (length o) (length bs) ≡ true → p ≡ sets o 0 (laidBytes bs (length o)) → p ≡ o
+filled-refused bs o p e q = q ∙ rw e
 
 -- ---- the call
 
@@ -107,7 +136,7 @@ module _ (f : Format) (t : Table) (step : ProofStep) (s : Bool) (lits hashes d :
 
   pub write-judged : (n k : ℕ) (r : Recorded) (x : List ℕ) → n ≡ stepRefusal t step s lits hashes 0 → n ≡ 0 → lacked (ruleOf step .writes) ≡ false
       → k ≡ pick (ruleOf step .renamed) (length lits) 0
-      → recorded r (t .counts) .answer ≡ laidAnswer (encode f (clauseSteps step (renameLits (holders t) s (take k lits)))) (length d)
+      → r ≡ laid (encode f (clauseSteps step (renameLits (holders t) s (take k lits)))) (length d)
       → x ≡ sets d 0 (laidBytes (encode f (clauseSteps step (renameLits (holders t) s (take k lits)))) (length d))
       → Told outcome (recorded r (t .counts))
       (tableOf (recorded r (t .counts) .counts) (t .globalFromUser) (t .userFromGlobal) (t .solverFromGlobal) (t .globalFromSolver) (t .assignment) (t .records))
@@ -115,15 +144,15 @@ module _ (f : Format) (t : Table) (step : ProofStep) (s : Bool) (lits hashes d :
   unfolding writeOf writeRefusal stepBytes
   write-judged n k r x e z h q p u =
       go (ltb (length d) (length bytes)) refl
-      (p ∙ ap (λ (ls : List ℕ). laidAnswer (encode f (clauseSteps step (renameLits (holders t) s ls))) (length d)) (literals-part step lits k q))
+      (p ∙ ap (λ (ls : List ℕ). laid (encode f (clauseSteps step (renameLits (holders t) s ls))) (length d)) (literals-part step lits k q))
       (u ∙ ap (λ (ls : List ℕ). sets d 0 (laidBytes (encode f (clauseSteps step (renameLits (holders t) s ls))) (length d))) (literals-part step lits k q))
     where
       after : (b : Bool) → ltb (length d) (length bytes) ≡ b → refusing ≡ pick b 2 0
       after b y = refused-later t step s lits hashes n _ e z ∙ rw (h, y)
 
-      go : (b : Bool) → ltb (length d) (length bytes) ≡ b → recorded r (t .counts) .answer ≡ pick b (refused 2 []) (accepted (length bytes ∷ [])) → x ≡ sets d 0 (pick b [] bytes)
+      go : (b : Bool) → ltb (length d) (length bytes) ≡ b → r ≡ pick b (W.Refused 2) (W.Done (length bytes)) → x ≡ sets d 0 (pick b [] bytes)
           → Told outcome (recorded r (t .counts))
           (tableOf (recorded r (t .counts) .counts) (t .globalFromUser) (t .userFromGlobal) (t .solverFromGlobal) (t .globalFromSolver) (t .assignment) (t .records))
           [] [] d [] [] x
-      go true y a w = told outcome (refusal 2 t) (recorded r (t .counts)) _ [] [] d [] [] x (unless-some 2 refusing t _ (sym (after true y)) (λ q. omega arith)) refl a (left-same r t) refl refl w
-      go false y a w = told outcome filled (recorded r (t .counts)) _ [] [] d [] [] x (unless-none 0 refusing t filled (sym (after false y)) refl) refl a (left-same r t) refl refl w
+      go true y a w = told outcome (refusal 2 t) (recorded r (t .counts)) _ [] [] d [] [] x (unless-some 2 refusing t _ (sym (after true y)) (λ q. omega arith)) refl (ap (λ (q : Recorded). recorded q (t .counts) .answer) a) (left-same r t) refl refl w
+      go false y a w = told outcome filled (recorded r (t .counts)) _ [] [] d [] [] x (unless-none 0 refusing t filled (sym (after false y)) refl) refl (ap (λ (q : Recorded). recorded q (t .counts) .answer) a) (left-same r t) refl refl w

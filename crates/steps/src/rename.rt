@@ -81,7 +81,7 @@ pub fn literal_refusal(
 }
 
 // A literal under its global name, sign kept; a global literal as given.
-fn rename_lit(gs: &[u32], solvervars: bool, code: u32) -> u32
+pub fn rename_lit(gs: &[u32], solvervars: bool, code: u32) -> u32
     requires { ⌜ getD (now gs) (code / 2) 0 ≤ 4096 ⌝ }
     requires { ⌜ (solvervars ≡ true → getD (now gs) (code / 2) 0 ≢ 0) ⌝ }
     ensures { λ r. ⌜ r ≡ renameLit (λ s. getD (old gs) s 0) solvervars code ⌝ }

@@ -22,7 +22,7 @@ ghost use Rattle.scope.specs.Sound.{soundb};
 ghost use Rattle.scope.specs.Contract.{given, before, quiet, Meets};
 ghost use Rattle.scope.specs.Steps.{written, clauseSteps};
 ghost use Rattle.scope.specs.Write.{renameLits, holders, outside, unheld, writeOf};
-ghost use Rattle.steps.specs.Refusals.{laidAnswer, laidBytes};
+ghost use Rattle.steps.specs.Refusals.{laid, laidBytes};
 ghost use Rattle.steps.specs.Answers.{recorded};
 
 // How many bytes one add per unit takes.
@@ -100,7 +100,7 @@ pub enum Recorded {
 }
 
 // A step of which all but the room is judged: 2.
-fn write_judged(
+pub fn write_judged(
     c: Counts,
     gu: &[u32],
     ug: &[u32],
@@ -118,7 +118,7 @@ fn write_judged(
     requires { ⌜ outside (given c gu ug sg gs assignment records) solvervars (now lits) ≡ false ⌝ }
     requires { ⌜ unheld (given c gu ug sg gs assignment records) solvervars (now lits) ≡ false ⌝ }
     ensures { λ r. let bytes = encode f (clauseSteps step (renameLits (holders (before c gu ug sg gs assignment records)) solvervars (old lits))) in
-        ⌜ recorded r c .answer ≡ laidAnswer bytes (length (old out)) ⌝ ∗ ⌜ Fills out 0 (laidBytes bytes (length (old out))) ⌝ }
+        ⌜ r ≡ laid bytes (length (old out)) ⌝ ∗ ⌜ Fills out 0 (laidBytes bytes (length (old out))) ⌝ }
 {
     let mut names = [0u32; 8192];
     rename_lits(

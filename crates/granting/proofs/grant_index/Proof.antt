@@ -1,15 +1,9 @@
+use Rattle.table.proofs.FoundLaws.{solverWord, solver-word}
+use mathlib.Core.Path.{ap, _∙_}
 use Rattle.granting.proofs.GrantLaws.{next-asks, fresh-of, next-done, kept-leaves, reads-below}
-use Rattle.granting.proofs.FoundLaws.{solver-none, solver-some}
-use Rattle.scope.proofs.SoundLaws.{sound-of}
-use native.Mathlib.Omega.{arith}
-use mathlib.Core.Path.{sym, _∙_}
 use borrow.Author.Needs.{needs}
 use Rattle.granting.proofs.grant_index.Statement.{statement}
 use Rattle.granting.proofs.grant_index.Tie as tie
-use Rattle.granting.proofs.grant_index.Reads as reads
-use Rattle.granting.proofs.grant_index.Lts as lts
-use Rattle.granting.proofs.grant_next.Reads as grant-next-reads
-use Rattle.table.proofs.solver_of.Reads as solver-of-reads
 
 -- src/lib.rt:102:35
 solver-of-requires : tie.Need-solver-of-requires
@@ -37,7 +31,7 @@ shared-slice-read-unit c = reads-below _ _ _ _ (c .before .before .before .befor
 
 -- src/lib.rt:104:9
 grant-next-requires : tie.Need-grant-next-requires
-grant-next-requires c κs = next-asks _ _ _ _ _ (fresh-of _ _ _ _ (c .before .before .before .before .before .before .before .before .before .before .before .before .before .before .before .before .before .pre .0) (solver-none _ (sym (c .before .before .before .before .before .before .before .before .solver-of .ensures) ∙ c .before .before .before .before .before .before .enum-told .given .1))) (c .before .before .before .before .before .before .before .before .before .before .before .before .before .before .before .before .before .pre .1)
+grant-next-requires c κs = next-asks _ _ _ _ _ (fresh-of _ _ _ _ (c .before .before .before .before .before .before .before .before .before .before .before .before .before .before .before .before .before .pre .0) ((solver-word _ _ (c .before .before .before .before .before .before .before .before .solver-of .ensures) ∙ ap solverWord (c .before .before .before .before .before .before .enum-told .given .1)))) (c .before .before .before .before .before .before .before .before .before .before .before .before .before .before .before .before .before .pre .1)
 
 -- src/lib.rt:104:9
 same-length : tie.Need-same-length
@@ -57,7 +51,7 @@ same-length-4 c = search needs
 
 -- src/lib.rt:104:9
 returns : tie.Need-returns
-returns c = next-done _ _ _ _ _ _ _ _ _ _ _ _ _ (c .before .before .before .before .before .before .before .before .before .before .before .before .before .before .before .before .before .before .before .before .before .before .before .before .before .before .pre .0) (solver-none _ (sym (c .before .before .before .before .before .before .before .before .before .before .before .before .before .before .before .before .before .solver-of .ensures) ∙ c .before .before .before .before .before .before .before .before .before .before .before .before .before .before .before .enum-told .given .1)) (c .before .before .before .before .before .before .before .before .grant-next .ensures)
+returns c = next-done _ _ _ _ _ _ _ _ _ _ _ _ _ (c .before .before .before .before .before .before .before .before .before .before .before .before .before .before .before .before .before .before .before .before .before .before .before .before .before .before .pre .0) ((solver-word _ _ (c .before .before .before .before .before .before .before .before .before .before .before .before .before .before .before .before .before .solver-of .ensures) ∙ ap solverWord (c .before .before .before .before .before .before .before .before .before .before .before .before .before .before .before .enum-told .given .1))) (c .before .before .before .before .before .before .before .before .grant-next .ensures)
 
 -- src/lib.rt:83:1
 same-length-5 : tie.Need-same-length-5
@@ -65,7 +59,7 @@ same-length-5 c = search needs
 
 -- src/lib.rt:83:1
 returns-2 : tie.Need-returns-2
-returns-2 c = (kept-leaves _ _ _ _ _ (solver-some _ _ (sym (c .before .before .before .solver-of .ensures) ∙ c .before .solver .given .1)), c .before .before .before .before .before .before .before .before .before .before .before .before .pre .1)
+returns-2 c = (kept-leaves _ _ _ _ _ ((solver-word _ _ (c .before .before .before .solver-of .ensures) ∙ ap solverWord (c .before .solver .given .1))), c .before .before .before .before .before .before .before .before .before .before .before .before .pre .1)
 
 pub grant-index-spec : {M : Type 1} → statement M
 grant-index-spec =

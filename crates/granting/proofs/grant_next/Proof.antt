@@ -2,11 +2,6 @@ use mathlib.Core.Path.{refl}
 use borrow.Author.Needs.{needs}
 use Rattle.granting.proofs.grant_next.Statement.{statement}
 use Rattle.granting.proofs.grant_next.Tie as tie
-use Rattle.granting.proofs.grant_next.Reads as reads
-use Rattle.granting.proofs.grant_next.Lts as lts
-use Rattle.inner.proofs.least_free.Reads as least-free-reads
-use Rattle.scope.proofs.Counts.grant.Reads as grant-reads
-use Rattle.table.proofs.put_note.Reads as put-note-reads
 
 -- src/lib.rt:68:9
 least-free-requires : tie.Need-least-free-requires

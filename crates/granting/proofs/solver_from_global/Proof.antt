@@ -3,10 +3,6 @@ use Rattle.inner.proofs.CursorLaws.{passed-none}
 use borrow.Author.Needs.{needs}
 use Rattle.granting.proofs.solver_from_global.Statement.{statement}
 use Rattle.granting.proofs.solver_from_global.Tie as tie
-use Rattle.granting.proofs.solver_from_global.Reads as reads
-use Rattle.granting.proofs.solver_from_global.Lts as lts
-use Rattle.granting.proofs.grant_index.Reads as grant-index-reads
-use Rattle.granting.proofs.grant_refusal.Reads as grant-refusal-reads
 
 -- src/lib.rt:161:9
 grant-refusal-requires : tie.Need-grant-refusal-requires

@@ -7,8 +7,6 @@ use Rattle.inner.proofs.CursorLaws.{passed-more, free-found, free-end}
 use borrow.Author.Needs.{needs}
 use Rattle.inner.proofs.least_free.Statement.{statement}
 use Rattle.inner.proofs.least_free.Tie as tie
-use Rattle.inner.proofs.least_free.Reads as reads
-use Rattle.inner.proofs.least_free.Lts as lts
 
 abbrev Inv-loop : tie.InvT-loop
 Inv-loop xs mark from i₀ i = Passed (λ k. eqb (getD xs k 0) 0) mark i

@@ -1,10 +1,10 @@
+use Rattle.table.proofs.FoundLaws.{globalWord, global-word}
 use Rattle.naming.proofs.GapLaws.{Gap, user-small, gap-start, gap-asks, gap-more, gap-sizes, gap-kept, last-asks, last-done, last-sizes}
-use Rattle.naming.proofs.FoundLaws.{global-none, global-some}
 use Rattle.naming.specs.Maps.{free}
 use Rattle.inner.specs.Cursor.{Passed}
 use Rattle.scope.specs.Table.{tableOf}
 use native.Mathlib.Omega.{arith}
-use mathlib.Core.Path.{sym, _∙_}
+use mathlib.Core.Path.{_∙_, ap}
 use borrow.Author.Needs.{needs}
 use Prim.Native.Nat.{ℕ, _-_, _<_}
 use borrow.Fn.Kinds.{In}
@@ -133,7 +133,7 @@ map-user-map-one-requires : (t : ℕ) → map-user-lts.Need-map-one-requires (
   map-one-reads.Asked,
   map-one-reads.Learnt,
 ) (map-user-at t) map-user.Post map-user-Inv-loop map-user-μ-loop
-map-user-map-one-requires t c κs = last-asks _ _ _ _ _ _ _ _ (c .before .before .before .before .before .before .before .before .before .before .before .before .before .before .before .before .before .pre .1 .0) (c .before .before .before .before .before .before .before .before .before .loop .inv .0) (c .before .before .before .before .before .before .before .before .loop-test .left) (global-none _ (sym (c .before .before .before .before .before .before .global-of .ensures) ∙ c .before .before .before .before .enum-told .given .1)) _ (c .before .before .before .before .before .before .before .before .before .loop .inv .1)
+map-user-map-one-requires t c κs = last-asks _ _ _ _ _ _ _ _ (c .before .before .before .before .before .before .before .before .before .before .before .before .before .before .before .before .before .pre .1 .0) (c .before .before .before .before .before .before .before .before .before .loop .inv .0) (c .before .before .before .before .before .before .before .before .loop-test .left) ((global-word _ _ (c .before .before .before .before .before .before .global-of .ensures) ∙ ap globalWord (c .before .before .before .before .enum-told .given .1))) _ (c .before .before .before .before .before .before .before .before .before .loop .inv .1)
 
 -- src/lib.rt:166:9
 map-user-same-length : (t : ℕ) → map-user-lts.Need-same-length (
@@ -144,7 +144,7 @@ map-user-same-length : (t : ℕ) → map-user-lts.Need-same-length (
   map-one-reads.Asked,
   map-one-reads.Learnt,
 ) (map-user-at t) map-user.Post map-user-Inv-loop map-user-μ-loop
-map-user-same-length t c = last-sizes _ _ _ _ _ _ _ _ (c .before .before .before .before .before .before .before .before .before .before .before .before .before .before .before .before .before .before .before .before .before .before .before .before .before .before .pre .1 .0) (c .before .before .before .before .before .before .before .before .before .before .before .before .before .before .before .before .before .before .loop .inv .0) (c .before .before .before .before .before .before .before .before .before .before .before .before .before .before .before .before .before .loop-test .left) (global-none _ (sym (c .before .before .before .before .before .before .before .before .before .before .before .before .before .before .before .global-of .ensures) ∙ c .before .before .before .before .before .before .before .before .before .before .before .before .before .enum-told .given .1)) _ _ _ _ _ _ _ _ (c .before .before .before .before .before .before .before .before .map-one .ensures) .globalFromUser
+map-user-same-length t c = last-sizes _ _ _ _ _ _ _ _ (c .before .before .before .before .before .before .before .before .before .before .before .before .before .before .before .before .before .before .before .before .before .before .before .before .before .before .pre .1 .0) (c .before .before .before .before .before .before .before .before .before .before .before .before .before .before .before .before .before .before .loop .inv .0) (c .before .before .before .before .before .before .before .before .before .before .before .before .before .before .before .before .before .loop-test .left) ((global-word _ _ (c .before .before .before .before .before .before .before .before .before .before .before .before .before .before .before .global-of .ensures) ∙ ap globalWord (c .before .before .before .before .before .before .before .before .before .before .before .before .before .enum-told .given .1))) _ _ _ _ _ _ _ _ (c .before .before .before .before .before .before .before .before .map-one .ensures) .globalFromUser
 
 -- src/lib.rt:166:9
 map-user-same-length-2 : (t : ℕ) → map-user-lts.Need-same-length-2 (
@@ -155,7 +155,7 @@ map-user-same-length-2 : (t : ℕ) → map-user-lts.Need-same-length-2 (
   map-one-reads.Asked,
   map-one-reads.Learnt,
 ) (map-user-at t) map-user.Post map-user-Inv-loop map-user-μ-loop
-map-user-same-length-2 t c = last-sizes _ _ _ _ _ _ _ _ (c .before .before .before .before .before .before .before .before .before .before .before .before .before .before .before .before .before .before .before .before .before .before .before .before .before .before .pre .1 .0) (c .before .before .before .before .before .before .before .before .before .before .before .before .before .before .before .before .before .before .loop .inv .0) (c .before .before .before .before .before .before .before .before .before .before .before .before .before .before .before .before .before .loop-test .left) (global-none _ (sym (c .before .before .before .before .before .before .before .before .before .before .before .before .before .before .before .global-of .ensures) ∙ c .before .before .before .before .before .before .before .before .before .before .before .before .before .enum-told .given .1)) _ _ _ _ _ _ _ _ (c .before .before .before .before .before .before .before .before .map-one .ensures) .userFromGlobal
+map-user-same-length-2 t c = last-sizes _ _ _ _ _ _ _ _ (c .before .before .before .before .before .before .before .before .before .before .before .before .before .before .before .before .before .before .before .before .before .before .before .before .before .before .pre .1 .0) (c .before .before .before .before .before .before .before .before .before .before .before .before .before .before .before .before .before .before .loop .inv .0) (c .before .before .before .before .before .before .before .before .before .before .before .before .before .before .before .before .before .loop-test .left) ((global-word _ _ (c .before .before .before .before .before .before .before .before .before .before .before .before .before .before .before .global-of .ensures) ∙ ap globalWord (c .before .before .before .before .before .before .before .before .before .before .before .before .before .enum-told .given .1))) _ _ _ _ _ _ _ _ (c .before .before .before .before .before .before .before .before .map-one .ensures) .userFromGlobal
 
 -- src/lib.rt:166:9
 map-user-same-length-3 : (t : ℕ) → map-user-lts.Need-same-length-3 (
@@ -166,7 +166,7 @@ map-user-same-length-3 : (t : ℕ) → map-user-lts.Need-same-length-3 (
   map-one-reads.Asked,
   map-one-reads.Learnt,
 ) (map-user-at t) map-user.Post map-user-Inv-loop map-user-μ-loop
-map-user-same-length-3 t c = last-sizes _ _ _ _ _ _ _ _ (c .before .before .before .before .before .before .before .before .before .before .before .before .before .before .before .before .before .before .before .before .before .before .before .before .before .before .pre .1 .0) (c .before .before .before .before .before .before .before .before .before .before .before .before .before .before .before .before .before .before .loop .inv .0) (c .before .before .before .before .before .before .before .before .before .before .before .before .before .before .before .before .before .loop-test .left) (global-none _ (sym (c .before .before .before .before .before .before .before .before .before .before .before .before .before .before .before .global-of .ensures) ∙ c .before .before .before .before .before .before .before .before .before .before .before .before .before .enum-told .given .1)) _ _ _ _ _ _ _ _ (c .before .before .before .before .before .before .before .before .map-one .ensures) .records
+map-user-same-length-3 t c = last-sizes _ _ _ _ _ _ _ _ (c .before .before .before .before .before .before .before .before .before .before .before .before .before .before .before .before .before .before .before .before .before .before .before .before .before .before .pre .1 .0) (c .before .before .before .before .before .before .before .before .before .before .before .before .before .before .before .before .before .before .loop .inv .0) (c .before .before .before .before .before .before .before .before .before .before .before .before .before .before .before .before .before .loop-test .left) ((global-word _ _ (c .before .before .before .before .before .before .before .before .before .before .before .before .before .before .before .global-of .ensures) ∙ ap globalWord (c .before .before .before .before .before .before .before .before .before .before .before .before .before .enum-told .given .1))) _ _ _ _ _ _ _ _ (c .before .before .before .before .before .before .before .before .map-one .ensures) .records
 
 -- src/lib.rt:166:9
 map-user-same-length-4 : (t : ℕ) → map-user-lts.Need-same-length-4 (
@@ -177,7 +177,7 @@ map-user-same-length-4 : (t : ℕ) → map-user-lts.Need-same-length-4 (
   map-one-reads.Asked,
   map-one-reads.Learnt,
 ) (map-user-at t) map-user.Post map-user-Inv-loop map-user-μ-loop
-map-user-same-length-4 t c = last-sizes _ _ _ _ _ _ _ _ (c .before .before .before .before .before .before .before .before .before .before .before .before .before .before .before .before .before .before .before .before .before .before .before .before .before .before .pre .1 .0) (c .before .before .before .before .before .before .before .before .before .before .before .before .before .before .before .before .before .before .loop .inv .0) (c .before .before .before .before .before .before .before .before .before .before .before .before .before .before .before .before .before .loop-test .left) (global-none _ (sym (c .before .before .before .before .before .before .before .before .before .before .before .before .before .before .before .global-of .ensures) ∙ c .before .before .before .before .before .before .before .before .before .before .before .before .before .enum-told .given .1)) _ _ _ _ _ _ _ _ (c .before .before .before .before .before .before .before .before .map-one .ensures) .notes
+map-user-same-length-4 t c = last-sizes _ _ _ _ _ _ _ _ (c .before .before .before .before .before .before .before .before .before .before .before .before .before .before .before .before .before .before .before .before .before .before .before .before .before .before .pre .1 .0) (c .before .before .before .before .before .before .before .before .before .before .before .before .before .before .before .before .before .before .loop .inv .0) (c .before .before .before .before .before .before .before .before .before .before .before .before .before .before .before .before .before .loop-test .left) ((global-word _ _ (c .before .before .before .before .before .before .before .before .before .before .before .before .before .before .before .global-of .ensures) ∙ ap globalWord (c .before .before .before .before .before .before .before .before .before .before .before .before .before .enum-told .given .1))) _ _ _ _ _ _ _ _ (c .before .before .before .before .before .before .before .before .map-one .ensures) .notes
 
 -- src/lib.rt:166:9
 map-user-returns : (t : ℕ) → map-user-lts.Need-returns (
@@ -188,7 +188,7 @@ map-user-returns : (t : ℕ) → map-user-lts.Need-returns (
   map-one-reads.Asked,
   map-one-reads.Learnt,
 ) (map-user-at t) map-user.Post map-user-Inv-loop map-user-μ-loop
-map-user-returns t c = last-done _ _ _ _ _ _ _ _ (c .before .before .before .before .before .before .before .before .before .before .before .before .before .before .before .before .before .before .before .before .before .before .before .before .before .before .pre .1 .0) (c .before .before .before .before .before .before .before .before .before .before .before .before .before .before .before .before .before .before .loop .inv .0) (c .before .before .before .before .before .before .before .before .before .before .before .before .before .before .before .before .before .loop-test .left) (global-none _ (sym (c .before .before .before .before .before .before .before .before .before .before .before .before .before .before .before .global-of .ensures) ∙ c .before .before .before .before .before .before .before .before .before .before .before .before .before .enum-told .given .1)) _ _ _ _ _ _ _ _ (c .before .before .before .before .before .before .before .before .map-one .ensures)
+map-user-returns t c = last-done _ _ _ _ _ _ _ _ (c .before .before .before .before .before .before .before .before .before .before .before .before .before .before .before .before .before .before .before .before .before .before .before .before .before .before .pre .1 .0) (c .before .before .before .before .before .before .before .before .before .before .before .before .before .before .before .before .before .before .loop .inv .0) (c .before .before .before .before .before .before .before .before .before .before .before .before .before .before .before .before .before .loop-test .left) ((global-word _ _ (c .before .before .before .before .before .before .before .before .before .before .before .before .before .before .before .global-of .ensures) ∙ ap globalWord (c .before .before .before .before .before .before .before .before .before .before .before .before .before .enum-told .given .1))) _ _ _ _ _ _ _ _ (c .before .before .before .before .before .before .before .before .map-one .ensures)
 
 -- src/lib.rt:134:1
 map-user-same-length-5 : (t : ℕ) → map-user-lts.Need-same-length-5 (
@@ -243,7 +243,7 @@ map-user-returns-2 : (t : ℕ) → map-user-lts.Need-returns-2 (
   map-one-reads.Asked,
   map-one-reads.Learnt,
 ) (map-user-at t) map-user.Post map-user-Inv-loop map-user-μ-loop
-map-user-returns-2 t c = (gap-kept _ _ _ _ _ _ _ _ _ (c .before .before .before .before .before .before .before .before .before .before .before .before .before .before .pre .1 .0) (c .before .before .before .before .before .before .loop .inv .0) (c .before .before .before .before .before .loop-test .left) (global-some _ _ (sym (c .before .before .before .global-of .ensures) ∙ c .before .global .given .1)), c .before .before .before .before .before .before .loop .inv .1)
+map-user-returns-2 t c = (gap-kept _ _ _ _ _ _ _ _ _ (c .before .before .before .before .before .before .before .before .before .before .before .before .before .before .pre .1 .0) (c .before .before .before .before .before .before .loop .inv .0) (c .before .before .before .before .before .loop-test .left) ((global-word _ _ (c .before .before .before .global-of .ensures) ∙ ap globalWord (c .before .global .given .1))), c .before .before .before .before .before .before .loop .inv .1)
 
 pub +map-user-spec : {M : Type 1} → statement M
 +map-user-spec = close μ-map-user λ t. map-user-lts.spec (

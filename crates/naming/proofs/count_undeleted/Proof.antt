@@ -1,6 +1,6 @@
 use Prim.Native.Nat.{_-_, _≤_}
 use native.Mathlib.Omega.{arith}
-use mathlib.Core.Path.{_≡_, sym, refl}
+use mathlib.Core.Path.{_≡_, sym}
 use mathlib.Core.Logic.{⊎-elim}
 use lib.ListN.{length}
 use Rattle.naming.specs.Maps.{alive}
@@ -10,8 +10,6 @@ use Rattle.naming.proofs.FreeLaws.{undeleted-step, undeleted-stay}
 use borrow.Author.Needs.{needs}
 use Rattle.naming.proofs.count_undeleted.Statement.{statement}
 use Rattle.naming.proofs.count_undeleted.Tie as tie
-use Rattle.naming.proofs.count_undeleted.Reads as reads
-use Rattle.naming.proofs.count_undeleted.Lts as lts
 
 abbrev Inv-loop : tie.InvT-loop
 Inv-loop records n₀ i₀ n i = (i ≤ length records) × (n ≤ i) × (n ≡ count i (alive records))

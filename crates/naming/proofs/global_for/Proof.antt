@@ -2,9 +2,6 @@ use Rattle.naming.proofs.FreeLaws.{for-own, for-least, for-passed}
 use borrow.Author.Needs.{needs}
 use Rattle.naming.proofs.global_for.Statement.{statement}
 use Rattle.naming.proofs.global_for.Tie as tie
-use Rattle.naming.proofs.global_for.Reads as reads
-use Rattle.naming.proofs.global_for.Lts as lts
-use Rattle.naming.proofs.least_deleted.Reads as least-deleted-reads
 
 -- src/lib.rt:75:37
 cast-if1 : tie.Need-cast-if1

@@ -3,10 +3,6 @@ use Rattle.inner.proofs.CursorLaws.{passed-none}
 use borrow.Author.Needs.{needs}
 use Rattle.naming.proofs.global_from_user.Statement.{statement}
 use Rattle.naming.proofs.global_from_user.Tie as tie
-use Rattle.naming.proofs.global_from_user.Reads as reads
-use Rattle.naming.proofs.global_from_user.Lts as lts
-use Rattle.naming.proofs.map_refusal.Reads as map-refusal-reads
-use Rattle.naming.proofs.map_user.Reads as map-user-reads
 
 -- src/lib.rt:277:9
 map-refusal-requires : tie.Need-map-refusal-requires

@@ -1,12 +1,9 @@
+use Rattle.table.proofs.FoundLaws.{globalWord, global-word}
 use Rattle.naming.proofs.FreeLaws.{inside-below, unsampled-none, unsampled-some}
-use Rattle.naming.proofs.FoundLaws.{global-none, global-some}
-use mathlib.Core.Path.{sym, _∙_}
+use mathlib.Core.Path.{_∙_, ap}
 use borrow.Author.Needs.{needs}
 use Rattle.naming.proofs.is_unsampled.Statement.{statement}
 use Rattle.naming.proofs.is_unsampled.Tie as tie
-use Rattle.naming.proofs.is_unsampled.Reads as reads
-use Rattle.naming.proofs.is_unsampled.Lts as lts
-use Rattle.table.proofs.global_of.Reads as global-of-reads
 
 -- src/lib.rt:197:30
 global-of-requires : tie.Need-global-of-requires
@@ -22,7 +19,7 @@ enum-told c = search needs
 
 -- src/lib.rt:198:9
 returns : tie.Need-returns
-returns c = unsampled-none _ _ _ (global-none _ (sym (c .before .before .global-of .ensures) ∙ c .enum-told .given .1))
+returns c = unsampled-none _ _ _ ((global-word _ _ (c .before .before .global-of .ensures) ∙ ap globalWord (c .enum-told .given .1)))
 
 -- src/lib.rt:200:13
 cast-result : tie.Need-cast-result
@@ -34,11 +31,11 @@ mul-result c = search needs
 
 -- src/lib.rt:200:5
 shared-slice-read-result : tie.Need-shared-slice-read-result
-shared-slice-read-result c = inside-below _ _ _ _ (c .before .before .before .before .before .before .before .before .pre) (global-some _ _ (sym (c .before .before .before .before .before .global-of .ensures) ∙ c .before .before .before .g .given .1))
+shared-slice-read-result c = inside-below _ _ _ _ (c .before .before .before .before .before .before .before .before .pre) ((global-word _ _ (c .before .before .before .before .before .global-of .ensures) ∙ ap globalWord (c .before .before .before .g .given .1)))
 
 -- src/lib.rt:193:1
 returns-2 : tie.Need-returns-2
-returns-2 c = unsampled-some _ _ _ _ (c .before .before .before .before .before .before .before .before .pre) (global-some _ _ (sym (c .before .before .before .before .before .global-of .ensures) ∙ c .before .before .before .g .given .1))
+returns-2 c = unsampled-some _ _ _ _ (c .before .before .before .before .before .before .before .before .pre) ((global-word _ _ (c .before .before .before .before .before .global-of .ensures) ∙ ap globalWord (c .before .before .before .g .given .1)))
 
 pub is-unsampled-spec : {M : Type 1} → statement M
 is-unsampled-spec =

@@ -1,13 +1,10 @@
 use Prim.Native.Nat.{_-_}
-use native.Mathlib.Omega.{arith}
 use Rattle.inner.specs.Cursor.{Passed}
 use Rattle.naming.specs.Maps.{free}
 use Rattle.naming.proofs.FreeLaws.{deleted-found, deleted-more, deleted-end}
 use borrow.Author.Needs.{needs}
 use Rattle.naming.proofs.least_deleted.Statement.{statement}
 use Rattle.naming.proofs.least_deleted.Tie as tie
-use Rattle.naming.proofs.least_deleted.Reads as reads
-use Rattle.naming.proofs.least_deleted.Lts as lts
 
 abbrev Inv-loop : tie.InvT-loop
 Inv-loop records mark from i₀ i = Passed (free records) mark i

@@ -2,11 +2,6 @@ use mathlib.Core.Path.{refl}
 use borrow.Author.Needs.{needs}
 use Rattle.naming.proofs.map_one.Statement.{statement}
 use Rattle.naming.proofs.map_one.Tie as tie
-use Rattle.naming.proofs.map_one.Reads as reads
-use Rattle.naming.proofs.map_one.Lts as lts
-use Rattle.naming.proofs.global_for.Reads as global-for-reads
-use Rattle.scope.proofs.Counts.map.Reads as map-reads
-use Rattle.table.proofs.put_note.Reads as put-note-reads
 
 -- src/lib.rt:118:9
 global-for-requires : tie.Need-global-for-requires

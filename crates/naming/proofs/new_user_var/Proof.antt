@@ -3,11 +3,6 @@ use Rattle.inner.proofs.CursorLaws.{passed-none}
 use borrow.Author.Needs.{needs}
 use Rattle.naming.proofs.new_user_var.Statement.{statement}
 use Rattle.naming.proofs.new_user_var.Tie as tie
-use Rattle.naming.proofs.new_user_var.Reads as reads
-use Rattle.naming.proofs.new_user_var.Lts as lts
-use Rattle.inner.proofs.least_free.Reads as least-free-reads
-use Rattle.naming.proofs.map_user.Reads as map-user-reads
-use Rattle.naming.proofs.new_user_refusal.Reads as new-user-refusal-reads
 
 -- src/lib.rt:327:9
 new-user-refusal-requires : tie.Need-new-user-refusal-requires

@@ -1,13 +1,9 @@
-use Rattle.naming.proofs.FoundLaws.{global-none, global-some}
+use Rattle.table.proofs.FoundLaws.{globalWord, global-word}
 use Rattle.scope.proofs.ResultLaws.{word-none, word-some}
-use mathlib.Core.Path.{sym, _∙_}
+use mathlib.Core.Path.{sym, _∙_, ap}
 use borrow.Author.Needs.{needs}
 use Rattle.naming.proofs.to_map.Statement.{statement}
 use Rattle.naming.proofs.to_map.Tie as tie
-use Rattle.naming.proofs.to_map.Reads as reads
-use Rattle.naming.proofs.to_map.Lts as lts
-use Rattle.naming.proofs.gap.Reads as gap-reads
-use Rattle.table.proofs.global_of.Reads as global-of-reads
 
 -- src/lib.rt:219:30
 global-of-requires : tie.Need-global-of-requires
@@ -26,11 +22,11 @@ gap-requires c κs = search needs
 
 -- src/lib.rt:220:9
 returns : tie.Need-returns
-returns c = c .gap .ensures ∙ sym (word-none _ _ _ (global-none _ (sym (c .before .before .before .global-of .ensures) ∙ c .before .enum-told2 .given .1)))
+returns c = c .gap .ensures ∙ sym (word-none _ _ _ ((global-word _ _ (c .before .before .before .global-of .ensures) ∙ ap globalWord (c .before .enum-told2 .given .1))))
 
 -- src/lib.rt:215:1
 returns-2 : tie.Need-returns-2
-returns-2 c = sym (word-some _ _ _ _ (global-some _ _ (sym (c .before .before .global-of .ensures) ∙ c .enum-told .given .1)))
+returns-2 c = sym (word-some _ _ _ _ ((global-word _ _ (c .before .before .global-of .ensures) ∙ ap globalWord (c .enum-told .given .1))))
 
 pub to-map-spec : {M : Type 1} → statement M
 to-map-spec =

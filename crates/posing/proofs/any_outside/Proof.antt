@@ -11,8 +11,6 @@ use Rattle.scope.specs.Literals.{indexOf}
 use borrow.Author.Needs.{needs}
 use Rattle.posing.proofs.any_outside.Statement.{statement}
 use Rattle.posing.proofs.any_outside.Tie as tie
-use Rattle.posing.proofs.any_outside.Reads as reads
-use Rattle.posing.proofs.any_outside.Lts as lts
 
 abbrev Inv-loop : tie.InvT-loop
 Inv-loop capacity lits i₀ i = (i ≤ length lits) × (anyOf (λ c. leb capacity (indexOf c)) (take i lits) ≡ false)

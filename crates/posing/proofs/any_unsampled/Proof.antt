@@ -12,9 +12,6 @@ use Rattle.naming.specs.Maps.{isUnsampled}
 use borrow.Author.Needs.{needs}
 use Rattle.posing.proofs.any_unsampled.Statement.{statement}
 use Rattle.posing.proofs.any_unsampled.Tie as tie
-use Rattle.posing.proofs.any_unsampled.Reads as reads
-use Rattle.posing.proofs.any_unsampled.Lts as lts
-use Rattle.naming.proofs.is_unsampled.Reads as is-unsampled-reads
 
 abbrev Inv-loop : tie.InvT-loop
 Inv-loop gu records lits sampling i₀ i = (i ≤ length lits) × (anyOf (λ c. isUnsampled gu records (indexOf c)) (take i lits) ≡ false)

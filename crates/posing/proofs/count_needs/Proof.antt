@@ -1,14 +1,11 @@
-use Prim.Native.Nat.{_-_, _≤_}
-use mathlib.Core.Path.{_≡_, refl, sym}
+use Prim.Native.Nat.{_-_}
+use mathlib.Core.Path.{_≡_, refl}
 use native.Mathlib.Omega.{arith}
 use lib.ListN.{length, length-set}
 use Rattle.posing.proofs.CountLaws.{Counted, counted-start, counted-more, counted-end, counted-small}
 use borrow.Author.Needs.{needs}
 use Rattle.posing.proofs.count_needs.Statement.{statement}
 use Rattle.posing.proofs.count_needs.Tie as tie
-use Rattle.posing.proofs.count_needs.Reads as reads
-use Rattle.posing.proofs.count_needs.Lts as lts
-use Rattle.posing.proofs.count_one.Reads as count-one-reads
 
 abbrev Inv-loop : tie.InvT-loop
 Inv-loop mark gu sg lits seen₀ n₀ i₀ seen n i = (length seen ≡ 4096) × Counted mark gu sg lits i seen n

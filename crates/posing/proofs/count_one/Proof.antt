@@ -4,11 +4,6 @@ use Rattle.posing.proofs.CountLaws.{byte-fits, low-is, grants-is}
 use borrow.Author.Needs.{needs}
 use Rattle.posing.proofs.count_one.Statement.{statement}
 use Rattle.posing.proofs.count_one.Tie as tie
-use Rattle.posing.proofs.count_one.Reads as reads
-use Rattle.posing.proofs.count_one.Lts as lts
-use Rattle.posing.proofs.larger.Reads as larger-reads
-use Rattle.posing.proofs.needs_grant.Reads as needs-grant-reads
-use Rattle.table.proofs.word_at.Reads as word-at-reads
 
 -- src/lib.rt:201:38
 word-at-requires : tie.Need-word-at-requires

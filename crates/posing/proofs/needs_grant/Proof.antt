@@ -1,14 +1,9 @@
+use Rattle.table.proofs.FoundLaws.{globalWord, global-word, solverWord, solver-word}
 use Rattle.posing.proofs.CountLaws.{grant-none, grant-free, grant-held}
-use Rattle.naming.proofs.FoundLaws.{global-none, global-some}
-use Rattle.granting.proofs.FoundLaws.{solver-none, solver-some}
-use mathlib.Core.Path.{sym, _∙_}
+use mathlib.Core.Path.{_∙_, ap}
 use borrow.Author.Needs.{needs}
 use Rattle.posing.proofs.needs_grant.Statement.{statement}
 use Rattle.posing.proofs.needs_grant.Tie as tie
-use Rattle.posing.proofs.needs_grant.Reads as reads
-use Rattle.posing.proofs.needs_grant.Lts as lts
-use Rattle.table.proofs.global_of.Reads as global-of-reads
-use Rattle.table.proofs.solver_of.Reads as solver-of-reads
 
 -- src/lib.rt:176:30
 global-of-requires : tie.Need-global-of-requires
@@ -24,7 +19,7 @@ enum-told c = search needs
 
 -- src/lib.rt:177:9
 returns : tie.Need-returns
-returns c = grant-none _ _ _ (global-none _ (sym (c .before .before .global-of .ensures) ∙ c .enum-told .given .1))
+returns c = grant-none _ _ _ ((global-word _ _ (c .before .before .global-of .ensures) ∙ ap globalWord (c .enum-told .given .1)))
 
 -- src/lib.rt:179:30
 solver-of-requires : tie.Need-solver-of-requires
@@ -39,11 +34,11 @@ enum-told-3 c = search needs
 
 -- src/lib.rt:180:9
 returns-2 : tie.Need-returns-2
-returns-2 c = grant-free _ _ _ _ (global-some _ _ (sym (c .before .before .before .before .before .before .global-of .ensures) ∙ c .before .before .before .before .g .given .1)) (solver-none _ (sym (c .before .before .solver-of .ensures) ∙ c .enum-told3 .given .1))
+returns-2 c = grant-free _ _ _ _ ((global-word _ _ (c .before .before .before .before .before .before .global-of .ensures) ∙ ap globalWord (c .before .before .before .before .g .given .1))) ((solver-word _ _ (c .before .before .solver-of .ensures) ∙ ap solverWord (c .enum-told3 .given .1)))
 
 -- src/lib.rt:173:1
 returns-3 : tie.Need-returns-3
-returns-3 c = grant-held _ _ _ _ _ (global-some _ _ (sym (c .before .before .before .before .before .before .global-of .ensures) ∙ c .before .before .before .before .g .given .1)) (solver-some _ _ (sym (c .before .before .solver-of .ensures) ∙ c .enum-told2 .given .1))
+returns-3 c = grant-held _ _ _ _ _ ((global-word _ _ (c .before .before .before .before .before .before .global-of .ensures) ∙ ap globalWord (c .before .before .before .before .g .given .1))) ((solver-word _ _ (c .before .before .solver-of .ensures) ∙ ap solverWord (c .enum-told2 .given .1)))
 
 pub needs-grant-spec : {M : Type 1} → statement M
 needs-grant-spec =

@@ -8,9 +8,6 @@ use Rattle.posing.proofs.AllLaws.{Done, done-start, ahead-start, turn-a
 use borrow.Author.Needs.{needs}
 use Rattle.posing.proofs.place_all.Statement.{statement}
 use Rattle.posing.proofs.place_all.Tie as tie
-use Rattle.posing.proofs.place_all.Reads as reads
-use Rattle.posing.proofs.place_all.Lts as lts
-use Rattle.posing.proofs.place_user.Reads as place-user-reads
 
 abbrev Inv-loop : tie.InvT-loop
 Inv-loop gu₀ ug₀ sg₀ gs₀ assignment₀ records₀ lits out₀ notes₀ cur₀ k₀ at₀ i₀ gu ug sg gs assignment records out notes cur k at i =

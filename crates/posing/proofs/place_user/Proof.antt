@@ -2,10 +2,6 @@ use Rattle.posing.proofs.PlaceLaws.{map-asks, grant-asks, solver-ahead,
 use borrow.Author.Needs.{needs}
 use Rattle.posing.proofs.place_user.Statement.{statement}
 use Rattle.posing.proofs.place_user.Tie as tie
-use Rattle.posing.proofs.place_user.Reads as reads
-use Rattle.posing.proofs.place_user.Lts as lts
-use Rattle.granting.proofs.grant_index.Reads as grant-index-reads
-use Rattle.naming.proofs.map_user.Reads as map-user-reads
 
 -- src/lib.rt:83:9
 map-user-requires : tie.Need-map-user-requires

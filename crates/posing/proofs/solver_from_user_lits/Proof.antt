@@ -3,10 +3,6 @@ use native.Mathlib.Omega.{arith}
 use borrow.Author.Needs.{needs}
 use Rattle.posing.proofs.solver_from_user_lits.Statement.{statement}
 use Rattle.posing.proofs.solver_from_user_lits.Tie as tie
-use Rattle.posing.proofs.solver_from_user_lits.Reads as reads
-use Rattle.posing.proofs.solver_from_user_lits.Lts as lts
-use Rattle.posing.proofs.place_all.Reads as place-all-reads
-use Rattle.posing.proofs.pose_refusal.Reads as pose-refusal-reads
 
 -- src/lib.rt:296:9
 pose-refusal-requires : tie.Need-pose-refusal-requires

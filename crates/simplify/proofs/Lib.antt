@@ -1,0 +1,4 @@
+pub mod KeepLaws
+pub mod SortLaws
+pub mod SimplifyLaws
+pub mod AnswerLaws

@@ -1,0 +1,404 @@
+-- Simplify: what the call comes to, by what the clause is sorted as.
+use Prim.Native.Nat.{ℕ, zero, suc, _+_, _≤_, _<_}
+use mathlib.Core.Path.{_≡_, refl, sym, ap, ap₂, _∙_, subst}
+use mathlib.Core.Bool.{Bool, true, false, _&&_, _||_, not}
+use mathlib.Core.List.{List, [], _∷_, _++_, map, map-id}
+use mathlib.Core.Logic.{⊎-elim}
+use native.Mathlib.Omega.{arith}
+use lib.Dec.{eqb, ltb}
+use lib.ListN.{length, take, length-append}
+use lib.Seq.{sets}
+use borrow.Author.Tests.{lt-ltb, le-ltb, not-false}
+use Rattle.base.specs.Choice.{pick}
+use Rattle.base.specs.Answer.{Answer, accepted, refused}
+use Rattle.base.proofs.Truth.{split}
+use Rattle.base.proofs.MemberLaws.{keep-length, or-neither}
+use Rattle.base.proofs.SetsLaws.{sets-append}
+use Rattle.drat.specs.Grammar.{encode}
+use Rattle.drat.specs.declared.Format.{Format}
+use Rattle.drat.proofs.Complete.{encode-append}
+use Rattle.scope.specs.declared.DeleteClauseProof.{DeleteClauseProof}
+use Rattle.scope.specs.declared.DeleteClauseProof.the-variants.{Simplified as simpler}
+use Rattle.scope.specs.declared.ProofStep.the-variants.{AtClause, DeleteClause}
+use Rattle.scope.specs.declared.Simplified.{Simplified}
+use Rattle.scope.specs.declared.Simplified.the-variants.{Kept, Dropped, Shortened, Binary}
+use Rattle.scope.specs.Table.{Table, tableOf}
+use Rattle.scope.specs.Notes.{Note, notesWords}
+use Rattle.scope.specs.Contract.{Does}
+use Rattle.scope.specs.Sound.{soundb}
+use Rattle.scope.specs.Steps.{clauseSteps}
+use Rattle.scope.specs.Outcome.{Outcome, refusal, unless}
+use Rattle.scope.specs.Write.{renameLits, holders, outside, unheld}
+use Rattle.scope.specs.Literals.{indexOf}
+use Rattle.scope.specs.Marks.{notHeld}
+use Rattle.scope.specs.Simplify.{isFalse, unfalse, simplified, restOf, flagOf, deleteCause, simplifySteps, simplifyBytes, simplifyRefusal, simplifiedNumber, simplifyOf}
+use Rattle.scope.proofs.ResultLaws.{past}
+use Rattle.steps.specs.declared.write.Recorded.{Recorded}
+use Rattle.steps.specs.declared.write.Recorded.the-variants as W
+use Rattle.steps.specs.Refusals.{literalRefusal, laid, laidBytes}
+use Rattle.steps.proofs.WriteLaws.{short-laid, whole-laid, laid-done, laid-refused, filled-done, filled-refused}
+use Rattle.steps.proofs.LiteralLaws.{clear, few, names-part, names-within, names-given as names-written}
+use Rattle.steps.proofs.CallLaws.{unless-some}
+use Rattle.steps.proofs.ChainLaws.{first-some, first-none}
+use Rattle.steps.proofs.UnitLaws.{encode-none}
+use Rattle.simplify.specs.declared.Reduced.{Reduced}
+use Rattle.simplify.specs.declared.Reduced.the-variants.{Done, Refused}
+use Rattle.simplify.specs.Answers.{reduced}
+use Rattle.simplify.specs.Cuts.{clauseRefusal, Cuts, shortened, binary, Written}
+use Rattle.simplify.proofs.KeepLaws.{any-keep}
+use Rattle.simplify.proofs.SortLaws.{tooFew, few-kept, few-dropped, few-cut}
+
+-- a literal as given is its own name
+pub names-given : (h : ℕ → ℕ) (lits : List ℕ) → renameLits h false lits ≡ lits
+unfolding renameLits
+names-given h lits = map-id lits
+
+unless-still : (m : ℕ) (t : Table) (o : Outcome) → o .table ≡ t → o .notes ≡ [] → (unless m t o .table ≡ t) × (unless m t o .notes ≡ [])
+unfolding unless
+unless-still zero t o p q = (p, q)
+unless-still (suc m) t o p q = (refl, refl)
+
+-- ---- 1, 3, 8
+
+or-false : (b : Bool) → b || false ≡ b
+or-false true = refl
+or-false false = refl
+
+module _ (t : Table) (lits : List ℕ) where
+  pub refuse-1 : soundb t ≡ false → 1 ≡ clauseRefusal t lits
+  unfolding clauseRefusal
+  refuse-1 h = rw h
+
+  pub refuse-literals : (n : ℕ) → soundb t ≡ true → n ≡ literalRefusal t true lits → n ≡ clauseRefusal t lits
+  unfolding clauseRefusal
+  refuse-literals n h e = rw h e
+
+  -- where none of them applies
+  pub record Judged : Type 0 where
+    pub sound : soundb t ≡ true
+    pub inside : outside t true lits ≡ false
+    pub held : unheld t true lits ≡ false
+
+  pub judged : clauseRefusal t lits ≡ 0 → Judged
+  unfolding clauseRefusal
+  judged e =
+      let p = past (not (soundb t)) 1 (literalRefusal t true lits) (omega arith) e in
+      let q = clear t true lits (p .1) in
+      record { sound = not-false (soundb t) (p .0); inside = q .inside; held = q .held }
+
+  tests : List (Bool × ℕ)
+  tests = (not (soundb t), 0) ∷ (ltb 8192 (length lits), 2) ∷ (unheld t true lits, 7) ∷ []
+
+  clause-tests : clauseRefusal t lits ≡ pick (not (soundb t)) 1 (pick (ltb 8192 (length lits)) 3 (pick (unheld t true lits) 8 0))
+  unfolding clauseRefusal literalRefusal outside
+  clause-tests = rw (or-false (ltb 8192 (length lits)))
+
+module _ (f : Format) (t : Table) (lits : List ℕ) (redundant : Bool) (outs room : ℕ) where
+  abbrev outcome : Outcome
+  outcome = simplifyOf f t lits redundant outs room
+
+  -- 12 and 2 come after
+  abbrev later : ℕ
+  later = pick (tooFew t lits) 12 (pick (ltb outs (length (restOf (simplified t lits) t lits)) || ltb room (length (simplifyBytes f t lits redundant))) 2 0)
+
+  first : (n : ℕ) → n ≡ clauseRefusal t lits → (n ≡ 0 → ⊥) → n ≡ simplifyRefusal f t lits redundant outs room
+  unfolding simplifyRefusal tests
+  first n e h = first-some (tests t lits) n later (e ∙ clause-tests t lits) h
+
+  after : clauseRefusal t lits ≡ 0 → simplifyRefusal f t lits redundant outs room ≡ later
+  unfolding simplifyRefusal tests
+  after e = first-none (tests t lits) (clauseRefusal t lits) later (clause-tests t lits) e
+
+  -- ---- an outcome by the sort
+
+  -- the bytes and the accepted call of a clause that is sorted so
+  abbrev pub bytesAs : Simplified → List ℕ
+  bytesAs what = encode f (simplifySteps what redundant (renameLits (holders t) true (restOf what t lits)) (renameLits (holders t) true lits))
+
+  abbrev pub filledAs : Simplified → Outcome
+  filledAs what =
+      record {
+        answer = accepted (simplifiedNumber what ∷ length (restOf what t lits) ∷ pick (flagOf what redundant) 1 0 ∷ length (bytesAs what) ∷ []);
+        table = t;
+        notes = [];
+        words = restOf what t lits;
+        more = [];
+        bytes = bytesAs what;
+      }
+
+  -- 12, then 2 for either slice, then it is filled
+  by-sort : (what : Simplified) (a b d : Bool) → clauseRefusal t lits ≡ 0 → simplified t lits ≡ what → tooFew t lits ≡ a
+      → ltb outs (length (restOf what t lits)) ≡ b → ltb room (length (bytesAs what)) ≡ d → outcome ≡ unless (pick a 12 (pick (b || d) 2 0)) t (filledAs what)
+  unfolding simplifyOf simplifyBytes
+  by-sort what a b d z s p q r =
+      ap (λ (m : ℕ). unless m t (filledAs (simplified t lits))) (after z)
+      ∙ ap (λ (w : Simplified). unless (pick (tooFew t lits) 12 (pick (ltb outs (length (restOf w t lits)) || ltb room (length (bytesAs w))) 2 0)) t (filledAs w)) s
+      ∙ rw (p, q, r)
+
+  pub comes-first : (n : ℕ) → n ≡ clauseRefusal t lits → (n ≡ 0 → ⊥) → outcome ≡ refusal n t
+  unfolding simplifyOf
+  comes-first n e h = unless-some n (simplifyRefusal f t lits redundant outs room) t _ (first n e h) h
+
+  pub comes-12 : (what : Simplified) → clauseRefusal t lits ≡ 0 → simplified t lits ≡ what → tooFew t lits ≡ true → outcome ≡ refusal 12 t
+  unfolding unless
+  comes-12 what z s p = by-sort what true _ _ z s p refl refl
+
+  pub comes-2-words : (what : Simplified) → clauseRefusal t lits ≡ 0 → simplified t lits ≡ what → tooFew t lits ≡ false → outs < length (restOf what t lits) → outcome ≡ refusal 2 t
+  unfolding unless
+  comes-2-words what z s p l = by-sort what false true _ z s p (lt-ltb outs (length (restOf what t lits)) l) refl
+
+  pub comes-2-bytes : (what : Simplified) → clauseRefusal t lits ≡ 0 → simplified t lits ≡ what → tooFew t lits ≡ false → length (restOf what t lits) ≤ outs → ltb room (length (bytesAs what)) ≡ true → outcome ≡ refusal 2 t
+  unfolding unless
+  comes-2-bytes what z s p l q = by-sort what false false true z s p (le-ltb outs (length (restOf what t lits)) l) q
+
+  pub comes-filled : (what : Simplified) → clauseRefusal t lits ≡ 0 → simplified t lits ≡ what → tooFew t lits ≡ false → length (restOf what t lits) ≤ outs → ltb room (length (bytesAs what)) ≡ false → outcome ≡ filledAs what
+  unfolding unless
+  comes-filled what z s p l q = by-sort what false false false z s p (le-ltb outs (length (restOf what t lits)) l) q
+
+  -- the table stays, and nothing is noted
+  pub comes-still : (outcome .table ≡ t) × (outcome .notes ≡ [])
+  unfolding simplifyOf simplifyBytes
+  comes-still = unless-still (simplifyRefusal f t lits redundant outs room) t (filledAs (simplified t lits)) refl refl
+
+-- an outcome's parts, from what it is equal to
+pub parts : (o p : Outcome) (a : Answer) (d b x y : List ℕ) → o ≡ p → a ≡ p .answer → x ≡ sets d 0 (p .words) → y ≡ sets b 0 (p .bytes)
+    → (a ≡ o .answer) × ((x ≡ sets d 0 (o .words)) × (y ≡ sets b 0 (o .bytes)))
+parts o p a d b x y e q u v = (
+  q ∙ sym (ap (λ (k : Outcome). k .answer) e),
+  (u ∙ sym (ap (λ (k : Outcome). sets d 0 (k .words)) e), v ∙ sym (ap (λ (k : Outcome). sets b 0 (k .bytes)) e)),
+)
+
+-- ---- kept
+
+module _ (f : Format) (t : Table) (lits : List ℕ) (redundant : Bool) (room : ℕ) (o : List ℕ) (z : clauseRefusal t lits ≡ 0) (s : simplified t lits ≡ Kept) where
+  none-written : length (bytesAs f t lits redundant (length o) room Kept) ≡ 0
+  none-written = ap length (encode-none f)
+
+  pub kept-short : length o < length lits → outcome f t lits redundant (length o) room ≡ refusal 2 t
+  kept-short l = comes-2-words f t lits redundant (length o) room Kept z s (few-kept t lits s) l
+
+  pub kept-filled : length lits ≤ length o → outcome f t lits redundant (length o) room ≡ filledAs f t lits redundant (length o) room Kept
+  kept-filled l =
+      comes-filled f t lits redundant (length o) room Kept z s (few-kept t lits s) l
+      (le-ltb room (length (bytesAs f t lits redundant (length o) room Kept)) (omega (arith, none-written)))
+
+  pub kept-answer : accepted (0 ∷ length lits ∷ 0 ∷ 0 ∷ []) ≡ filledAs f t lits redundant (length o) room Kept .answer
+  kept-answer = ap (λ (n : ℕ). accepted (0 ∷ length lits ∷ 0 ∷ n ∷ [])) (sym none-written)
+
+-- ---- dropped
+
+-- the bytes of the one delete step
+abbrev dropBytes : Format → Table → List ℕ → DeleteClauseProof → List ℕ
+dropBytes f t lits cause = encode f (clauseSteps (DeleteClause cause) (renameLits (holders t) true lits))
+
+module _ (f : Format) (t : Table) (lits : List ℕ) (redundant : Bool) (cause : DeleteClauseProof) (o x : List ℕ) (z : clauseRefusal t lits ≡ 0) (s : simplified t lits ≡ Dropped) where
+  pub dropped-short : (n : ℕ) (r : Recorded) → r ≡ laid (dropBytes f t lits cause) (length o) → r ≡ W.Refused n → x ≡ sets o 0 (laidBytes (dropBytes f t lits cause) (length o))
+      → ((outs : ℕ) → refused 2 [] ≡ outcome f t lits redundant outs (length o) .answer) × ((outs : ℕ) → x ≡ sets o 0 (outcome f t lits redundant outs (length o) .bytes))
+  dropped-short n r e q u =
+      let w = laid-refused (dropBytes f t lits cause) (length o) n r e q in
+      let k : (outs : ℕ) → outcome f t lits redundant outs (length o) ≡ refusal 2 t = λ outs. comes-2-bytes f t lits redundant outs (length o) Dropped z s (few-dropped t lits s) (omega arith) w in
+      (λ outs. sym (ap (λ (p : Outcome). p .answer) (k outs)), λ outs. filled-refused (dropBytes f t lits cause) o x w u ∙ sym (ap (λ (p : Outcome). sets o 0 (p .bytes)) (k outs)))
+
+  pub dropped-filled : (n : ℕ) (r : Recorded) → r ≡ laid (dropBytes f t lits cause) (length o) → r ≡ W.Done n → x ≡ sets o 0 (laidBytes (dropBytes f t lits cause) (length o))
+      → ((outs : ℕ) → accepted (1 ∷ 0 ∷ 0 ∷ n ∷ []) ≡ outcome f t lits redundant outs (length o) .answer) × ((outs : ℕ) → x ≡ sets o 0 (outcome f t lits redundant outs (length o) .bytes))
+  dropped-filled n r e q u =
+      let w = laid-done (dropBytes f t lits cause) (length o) n r e q in
+      let k : (outs : ℕ) → outcome f t lits redundant outs (length o) ≡ filledAs f t lits redundant outs (length o) Dropped = λ outs. comes-filled f t lits redundant outs (length o) Dropped z s (few-dropped t lits s) (omega arith) (w .0) in
+      (λ outs. ap (λ (m : ℕ). accepted (1 ∷ 0 ∷ 0 ∷ m ∷ [])) (w .1) ∙ sym (ap (λ (p : Outcome). p .answer) (k outs)), λ outs. filled-done (dropBytes f t lits cause) o x (w .0) u ∙ sym (ap (λ (p : Outcome). sets o 0 (p .bytes)) (k outs)))
+
+-- ---- shortened or binary
+
+pub cut-rest : (what : Simplified) (t : Table) (lits : List ℕ) → Cuts what → restOf what t lits ≡ unfalse t lits
+cut-rest Shortened t lits shortened = refl
+cut-rest Binary t lits binary = refl
+
+cut-steps : (what : Simplified) (redundant : Bool) (rest clause : List ℕ) → Cuts what
+    → simplifySteps what redundant rest clause ≡ clauseSteps (AtClause (flagOf what redundant)) rest ++ clauseSteps (DeleteClause (deleteCause redundant simpler)) clause
+cut-steps Shortened redundant rest clause shortened = refl
+cut-steps Binary redundant rest clause binary = refl
+
+-- the bytes of the add step, then those of the delete step
+pub cut-bytes : (f : Format) (what : Simplified) (redundant flag : Bool) (cause : DeleteClauseProof) (rest clause : List ℕ) → Cuts what
+    → encode f (simplifySteps what redundant rest clause) ≡ encode f (clauseSteps (AtClause flag) rest) ++ encode f (clauseSteps (DeleteClause cause) clause)
+cut-bytes f what redundant flag cause rest clause k =
+    ap (encode f) (cut-steps what redundant rest clause k)
+    ∙ encode-append f (clauseSteps (AtClause flag) rest) (clauseSteps (DeleteClause cause) clause)
+
+-- both steps laid where there is room for both
+pub both-short : (f : Format) (what : Simplified) (redundant flag : Bool) (cause : DeleteClauseProof) (rest clause o : List ℕ) (a b : ℕ) → Cuts what
+    → a ≡ length (encode f (clauseSteps (AtClause flag) rest)) → b ≡ length (encode f (clauseSteps (DeleteClause cause) clause)) → length o < a + b
+    → (W.Refused 2 ≡ laid (encode f (simplifySteps what redundant rest clause)) (length o)) × (o ≡ sets o 0 (laidBytes (encode f (simplifySteps what redundant rest clause)) (length o)))
+both-short f what redundant flag cause rest clause o a b k p q l =
+    let e = ap length (cut-bytes f what redundant flag cause rest clause k) in
+    let x = encode f (clauseSteps (AtClause flag) rest) in
+    let y = encode f (clauseSteps (DeleteClause cause) clause) in
+    short-laid (encode f (simplifySteps what redundant rest clause)) o (a + b) (omega (arith, e, length-append x y)) l
+
+pub both-whole : (f : Format) (what : Simplified) (redundant flag : Bool) (cause : DeleteClauseProof) (rest clause o u v : List ℕ) (a b : ℕ) → Cuts what
+    → a ≡ length (encode f (clauseSteps (AtClause flag) rest)) → b ≡ length (encode f (clauseSteps (DeleteClause cause) clause)) → a + b ≤ length o
+    → u ≡ sets o 0 (encode f (clauseSteps (AtClause flag) rest)) → v ≡ sets u a (encode f (clauseSteps (DeleteClause cause) clause))
+    → (W.Done (a + b) ≡ laid (encode f (simplifySteps what redundant rest clause)) (length o)) × (v ≡ sets o 0 (laidBytes (encode f (simplifySteps what redundant rest clause)) (length o)))
+both-whole f what redundant flag cause rest clause o u v a b k p q l m n =
+    let e = cut-bytes f what redundant flag cause rest clause k in
+    let x = encode f (clauseSteps (AtClause flag) rest) in
+    let y = encode f (clauseSteps (DeleteClause cause) clause) in
+    whole-laid (encode f (simplifySteps what redundant rest clause)) o v (a + b) (omega (arith, ap length e, length-append x y)) l
+    (n ∙ ap₂ (λ (w : List ℕ) (i : ℕ). sets w i y) m (p ∙ omega arith) ∙ sym (sets-append x y o 0) ∙ sym (ap (sets o 0) e))
+
+module _ (f : Format) (t : Table) (lits : List ℕ) (redundant : Bool) (outs room : ℕ) (what : Simplified) (z : clauseRefusal t lits ≡ 0) (s : simplified t lits ≡ what) (k : Cuts what) where
+  pub cut-few : length (unfalse t lits) < 2 → outcome f t lits redundant outs room ≡ refusal 12 t
+  cut-few l = comes-12 f t lits redundant outs room what z s (few-cut t lits what s k ∙ lt-ltb (length (unfalse t lits)) 2 l)
+
+  enough : 2 ≤ length (unfalse t lits) → tooFew t lits ≡ false
+  enough l = few-cut t lits what s k ∙ le-ltb (length (unfalse t lits)) 2 l
+
+  pub cut-short-words : 2 ≤ length (unfalse t lits) → outs < length (unfalse t lits) → outcome f t lits redundant outs room ≡ refusal 2 t
+  cut-short-words l h = comes-2-words f t lits redundant outs room what z s (enough l) (subst (λ (r : List ℕ). outs < length r) (sym (cut-rest what t lits k)) h)
+
+  -- the rest and the clause, whose names are read back from buffers
+  module _ (rest clause : List ℕ) (p : rest ≡ renameLits (holders t) true (unfalse t lits)) (q : clause ≡ renameLits (holders t) true lits) where
+    same-bytes : encode f (simplifySteps what redundant rest clause) ≡ bytesAs f t lits redundant outs room what
+    same-bytes =
+        ap₂ (λ (x y : List ℕ). encode f (simplifySteps what redundant x y))
+        (p ∙ ap (renameLits (holders t) true) (sym (cut-rest what t lits k))) q
+
+    pub cut-short-bytes : 2 ≤ length (unfalse t lits) → length (unfalse t lits) ≤ outs → ltb room (length (encode f (simplifySteps what redundant rest clause))) ≡ true
+        → outcome f t lits redundant outs room ≡ refusal 2 t
+    cut-short-bytes l h e =
+        comes-2-bytes f t lits redundant outs room what z s (enough l)
+        (subst (λ (r : List ℕ). length r ≤ outs) (sym (cut-rest what t lits k)) h)
+        (sym (ap (λ (bs : List ℕ). ltb room (length bs)) same-bytes) ∙ e)
+
+    pub cut-filled : 2 ≤ length (unfalse t lits) → length (unfalse t lits) ≤ outs → ltb room (length (encode f (simplifySteps what redundant rest clause))) ≡ false
+        → outcome f t lits redundant outs room ≡ filledAs f t lits redundant outs room what
+    cut-filled l h e =
+        comes-filled f t lits redundant outs room what z s (enough l)
+        (subst (λ (r : List ℕ). length r ≤ outs) (sym (cut-rest what t lits k)) h)
+        (sym (ap (λ (bs : List ℕ). ltb room (length bs)) same-bytes) ∙ e)
+
+-- a global literal needs no holder
+pub unheld-global : (t : Table) (lits : List ℕ) → unheld t false lits ≡ false
+unfolding unheld
+unheld-global t lits = refl
+
+-- ---- names in buffers of 8,192
+
+module _ (t : Table) (lits : List ℕ) (z : clauseRefusal t lits ≡ 0) (o : List ℕ) (e : length o ≡ 8192) where
+  pub room-clause : length lits ≤ length o
+  room-clause = let h = few t true lits (judged t lits z .inside) in omega arith
+
+  pub room-rest : length (unfalse t lits) ≤ length o
+  unfolding unfalse
+  room-rest = let h = room-clause in let k = keep-length (λ c. not (isFalse t c)) lits in omega arith
+
+  -- the rest is judged as the clause is
+  rest-inside : outside t true (unfalse t lits) ≡ false
+  unfolding outside
+  rest-inside = let h = room-rest in or-neither (le-ltb 8192 (length (unfalse t lits)) (omega arith)) refl
+
+  rest-held : unheld t true (unfalse t lits) ≡ false
+  unfolding unheld unfalse
+  rest-held = any-keep (λ c. notHeld t (indexOf c)) (λ c. not (isFalse t c)) lits (judged t lits z .held)
+
+  module _ (m : List ℕ) where
+    pub clause-part : m ≡ sets o 0 (renameLits (holders t) true lits) → take (length lits) m ≡ renameLits (holders t) true lits
+    clause-part q = names-part t true lits o m e (judged t lits z .inside) q
+
+    pub clause-written : m ≡ sets o 0 (renameLits (holders t) true lits) → Written (take (length lits) m)
+    clause-written q =
+        let j = judged t lits z in
+        let w = names-written t true lits o m e (j .inside) q (j .sound) (j .held) in
+        record { codes = w .0; few = w .1 }
+
+    pub rest-part : (k : ℕ) → k ≡ length (unfalse t lits) → m ≡ sets o 0 (renameLits (holders t) true (unfalse t lits)) → take k m ≡ renameLits (holders t) true (unfalse t lits)
+    rest-part k n q = ap (λ (i : ℕ). take i m) n ∙ names-part t true (unfalse t lits) o m e rest-inside q
+
+    pub rest-written : (k : ℕ) → k ≡ length (unfalse t lits) → m ≡ sets o 0 (renameLits (holders t) true (unfalse t lits)) → Written (take k m)
+    rest-written k n q =
+        let w = names-written t true (unfalse t lits) o m e rest-inside q (judged t lits z .sound) rest-held in
+        subst (λ (i : ℕ). Written (take i m)) (sym n) (record { codes = w .0; few = w .1 })
+
+    pub clause-within : m ≡ sets o 0 (renameLits (holders t) true lits) → length lits ≤ length m
+    clause-within q = names-within t true lits o m e (judged t lits z .inside) q
+
+    pub rest-within : (k : ℕ) → k ≡ length (unfalse t lits) → m ≡ sets o 0 (renameLits (holders t) true (unfalse t lits)) → k ≤ length m
+    rest-within k n q = let h = names-within t true (unfalse t lits) o m e rest-inside q in omega arith
+
+answer-is : (what : Simplified) (m n : ℕ) (flag : Bool) (i j : ℕ) (g : Bool) → m ≡ i → n ≡ j → flag ≡ g
+    → accepted (simplifiedNumber what ∷ m ∷ pick flag 1 0 ∷ n ∷ []) ≡ accepted (simplifiedNumber what ∷ i ∷ pick g 1 0 ∷ j ∷ [])
+answer-is what m n flag i j g p q r = λ d. accepted (simplifiedNumber what ∷ p d ∷ pick (r d) 1 0 ∷ q d ∷ [])
+
+-- ---- a clause cut: what the call says, with the slices for words and bytes before (o, b) and after (x, y)
+
+module _ (f : Format) (t : Table) (lits : List ℕ) (redundant : Bool) (what : Simplified) (o b : List ℕ) (z : clauseRefusal t lits ≡ 0) (s : simplified t lits ≡ what) (k : Cuts what) where
+  abbrev comes : Outcome
+  comes = outcome f t lits redundant (length o) (length b)
+
+  abbrev Says : Answer → List ℕ → List ℕ → Type 0
+  Says a x y = (a ≡ comes .answer) × ((x ≡ sets o 0 (comes .words)) × (y ≡ sets b 0 (comes .bytes)))
+
+  pub says-12 : (m : ℕ) → m ≡ length (unfalse t lits) → m < 2 → Says (refused 12 []) o b
+  says-12 m e l =
+      parts comes (refusal 12 t) (refused 12 []) o b o b (cut-few f t lits redundant (length o) (length b) what z s k (omega arith)) refl refl refl
+
+  pub says-2-words : (m : ℕ) → m ≡ length (unfalse t lits) → 2 ≤ m → length o < m → Says (refused 2 []) o b
+  says-2-words m e l h =
+      parts comes (refusal 2 t) (refused 2 []) o b o b (cut-short-words f t lits redundant (length o) (length b) what z s k (omega arith) (omega arith)) refl refl refl
+
+  module _ (rest clause y : List ℕ) (p : rest ≡ renameLits (holders t) true (unfalse t lits)) (q : clause ≡ renameLits (holders t) true lits) (r : Recorded)
+      (e : r ≡ laid (encode f (simplifySteps what redundant rest clause)) (length b)) (u : y ≡ sets b 0 (laidBytes (encode f (simplifySteps what redundant rest clause)) (length b))) where
+    both : List ℕ
+    both = encode f (simplifySteps what redundant rest clause)
+
+    pub says-2-bytes : (m n : ℕ) → m ≡ length (unfalse t lits) → 2 ≤ m → m ≤ length o → r ≡ W.Refused n → Says (refused 2 []) o y
+    unfolding both
+    says-2-bytes m n i l h v =
+        let w = laid-refused both (length b) n r e v in
+        parts comes (refusal 2 t) (refused 2 []) o b o y
+        (cut-short-bytes f t lits redundant (length o) (length b) what z s k rest clause p q (omega arith) (omega arith) w)
+        refl refl (filled-refused both b y w u)
+
+    pub says-done : (m n : ℕ) (flag : Bool) (x : List ℕ) → m ≡ length (unfalse t lits) → 2 ≤ m → m ≤ length o → r ≡ W.Done n → flag ≡ flagOf what redundant
+        → x ≡ sets o 0 (renameLits (holders t) false (unfalse t lits)) → Says (accepted (simplifiedNumber what ∷ m ∷ pick flag 1 0 ∷ n ∷ [])) x y
+    unfolding both
+    says-done m n flag x i l h v g j =
+        let w = laid-done both (length b) n r e v in
+        let c = same-bytes f t lits redundant (length o) (length b) what z s k rest clause p q in
+        let d = cut-rest what t lits k in
+        parts comes (filledAs f t lits redundant (length o) (length b) what) _ o b x y
+        (cut-filled f t lits redundant (length o) (length b) what z s k rest clause p q (omega arith) (omega arith) (w .0))
+        (answer-is what m n flag (length (restOf what t lits)) (length (bytesAs f t lits redundant (length o) (length b) what)) (flagOf what redundant)
+        (i ∙ ap length (sym d)) (w .1 ∙ ap length c) g)
+        (j ∙ ap (sets o 0) (names-given (holders t) (unfalse t lits) ∙ sym d))
+        (filled-done both b y (w .0) u ∙ ap (sets b 0) c)
+
+-- ---- the call
+
+-- where the clause is kept no bytes are filled, and where it is dropped no words
+module _ (f : Format) (t : Table) (lits : List ℕ) (redundant : Bool) (o b : List ℕ) (z : clauseRefusal t lits ≡ 0) where
+  pub kept-bytes : simplified t lits ≡ Kept → b ≡ sets b 0 (outcome f t lits redundant (length o) (length b) .bytes)
+  kept-bytes s = ⊎-elim
+      (λ (l : length o < length lits). sym (ap (λ (p : Outcome). sets b 0 (p .bytes)) (kept-short f t lits redundant (length b) o z s l)))
+      (λ (l : length lits ≤ length o).
+      sym (ap (λ (p : Outcome). sets b 0 (p .bytes)) (kept-filled f t lits redundant (length b) o z s l) ∙ ap (sets b 0) (encode-none f)))
+      (split (length o) (length lits))
+
+  pub dropped-words : simplified t lits ≡ Dropped → o ≡ sets o 0 (outcome f t lits redundant (length o) (length b) .words)
+  dropped-words s = go (ltb (length b) (length (bytesAs f t lits redundant (length o) (length b) Dropped))) refl
+    where
+      go : (d : Bool) → ltb (length b) (length (bytesAs f t lits redundant (length o) (length b) Dropped)) ≡ d → o ≡ sets o 0 (outcome f t lits redundant (length o) (length b) .words)
+      go true e = sym (ap (λ (p : Outcome). sets o 0 (p .words)) (comes-2-bytes f t lits redundant (length o) (length b) Dropped z s (few-dropped t lits s) (omega arith) e))
+      go false e = sym (ap (λ (p : Outcome). sets o 0 (p .words)) (comes-filled f t lits redundant (length o) (length b) Dropped z s (few-dropped t lits s) (omega arith) e))
+
+-- the table that an answer leaves is the one given
+left-same : (r : Reduced) (t : Table) → tableOf (reduced r (t .counts) .counts) (t .globalFromUser) (t .userFromGlobal) (t .solverFromGlobal) (t .globalFromSolver) (t .assignment) (t .records) ≡ t
+left-same (Done what rest flag bytes) t = refl
+left-same (Refused n) t = refl
+
+pub meets : (f : Format) (t : Table) (lits : List ℕ) (redundant : Bool) (outs room : ℕ) (r : Reduced) → reduced r (t .counts) .answer ≡ outcome f t lits redundant outs room .answer
+    → Does (outcome f t lits redundant outs room) (reduced r (t .counts))
+    (tableOf (reduced r (t .counts) .counts) (t .globalFromUser) (t .userFromGlobal) (t .solverFromGlobal) (t .globalFromSolver) (t .assignment) (t .records)) [] []
+unfolding notesWords
+meets f t lits redundant outs room r e =
+    let w = comes-still f t lits redundant outs room in
+    record { answer = e; table = left-same r t ∙ sym (w .0); noted = sym (ap (λ (ns : List Note). sets [] 0 (notesWords ns)) (w .1)) }

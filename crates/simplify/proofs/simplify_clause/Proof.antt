@@ -1,0 +1,97 @@
+use Rattle.simplify.specs.declared.Reduced.the-variants.{Refused}
+use Rattle.simplify.specs.Cuts.{Cuts, shortened, binary}
+use Rattle.simplify.proofs.SimplifyLaws.{comes-first, parts, meets, kept-bytes, dropped-words}
+use lib.ListN.{length}
+use mathlib.Core.Path.{refl, sym, _∙_, subst}
+use borrow.Author.Needs.{needs}
+use Rattle.simplify.proofs.simplify_clause.Statement.{statement}
+use Rattle.simplify.proofs.simplify_clause.Tie as tie
+
+clause-refusal-requires : tie.Need-clause-refusal-requires
+clause-refusal-requires c κs = search needs
+
+returns : tie.Need-returns
+returns c = let e = comes-first (c .before .before .before .before .before .before .before .before .before .before .before .args .f) _ (c .before .before .before .before .before .before .before .before .before .before .before .args .lits .now) (c .before .before .before .before .before .before .before .before .before .before .before .args .redundant) (length (c .before .before .before .before .before .before .before .before .before .before .before .args .out .now)) (length (c .before .before .before .before .before .before .before .before .before .before .before .args .bytes .now)) _ (c .before .clause-refusal .ensures) (c .if1 .taken) in let w = parts _ _ _ (c .before .before .before .before .before .before .before .before .before .before .before .args .out .now) (c .before .before .before .before .before .before .before .before .before .before .before .args .bytes .now) (c .before .before .before .before .before .before .before .before .before .before .before .args .out .now) (c .before .before .before .before .before .before .before .before .before .before .before .args .bytes .now) e refl refl refl in (meets (c .before .before .before .before .before .before .before .before .before .before .before .args .f) _ (c .before .before .before .before .before .before .before .before .before .before .before .args .lits .now) (c .before .before .before .before .before .before .before .before .before .before .before .args .redundant) (length (c .before .before .before .before .before .before .before .before .before .before .before .args .out .now)) (length (c .before .before .before .before .before .before .before .before .before .before .before .args .bytes .now)) (Refused _) (w .0), w .1)
+
+sort-clause-requires : tie.Need-sort-clause-requires
+sort-clause-requires c κs = search needs
+
+enum-told : tie.Need-enum-told
+enum-told c = search needs
+
+keep-clause-requires : tie.Need-keep-clause-requires
+keep-clause-requires c κs = ((sym (c .before .before .before .before .before .clause-refusal .ensures) ∙ (c .before .before .before .before .if1 .left)), (sym (c .before .before .before .sort-clause .ensures) ∙ (c .before .enum-told .given .1)))
+
+enum-told-2 : tie.Need-enum-told-2
+enum-told-2 c = search needs
+
+drop-clause-requires : tie.Need-drop-clause-requires
+drop-clause-requires c κs = ((sym (c .before .before .before .before .before .clause-refusal .ensures) ∙ (c .before .before .before .before .if1 .left)), (sym (c .before .before .before .sort-clause .ensures) ∙ (c .before .enum-told2 .given .1)))
+
+enum-told-3 : tie.Need-enum-told-3
+enum-told-3 c = search needs
+
+shorten-clause-requires : tie.Need-shorten-clause-requires
+shorten-clause-requires c κs = ((sym (c .before .before .before .before .before .before .clause-refusal .ensures) ∙ (c .before .before .before .before .before .if1 .left)), (sym (c .before .before .before .before .sort-clause .ensures), subst Cuts (sym (c .before .before .enum-told3 .given .1)) shortened))
+
+enum-told-4 : tie.Need-enum-told-4
+enum-told-4 c = search needs
+
+shorten-clause-requires-2 : tie.Need-shorten-clause-requires-2
+shorten-clause-requires-2 c κs = ((sym (c .before .before .before .before .before .before .clause-refusal .ensures) ∙ (c .before .before .before .before .before .if1 .left)), (sym (c .before .before .before .before .sort-clause .ensures), subst Cuts (sym (c .before .before .enum-told4 .given .1)) binary))
+
+same-length : tie.Need-same-length
+same-length c = search needs
+
+returns-2 : tie.Need-returns-2
+returns-2 c = (meets (c .before .before .before .before .before .before .before .before .before .before .before .before .before .before .before .before .before .before .args .f) _ (c .before .before .before .before .before .before .before .before .before .before .before .before .before .before .before .before .before .before .args .lits .now) (c .before .before .before .before .before .before .before .before .before .before .before .before .before .before .before .before .before .before .args .redundant) (length (c .before .before .before .before .before .before .before .before .before .before .before .before .before .before .before .before .before .before .args .out .now)) (length (c .before .before .before .before .before .before .before .before .before .before .before .before .before .before .before .before .before .before .args .bytes .now)) (c .before .before .keep-clause .result) ((c .before .before .keep-clause .ensures .0) (c .before .before .before .before .before .before .before .before .before .before .before .before .before .before .before .before .before .before .args .f) (c .before .before .before .before .before .before .before .before .before .before .before .before .before .before .before .before .before .before .args .redundant) (length (c .before .before .before .before .before .before .before .before .before .before .before .before .before .before .before .before .before .before .args .bytes .now))), ((c .before .before .keep-clause .ensures .1) (c .before .before .before .before .before .before .before .before .before .before .before .before .before .before .before .before .before .before .args .f) (c .before .before .before .before .before .before .before .before .before .before .before .before .before .before .before .before .before .before .args .redundant) (length (c .before .before .before .before .before .before .before .before .before .before .before .before .before .before .before .before .before .before .args .bytes .now)), kept-bytes (c .before .before .before .before .before .before .before .before .before .before .before .before .before .before .before .before .before .before .args .f) _ (c .before .before .before .before .before .before .before .before .before .before .before .before .before .before .before .before .before .before .args .lits .now) (c .before .before .before .before .before .before .before .before .before .before .before .before .before .before .before .before .before .before .args .redundant) (c .before .before .before .before .before .before .before .before .before .before .before .before .before .before .before .before .before .before .args .out .now) (c .before .before .before .before .before .before .before .before .before .before .before .before .before .before .before .before .before .before .args .bytes .now) (sym (c .before .before .before .before .before .before .before .before .clause-refusal .ensures) ∙ (c .before .before .before .before .before .before .before .if1 .left)) (sym (c .before .before .before .before .before .before .sort-clause .ensures) ∙ (c .before .before .before .before .enum-told .given .1))))
+
+same-length-2 : tie.Need-same-length-2
+same-length-2 c = search needs
+
+returns-3 : tie.Need-returns-3
+returns-3 c = (meets (c .before .before .before .before .before .before .before .before .before .before .before .before .before .before .before .before .before .before .args .f) _ (c .before .before .before .before .before .before .before .before .before .before .before .before .before .before .before .before .before .before .args .lits .now) (c .before .before .before .before .before .before .before .before .before .before .before .before .before .before .before .before .before .before .args .redundant) (length (c .before .before .before .before .before .before .before .before .before .before .before .before .before .before .before .before .before .before .args .out .now)) (length (c .before .before .before .before .before .before .before .before .before .before .before .before .before .before .before .before .before .before .args .bytes .now)) (c .before .before .drop-clause .result) ((c .before .before .drop-clause .ensures .0) (length (c .before .before .before .before .before .before .before .before .before .before .before .before .before .before .before .before .before .before .args .out .now))), (dropped-words (c .before .before .before .before .before .before .before .before .before .before .before .before .before .before .before .before .before .before .args .f) _ (c .before .before .before .before .before .before .before .before .before .before .before .before .before .before .before .before .before .before .args .lits .now) (c .before .before .before .before .before .before .before .before .before .before .before .before .before .before .before .before .before .before .args .redundant) (c .before .before .before .before .before .before .before .before .before .before .before .before .before .before .before .before .before .before .args .out .now) (c .before .before .before .before .before .before .before .before .before .before .before .before .before .before .before .before .before .before .args .bytes .now) (sym (c .before .before .before .before .before .before .before .before .clause-refusal .ensures) ∙ (c .before .before .before .before .before .before .before .if1 .left)) (sym (c .before .before .before .before .before .before .sort-clause .ensures) ∙ (c .before .before .before .before .enum-told2 .given .1)), (c .before .before .drop-clause .ensures .1) (length (c .before .before .before .before .before .before .before .before .before .before .before .before .before .before .before .before .before .before .args .out .now))))
+
+same-length-3 : tie.Need-same-length-3
+same-length-3 c = search needs
+
+same-length-4 : tie.Need-same-length-4
+same-length-4 c = search needs
+
+returns-4 : tie.Need-returns-4
+returns-4 c = (meets (c .before .before .before .before .before .before .before .before .before .before .before .before .before .before .before .before .before .before .before .before .before .args .f) _ (c .before .before .before .before .before .before .before .before .before .before .before .before .before .before .before .before .before .before .before .before .before .args .lits .now) (c .before .before .before .before .before .before .before .before .before .before .before .before .before .before .before .before .before .before .before .before .before .args .redundant) (length (c .before .before .before .before .before .before .before .before .before .before .before .before .before .before .before .before .before .before .before .before .before .args .out .now)) (length (c .before .before .before .before .before .before .before .before .before .before .before .before .before .before .before .before .before .before .before .before .before .args .bytes .now)) (c .before .before .before .before .shorten-clause .result) (c .before .before .before .before .shorten-clause .ensures .0), (c .before .before .before .before .shorten-clause .ensures .1))
+
+same-length-5 : tie.Need-same-length-5
+same-length-5 c = search needs
+
+same-length-6 : tie.Need-same-length-6
+same-length-6 c = search needs
+
+returns-5 : tie.Need-returns-5
+returns-5 c = (meets (c .before .before .before .before .before .before .before .before .before .before .before .before .before .before .before .before .before .before .before .before .before .args .f) _ (c .before .before .before .before .before .before .before .before .before .before .before .before .before .before .before .before .before .before .before .before .before .args .lits .now) (c .before .before .before .before .before .before .before .before .before .before .before .before .before .before .before .before .before .before .before .before .before .args .redundant) (length (c .before .before .before .before .before .before .before .before .before .before .before .before .before .before .before .before .before .before .before .before .before .args .out .now)) (length (c .before .before .before .before .before .before .before .before .before .before .before .before .before .before .before .before .before .before .before .before .before .args .bytes .now)) (c .before .before .before .before .shorten-clause2 .result) (c .before .before .before .before .shorten-clause2 .ensures .0), (c .before .before .before .before .shorten-clause2 .ensures .1))
+
+pub simplify-clause-spec : {M : Type 1} → statement M
+simplify-clause-spec =
+    tie.close
+    (tie.spec
+    clause-refusal-requires
+    returns
+    sort-clause-requires
+    enum-told
+    keep-clause-requires
+    enum-told-2
+    drop-clause-requires
+    enum-told-3
+    shorten-clause-requires
+    enum-told-4
+    shorten-clause-requires-2
+    same-length
+    returns-2
+    same-length-2
+    returns-3
+    same-length-3
+    same-length-4
+    returns-4
+    same-length-5
+    same-length-6
+    returns-5)

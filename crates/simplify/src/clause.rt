@@ -1,0 +1,115 @@
+// A clause by the values of its literals (closure of `unit_simplify`, src/unit_simplify.rs).
+use scope::Counts;
+use scope::Simplified;
+use steps::rename::rename_lit;
+use table::word_at;
+ghost use mathlib.Core.Path.{_≡_};
+ghost use mathlib.Core.Bool.{true, false};
+ghost use Prim.Native.Nat.{_≤_};
+ghost use lib.ListN.{length};
+ghost use Rattle.base.specs.Bounded.{anyOf};
+ghost use Rattle.base.specs.Lent.{old, new, Fills};
+ghost use Rattle.scope.specs.Sound.{soundb};
+ghost use Rattle.scope.specs.Contract.{given, before};
+ghost use Rattle.scope.specs.Write.{renameLits, holders, unheld};
+ghost use Rattle.scope.specs.Simplify.{unfalse, simplified};
+ghost use Rattle.simplify.specs.Values.{trueBy, falseBy, unfalseBy};
+
+fn is_true(assignment: &[u32], code: u32) -> bool
+    ensures { λ r. ⌜ r ≡ trueBy (old assignment) code ⌝ }
+{
+    word_at(assignment, code / 2) == 2 - code % 2
+}
+
+fn is_false(assignment: &[u32], code: u32) -> bool
+    ensures { λ r. ⌜ r ≡ falseBy (old assignment) code ⌝ }
+{
+    word_at(assignment, code / 2) == 1 + code % 2
+}
+
+fn any_true(assignment: &[u32], lits: &[u32]) -> bool
+    ensures { λ r. ⌜ r ≡ anyOf (trueBy (old assignment)) (old lits) ⌝ }
+{
+    let mut i = 0;
+    while i < lits.len() {
+        if is_true(assignment, lits[i]) {
+            return true;
+        }
+        i += 1;
+    }
+    false
+}
+
+// How many literals are not false.
+fn count_unfalse(assignment: &[u32], lits: &[u32]) -> usize
+    ensures { λ r. ⌜ r ≡ length (unfalseBy (old assignment) (old lits)) ⌝ }
+{
+    let mut k = 0;
+    let mut i = 0;
+    while i < lits.len() {
+        if !is_false(assignment, lits[i]) {
+            k += 1;
+        }
+        i += 1;
+    }
+    k
+}
+
+// A true literal drops the clause; otherwise false literals go. Two left then is binary; where none went, it is kept.
+pub fn sort_clause(
+    c: Counts,
+    gu: &[u32],
+    ug: &[u32],
+    sg: &[u32],
+    gs: &[u32],
+    assignment: &[u32],
+    records: &[u32],
+    lits: &[u32],
+) -> Simplified
+    ensures { λ r. ⌜ r ≡ simplified (before c gu ug sg gs assignment records) (old lits) ⌝ }
+{
+    if any_true(assignment, lits) {
+        return Simplified::Dropped;
+    }
+    let k = count_unfalse(assignment, lits);
+    if lits.len() <= k {
+        return Simplified::Kept;
+    }
+    if k == 2 {
+        return Simplified::Binary;
+    }
+    Simplified::Shortened
+}
+
+// The literals that are not false, from the start of `out`: under global names, or as given.
+pub fn keep_rest(
+    c: Counts,
+    gu: &[u32],
+    ug: &[u32],
+    sg: &[u32],
+    gs: &[u32],
+    assignment: &[u32],
+    records: &[u32],
+    named: bool,
+    lits: &[u32],
+    out: &mut [u32],
+) -> usize
+    requires { ⌜ soundb (given c gu ug sg gs assignment records) ≡ true ⌝ }
+    requires { ⌜ unheld (given c gu ug sg gs assignment records) true (now lits) ≡ false ⌝ }
+    requires { ⌜ length (unfalse (given c gu ug sg gs assignment records) (now lits)) ≤ length (now out) ⌝ }
+    ensures { λ r. ⌜ r ≡ length (unfalse (before c gu ug sg gs assignment records) (old lits)) ⌝ }
+    ensures { λ _. ⌜ Fills out 0
+        (renameLits (holders (before c gu ug sg gs assignment records)) named (unfalse (before c gu ug sg gs assignment records) (old lits))) ⌝ }
+{
+    let mut k = 0;
+    let mut i = 0;
+    while i < lits.len() {
+        let code = lits[i];
+        if !is_false(assignment, code) {
+            out[k] = rename_lit(gs, named, code);
+            k += 1;
+        }
+        i += 1;
+    }
+    k
+}
