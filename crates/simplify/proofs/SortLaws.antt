@@ -7,10 +7,13 @@ use native.Mathlib.Omega.{arith}
 use lib.Dec.{eqb, ltb}
 use lib.ListN.{length}
 use borrow.Author.Tests.{lt-ltb, le-ltb, eq-eqb, ne-eqb}
+use types.Run.{OneOf, miss}
+use denote.Enum.Declared.{tagOf}
 use Rattle.base.specs.Choice.{pick}
 use Rattle.base.specs.Bounded.{anyOf, keepOf}
 use Rattle.scope.specs.declared.Simplified.{Simplified}
 use Rattle.scope.specs.declared.Simplified.the-variants.{Kept, Dropped, Shortened, Binary}
+use Rattle.scope.proofs.Simplified as S
 use Rattle.scope.specs.Table.{Table}
 use Rattle.scope.specs.Simplify.{isTrue, isFalse, unfalse, simplified, simplifiedNumber}
 use Rattle.simplify.specs.Values.{trueBy, falseBy, unfalseBy}
@@ -79,3 +82,10 @@ module _ (t : Table) (lits : List ℕ) where
       go false true d w q c = refl
       go false false d w q shortened = cc
       go false false d w q binary = cc
+
+-- the arm for both
+pub cuts-tag : (w : Simplified) → OneOf (2 ∷ 3 ∷ []) (tagOf S.the-type w) → Cuts w
+cuts-tag Kept h = absurd (miss (2 ∷ 3 ∷ []) 0 tt h)
+cuts-tag Dropped h = absurd (miss (2 ∷ 3 ∷ []) 1 tt h)
+cuts-tag Shortened h = shortened
+cuts-tag Binary h = binary

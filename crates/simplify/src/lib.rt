@@ -298,22 +298,7 @@ pub fn simplify_clause(
             redundant,
             bytes,
         ),
-        Simplified::Shortened => shorten_clause(
-            c,
-            gu,
-            ug,
-            sg,
-            gs,
-            assignment,
-            records,
-            f,
-            what,
-            lits,
-            redundant,
-            out,
-            bytes,
-        ),
-        Simplified::Binary => shorten_clause(
+        Simplified::Shortened | Simplified::Binary => shorten_clause(
             c,
             gu,
             ug,

@@ -1,8 +1,8 @@
 use Rattle.simplify.specs.declared.Reduced.the-variants.{Refused}
-use Rattle.simplify.specs.Cuts.{Cuts, shortened, binary}
+use Rattle.simplify.proofs.SortLaws.{cuts-tag}
 use Rattle.simplify.proofs.SimplifyLaws.{comes-first, parts, meets, kept-bytes, dropped-words}
 use lib.ListN.{length}
-use mathlib.Core.Path.{refl, sym, _∙_, subst}
+use mathlib.Core.Path.{refl, sym, _∙_}
 use borrow.Author.Needs.{needs}
 use Rattle.simplify.proofs.simplify_clause.Statement.{statement}
 use Rattle.simplify.proofs.simplify_clause.Tie as tie
@@ -28,17 +28,8 @@ enum-told-2 c = search needs
 drop-clause-requires : tie.Need-drop-clause-requires
 drop-clause-requires c κs = ((sym (c .before .before .before .before .before .clause-refusal .ensures) ∙ (c .before .before .before .before .if1 .left)), (sym (c .before .before .before .sort-clause .ensures) ∙ (c .before .enum-told2 .given .1)))
 
-enum-told-3 : tie.Need-enum-told-3
-enum-told-3 c = search needs
-
 shorten-clause-requires : tie.Need-shorten-clause-requires
-shorten-clause-requires c κs = ((sym (c .before .before .before .before .before .before .clause-refusal .ensures) ∙ (c .before .before .before .before .before .if1 .left)), (sym (c .before .before .before .before .sort-clause .ensures), subst Cuts (sym (c .before .before .enum-told3 .given .1)) shortened))
-
-enum-told-4 : tie.Need-enum-told-4
-enum-told-4 c = search needs
-
-shorten-clause-requires-2 : tie.Need-shorten-clause-requires-2
-shorten-clause-requires-2 c κs = ((sym (c .before .before .before .before .before .before .clause-refusal .ensures) ∙ (c .before .before .before .before .before .if1 .left)), (sym (c .before .before .before .before .sort-clause .ensures), subst Cuts (sym (c .before .before .enum-told4 .given .1)) binary))
+shorten-clause-requires c κs = ((sym (c .before .before .before .before .before .clause-refusal .ensures) ∙ (c .before .before .before .before .if1 .left)), (sym (c .before .before .before .sort-clause .ensures), cuts-tag _ (c .before .before .match .keys3)))
 
 same-length : tie.Need-same-length
 same-length c = search needs
@@ -59,16 +50,7 @@ same-length-4 : tie.Need-same-length-4
 same-length-4 c = search needs
 
 returns-4 : tie.Need-returns-4
-returns-4 c = (meets (c .before .before .before .before .before .before .before .before .before .before .before .before .before .before .before .before .before .before .before .before .before .args .f) _ (c .before .before .before .before .before .before .before .before .before .before .before .before .before .before .before .before .before .before .before .before .before .args .lits .now) (c .before .before .before .before .before .before .before .before .before .before .before .before .before .before .before .before .before .before .before .before .before .args .redundant) (length (c .before .before .before .before .before .before .before .before .before .before .before .before .before .before .before .before .before .before .before .before .before .args .out .now)) (length (c .before .before .before .before .before .before .before .before .before .before .before .before .before .before .before .before .before .before .before .before .before .args .bytes .now)) (c .before .before .before .before .shorten-clause .result) (c .before .before .before .before .shorten-clause .ensures .0), (c .before .before .before .before .shorten-clause .ensures .1))
-
-same-length-5 : tie.Need-same-length-5
-same-length-5 c = search needs
-
-same-length-6 : tie.Need-same-length-6
-same-length-6 c = search needs
-
-returns-5 : tie.Need-returns-5
-returns-5 c = (meets (c .before .before .before .before .before .before .before .before .before .before .before .before .before .before .before .before .before .before .before .before .before .args .f) _ (c .before .before .before .before .before .before .before .before .before .before .before .before .before .before .before .before .before .before .before .before .before .args .lits .now) (c .before .before .before .before .before .before .before .before .before .before .before .before .before .before .before .before .before .before .before .before .before .args .redundant) (length (c .before .before .before .before .before .before .before .before .before .before .before .before .before .before .before .before .before .before .before .before .before .args .out .now)) (length (c .before .before .before .before .before .before .before .before .before .before .before .before .before .before .before .before .before .before .before .before .before .args .bytes .now)) (c .before .before .before .before .shorten-clause2 .result) (c .before .before .before .before .shorten-clause2 .ensures .0), (c .before .before .before .before .shorten-clause2 .ensures .1))
+returns-4 c = (meets (c .before .before .before .before .before .before .before .before .before .before .before .before .before .before .before .before .before .before .before .before .args .f) _ (c .before .before .before .before .before .before .before .before .before .before .before .before .before .before .before .before .before .before .before .before .args .lits .now) (c .before .before .before .before .before .before .before .before .before .before .before .before .before .before .before .before .before .before .before .before .args .redundant) (length (c .before .before .before .before .before .before .before .before .before .before .before .before .before .before .before .before .before .before .before .before .args .out .now)) (length (c .before .before .before .before .before .before .before .before .before .before .before .before .before .before .before .before .before .before .before .before .args .bytes .now)) (c .before .before .before .before .shorten-clause .result) (c .before .before .before .before .shorten-clause .ensures .0), (c .before .before .before .before .shorten-clause .ensures .1))
 
 pub simplify-clause-spec : {M : Type 1} → statement M
 simplify-clause-spec =
@@ -81,17 +63,11 @@ simplify-clause-spec =
     keep-clause-requires
     enum-told-2
     drop-clause-requires
-    enum-told-3
     shorten-clause-requires
-    enum-told-4
-    shorten-clause-requires-2
     same-length
     returns-2
     same-length-2
     returns-3
     same-length-3
     same-length-4
-    returns-4
-    same-length-5
-    same-length-6
-    returns-5)
+    returns-4)
