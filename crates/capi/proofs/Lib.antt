@@ -1,0 +1,4 @@
+pub mod CodecLaws
+pub mod LineLaws
+pub mod NumberLaws
+pub mod SurfaceLaws

@@ -1,0 +1,65 @@
+use mathlib.Core.Path.{refl, sym, ap, _∙_}
+use lib.ListN.{length}
+use Rattle.scope.specs.Table.{Table, tableOf}
+use Rattle.scope.specs.Outcome.{Outcome}
+use Rattle.capi.specs.Numbers.{asFormat}
+use Rattle.capi.specs.Surface.{countsOf}
+use Rattle.capi.proofs.NumberLaws.{same-given, refused-given}
+use Rattle.capi.proofs.SurfaceLaws.{told-given}
+use Rattle.capi.proofs.CodecLaws.{filled-same}
+use Rattle.capi.proofs.LineLaws.{simplify-is, no-simplify-format}
+use borrow.Author.Needs.{needs}
+use Rattle.capi.proofs.clauses.hz_simplify.Statement.{statement}
+use Rattle.capi.proofs.clauses.hz_simplify.Tie as tie
+
+format-in-requires : tie.Need-format-in-requires
+format-in-requires c κs = search needs
+
+enum-known-f : tie.Need-enum-known-f
+enum-known-f c = search needs
+
+enum-told : tie.Need-enum-told
+enum-told c = search needs
+
+returns : tie.Need-returns
+returns c =
+    let a = c .before .before .before .before .before .before .before .before .before .before .before .before .args in
+    let t : Table = tableOf (countsOf (a .c)) (a .gu .now) (a .ug .now) (a .sg .now) (a .gs .now) (a .assignment .now) (a .records .now) in
+    let e = no-simplify-format (a .format) t (a .lits .now) (a .redundant) (length (a .out .now)) (length (a .bytes .now)) (sym (c .before .before .format-in .ensures) ∙ ap asFormat (c .enum-told .given .1)) in
+    (same-given e refused-given, (filled-same (a .out .now) 0 (ap (λ (o : Outcome). o .words) e) refl, filled-same (a .bytes .now) 0 (ap (λ (o : Outcome). o .bytes) e) refl))
+
+simplify-clause-requires : tie.Need-simplify-clause-requires
+simplify-clause-requires c κs = search needs
+
+reduced-out-requires : tie.Need-reduced-out-requires
+reduced-out-requires c κs = search needs
+
+same-length : tie.Need-same-length
+same-length c = search needs
+
+same-length-2 : tie.Need-same-length-2
+same-length-2 c = search needs
+
+returns-2 : tie.Need-returns-2
+returns-2 c =
+    let a = c .before .before .before .before .before .before .before .before .before .before .before .before .before .before .before .before .before .before .before .before .before .args in
+    let t : Table = tableOf (countsOf (a .c)) (a .gu .now) (a .ug .now) (a .sg .now) (a .gs .now) (a .assignment .now) (a .records .now) in
+    let w = c .before .before .before .before .before .simplify-clause .ensures in
+    let e = simplify-is (a .format) t (a .lits .now) (a .redundant) (length (a .out .now)) (length (a .bytes .now)) (sym (c .before .before .before .before .before .before .before .before .before .before .before .format-in .ensures) ∙ ap asFormat (c .before .before .before .before .before .before .before .before .before .f .given .1)) in (
+      same-given e (told-given (w .0) (c .reduced-out .ensures)),
+      (filled-same (a .out .now) 0 (ap (λ (o : Outcome). o .words) e) (w .1 .0), filled-same (a .bytes .now) 0 (ap (λ (o : Outcome). o .bytes) e) (w .1 .1)),
+    )
+
+pub hz-simplify-spec : {M : Type 1} → statement M
+hz-simplify-spec =
+    tie.close
+    (tie.spec
+    format-in-requires
+    enum-known-f
+    enum-told
+    returns
+    simplify-clause-requires
+    reduced-out-requires
+    same-length
+    same-length-2
+    returns-2)

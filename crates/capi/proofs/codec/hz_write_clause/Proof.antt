@@ -1,0 +1,72 @@
+use mathlib.Core.Path.{refl, sym, ap, _∙_}
+use lib.ListN.{length}
+use Rattle.drat.specs.Writing.{Writing}
+use Rattle.capi.proofs.NumberLaws.{same-answered, refused-answered}
+use Rattle.capi.proofs.CodecLaws.{write-clause-is, no-clause-format, no-clause-kind, filled-same}
+use Rattle.capi.specs.Numbers.{asFormat, asKind}
+use borrow.Author.Needs.{needs}
+use Rattle.capi.proofs.codec.hz_write_clause.Statement.{statement}
+use Rattle.capi.proofs.codec.hz_write_clause.Tie as tie
+
+format-in-requires : tie.Need-format-in-requires
+format-in-requires c κs = search needs
+
+enum-known-f : tie.Need-enum-known-f
+enum-known-f c = search needs
+
+enum-told : tie.Need-enum-told
+enum-told c = search needs
+
+returns : tie.Need-returns
+returns c =
+    let a = c .before .before .before .before .before .args in
+    let e = no-clause-format (a .format) (a .kind) (a .buf .now) (a .a) (a .b) (length (a .out .now)) (a .at) (sym (c .before .before .format-in .ensures) ∙ ap asFormat (c .enum-told .given .1)) in
+    (same-answered (ap (λ (w : Writing). w .answer) e) (refused-answered _ refl), filled-same (a .out .now) (a .at) (ap (λ (w : Writing). w .bytes) e) refl)
+
+kind-in-requires : tie.Need-kind-in-requires
+kind-in-requires c κs = search needs
+
+enum-known-k : tie.Need-enum-known-k
+enum-known-k c = search needs
+
+enum-told-2 : tie.Need-enum-told-2
+enum-told-2 c = search needs
+
+returns-2 : tie.Need-returns-2
+returns-2 c =
+    let a = c .before .before .before .before .before .before .before .before .before .args in
+    let e = no-clause-kind (a .format) (a .kind) (a .buf .now) (a .a) (a .b) (length (a .out .now)) (a .at) (sym (c .before .before .before .before .before .before .format-in .ensures) ∙ ap asFormat (c .before .before .before .before .f .given .1)) (sym (c .before .before .kind-in .ensures) ∙ ap asKind (c .enum-told2 .given .1)) in
+    (same-answered (ap (λ (w : Writing). w .answer) e) (refused-answered _ refl), filled-same (a .out .now) (a .at) (ap (λ (w : Writing). w .bytes) e) refl)
+
+write-clause-requires : tie.Need-write-clause-requires
+write-clause-requires c κs = search needs
+
+wrote-out-requires : tie.Need-wrote-out-requires
+wrote-out-requires c κs = search needs
+
+same-length : tie.Need-same-length
+same-length c = search needs
+
+returns-3 : tie.Need-returns-3
+returns-3 c =
+    let a = c .before .before .before .before .before .before .before .before .before .before .before .before .before .before .before .args in
+    let w = c .before .before .before .write-clause .ensures in
+    let e = write-clause-is (a .format) (a .kind) (a .buf .now) (a .a) (a .b) (length (a .out .now)) (a .at) (sym (c .before .before .before .before .before .before .before .before .before .before .before .before .format-in .ensures) ∙ ap asFormat (c .before .before .before .before .before .before .before .before .before .before .f .given .1)) (sym (c .before .before .before .before .before .before .before .before .kind-in .ensures) ∙ ap asKind (c .before .before .before .before .before .before .k .given .1)) in
+    (same-answered (ap (λ (w : Writing). w .answer) e ∙ sym (w .0)) (c .wrote-out .ensures), filled-same (a .out .now) (a .at) (ap (λ (w : Writing). w .bytes) e) (w .1))
+
+pub hz-write-clause-spec : {M : Type 1} → statement M
+hz-write-clause-spec =
+    tie.close
+    (tie.spec
+    format-in-requires
+    enum-known-f
+    enum-told
+    returns
+    kind-in-requires
+    enum-known-k
+    enum-told-2
+    returns-2
+    write-clause-requires
+    wrote-out-requires
+    same-length
+    returns-3)

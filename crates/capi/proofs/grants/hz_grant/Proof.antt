@@ -1,0 +1,37 @@
+use Rattle.capi.proofs.SurfaceLaws.{told-given}
+use borrow.Author.Needs.{needs}
+use Rattle.capi.proofs.grants.hz_grant.Statement.{statement}
+use Rattle.capi.proofs.grants.hz_grant.Tie as tie
+
+solver-from-global-requires : tie.Need-solver-from-global-requires
+solver-from-global-requires c κs = search needs
+
+granted-out-requires : tie.Need-granted-out-requires
+granted-out-requires c κs = search needs
+
+same-length : tie.Need-same-length
+same-length c = search needs
+
+same-length-2 : tie.Need-same-length-2
+same-length-2 c = search needs
+
+same-length-3 : tie.Need-same-length-3
+same-length-3 c = search needs
+
+same-length-4 : tie.Need-same-length-4
+same-length-4 c = search needs
+
+returns : tie.Need-returns
+returns c = told-given (c .before .before .before .before .before .before .before .before .before .solver-from-global .ensures) (c .granted-out .ensures)
+
+pub hz-grant-spec : {M : Type 1} → statement M
+hz-grant-spec =
+    tie.close
+    (tie.spec
+    solver-from-global-requires
+    granted-out-requires
+    same-length
+    same-length-2
+    same-length-3
+    same-length-4
+    returns)

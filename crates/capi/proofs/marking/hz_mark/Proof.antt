@@ -1,0 +1,46 @@
+use mathlib.Core.Path.{sym, ap, _∙_}
+use Rattle.capi.specs.Numbers.{asMark}
+use Rattle.capi.proofs.NumberLaws.{known-is, unknown-is, same-given, refused-given}
+use Rattle.capi.proofs.SurfaceLaws.{told-given}
+use borrow.Author.Needs.{needs}
+use Rattle.capi.proofs.marking.hz_mark.Statement.{statement}
+use Rattle.capi.proofs.marking.hz_mark.Tie as tie
+
+mark-in-requires : tie.Need-mark-in-requires
+mark-in-requires c κs = search needs
+
+enum-known-m : tie.Need-enum-known-m
+enum-known-m c = search needs
+
+enum-told : tie.Need-enum-told
+enum-told c = search needs
+
+returns : tie.Need-returns
+returns c = same-given (unknown-is _ _ (sym (c .before .before .mark-in .ensures) ∙ ap asMark (c .enum-told .given .1))) refused-given
+
+mark-requires : tie.Need-mark-requires
+mark-requires c κs = search needs
+
+changed-out-requires : tie.Need-changed-out-requires
+changed-out-requires c κs = search needs
+
+same-length : tie.Need-same-length
+same-length c = search needs
+
+returns-2 : tie.Need-returns-2
+returns-2 c =
+    same-given (known-is _ _ (sym (c .before .before .before .before .before .before .before .before .mark-in .ensures) ∙ ap asMark (c .before .before .before .before .before .before .m .given .1)))
+    (told-given (c .before .before .before .mark .ensures) (c .changed-out .ensures))
+
+pub hz-mark-spec : {M : Type 1} → statement M
+hz-mark-spec =
+    tie.close
+    (tie.spec
+    mark-in-requires
+    enum-known-m
+    enum-told
+    returns
+    mark-requires
+    changed-out-requires
+    same-length
+    returns-2)

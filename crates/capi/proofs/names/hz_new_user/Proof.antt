@@ -1,0 +1,37 @@
+use Rattle.capi.proofs.SurfaceLaws.{told-given}
+use borrow.Author.Needs.{needs}
+use Rattle.capi.proofs.names.hz_new_user.Statement.{statement}
+use Rattle.capi.proofs.names.hz_new_user.Tie as tie
+
+new-user-var-requires : tie.Need-new-user-var-requires
+new-user-var-requires c κs = search needs
+
+new-mapped-out-requires : tie.Need-new-mapped-out-requires
+new-mapped-out-requires c κs = search needs
+
+same-length : tie.Need-same-length
+same-length c = search needs
+
+same-length-2 : tie.Need-same-length-2
+same-length-2 c = search needs
+
+same-length-3 : tie.Need-same-length-3
+same-length-3 c = search needs
+
+same-length-4 : tie.Need-same-length-4
+same-length-4 c = search needs
+
+returns : tie.Need-returns
+returns c = told-given (c .before .before .before .before .before .before .before .before .before .new-user-var .ensures) (c .new-mapped-out .ensures)
+
+pub hz-new-user-spec : {M : Type 1} → statement M
+hz-new-user-spec =
+    tie.close
+    (tie.spec
+    new-user-var-requires
+    new-mapped-out-requires
+    same-length
+    same-length-2
+    same-length-3
+    same-length-4
+    returns)

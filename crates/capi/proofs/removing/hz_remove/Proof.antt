@@ -1,0 +1,37 @@
+use Rattle.capi.proofs.SurfaceLaws.{told-given}
+use borrow.Author.Needs.{needs}
+use Rattle.capi.proofs.removing.hz_remove.Statement.{statement}
+use Rattle.capi.proofs.removing.hz_remove.Tie as tie
+
+remove-solver-var-requires : tie.Need-remove-solver-var-requires
+remove-solver-var-requires c κs = search needs
+
+removed-out-requires : tie.Need-removed-out-requires
+removed-out-requires c κs = search needs
+
+same-length : tie.Need-same-length
+same-length c = search needs
+
+same-length-2 : tie.Need-same-length-2
+same-length-2 c = search needs
+
+same-length-3 : tie.Need-same-length-3
+same-length-3 c = search needs
+
+same-length-4 : tie.Need-same-length-4
+same-length-4 c = search needs
+
+returns : tie.Need-returns
+returns c = told-given (c .before .before .before .before .before .before .before .before .before .remove-solver-var .ensures) (c .removed-out .ensures)
+
+pub hz-remove-spec : {M : Type 1} → statement M
+hz-remove-spec =
+    tie.close
+    (tie.spec
+    remove-solver-var-requires
+    removed-out-requires
+    same-length
+    same-length-2
+    same-length-3
+    same-length-4
+    returns)

@@ -1,0 +1,37 @@
+use Rattle.capi.proofs.SurfaceLaws.{told-given}
+use borrow.Author.Needs.{needs}
+use Rattle.capi.proofs.removing.hz_sweep.Statement.{statement}
+use Rattle.capi.proofs.removing.hz_sweep.Tie as tie
+
+sweep-requires : tie.Need-sweep-requires
+sweep-requires c κs = search needs
+
+removed-out-requires : tie.Need-removed-out-requires
+removed-out-requires c κs = search needs
+
+same-length : tie.Need-same-length
+same-length c = search needs
+
+same-length-2 : tie.Need-same-length-2
+same-length-2 c = search needs
+
+same-length-3 : tie.Need-same-length-3
+same-length-3 c = search needs
+
+same-length-4 : tie.Need-same-length-4
+same-length-4 c = search needs
+
+returns : tie.Need-returns
+returns c = told-given (c .before .before .before .before .before .before .before .before .before .sweep .ensures) (c .removed-out .ensures)
+
+pub hz-sweep-spec : {M : Type 1} → statement M
+hz-sweep-spec =
+    tie.close
+    (tie.spec
+    sweep-requires
+    removed-out-requires
+    same-length
+    same-length-2
+    same-length-3
+    same-length-4
+    returns)

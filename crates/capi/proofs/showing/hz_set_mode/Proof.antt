@@ -1,0 +1,58 @@
+use mathlib.Core.Path.{sym, ap, _∙_}
+use Rattle.capi.specs.Numbers.{asMode}
+use Rattle.capi.proofs.NumberLaws.{known-is, unknown-is, same-given, refused-given}
+use Rattle.capi.proofs.SurfaceLaws.{told-given}
+use borrow.Author.Needs.{needs}
+use Rattle.capi.proofs.showing.hz_set_mode.Statement.{statement}
+use Rattle.capi.proofs.showing.hz_set_mode.Tie as tie
+
+mode-in-requires : tie.Need-mode-in-requires
+mode-in-requires c κs = search needs
+
+enum-known-m : tie.Need-enum-known-m
+enum-known-m c = search needs
+
+enum-told : tie.Need-enum-told
+enum-told c = search needs
+
+returns : tie.Need-returns
+returns c = same-given (unknown-is _ _ (sym (c .before .before .mode-in .ensures) ∙ ap asMode (c .enum-told .given .1))) refused-given
+
+set-sampling-mode-requires : tie.Need-set-sampling-mode-requires
+set-sampling-mode-requires c κs = search needs
+
+mode-set-out-requires : tie.Need-mode-set-out-requires
+mode-set-out-requires c κs = search needs
+
+same-length : tie.Need-same-length
+same-length c = search needs
+
+same-length-2 : tie.Need-same-length-2
+same-length-2 c = search needs
+
+same-length-3 : tie.Need-same-length-3
+same-length-3 c = search needs
+
+same-length-4 : tie.Need-same-length-4
+same-length-4 c = search needs
+
+returns-2 : tie.Need-returns-2
+returns-2 c =
+    same-given (known-is _ _ (sym (c .before .before .before .before .before .before .before .before .before .before .before .before .before .before .before .before .before .mode-in .ensures) ∙ ap asMode (c .before .before .before .before .before .before .before .before .before .before .before .before .before .before .before .m .given .1)))
+    (told-given (c .before .before .before .before .before .before .before .before .before .set-sampling-mode .ensures) (c .mode-set-out .ensures))
+
+pub hz-set-mode-spec : {M : Type 1} → statement M
+hz-set-mode-spec =
+    tie.close
+    (tie.spec
+    mode-in-requires
+    enum-known-m
+    enum-told
+    returns
+    set-sampling-mode-requires
+    mode-set-out-requires
+    same-length
+    same-length-2
+    same-length-3
+    same-length-4
+    returns-2)

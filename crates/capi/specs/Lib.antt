@@ -1,0 +1,4 @@
+pub mod Numbers
+pub mod Surface
+pub mod Codec
+pub mod Lines

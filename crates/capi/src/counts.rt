@@ -1,0 +1,47 @@
+// The capacity and the watermarks, in and out.
+use scope::Counts;
+ghost use mathlib.Core.Path.{_≡_};
+ghost use Rattle.scope.specs.Contract.{before};
+ghost use Rattle.scope.specs.Sound.{soundb};
+ghost use Rattle.capi.specs.Surface.{countsOf};
+
+#[repr(C)]
+pub struct HzCounts {
+    pub capacity: u32,
+    pub user: u32,
+    pub global: u32,
+    pub solver: u32,
+}
+
+pub fn counts_out(c: Counts) -> HzCounts
+    ensures { λ r. ⌜ countsOf r ≡ c ⌝ }
+{
+    HzCounts {
+        capacity: c.capacity,
+        user: c.user,
+        global: c.global,
+        solver: c.solver,
+    }
+}
+
+// Whether the table is sound: `soundb`.
+#[no_mangle]
+pub extern "C" fn hz_is_sound(
+    c: HzCounts,
+    gu: &[u32],
+    ug: &[u32],
+    sg: &[u32],
+    gs: &[u32],
+    assignment: &[u32],
+    records: &[u32],
+) -> bool
+    ensures { λ r. ⌜ r ≡ soundb (before (countsOf c) gu ug sg gs assignment records) ⌝ }
+{
+    let d = Counts {
+        capacity: c.capacity,
+        user: c.user,
+        global: c.global,
+        solver: c.solver,
+    };
+    table::is_sound(d, gu, ug, sg, gs, assignment, records)
+}

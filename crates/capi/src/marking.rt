@@ -1,0 +1,87 @@
+// Marks and Assign.
+use crate::counts::HzCounts;
+use crate::counts::counts_out;
+use crate::numbers::MarkNumber;
+use crate::numbers::mark_in;
+use crate::opening::HzChanged;
+use marks::Changed;
+use scope::Counts;
+use scope::Solver;
+ghost use mathlib.Core.List.{[]};
+ghost use Rattle.scope.specs.Contract.{quiet};
+ghost use Rattle.scope.specs.Marks.{markOf, assignOf};
+ghost use Rattle.marks.specs.Answers.{changed};
+ghost use Rattle.capi.specs.Numbers.{forKnown, markAt};
+ghost use Rattle.capi.specs.Surface.{countsOf, Told, Gives};
+
+fn changed_out(r: Changed, c: Counts) -> HzChanged
+    ensures { λ o. ⌜ Told (changed r c) (o .refusal) ([]) (countsOf (o .counts)) ⌝ }
+{
+    match r {
+        Changed::Done => HzChanged {
+            refusal: 0,
+            counts: counts_out(c),
+        },
+        Changed::Refused(n) => HzChanged {
+            refusal: n,
+            counts: counts_out(c),
+        },
+    }
+}
+
+// Marks (1, 8): `markOf`.
+#[no_mangle]
+pub extern "C" fn hz_mark(
+    c: HzCounts,
+    gu: &[u32],
+    ug: &[u32],
+    sg: &[u32],
+    gs: &[u32],
+    assignment: &[u32],
+    records: &mut [u32],
+    mark: u32,
+    solver: u32,
+) -> HzChanged
+    ensures { λ r. ⌜ Gives (λ t room. forKnown (markAt mark) t (λ m. markOf t m solver)) (r .refusal) [] (countsOf (r .counts))
+        (quiet (countsOf c) gu ug sg gs assignment records) ⌝ }
+{
+    let MarkNumber::Known(m) = mark_in(mark) else {
+        return HzChanged {
+            refusal: 0xffffffff,
+            counts: c,
+        };
+    };
+    let d = Counts {
+        capacity: c.capacity,
+        user: c.user,
+        global: c.global,
+        solver: c.solver,
+    };
+    let r = marks::mark(d, gu, ug, sg, gs, assignment, records, m, Solver(solver));
+    changed_out(r, d)
+}
+
+// Assign (1, 8, 9): `assignOf`.
+#[no_mangle]
+pub extern "C" fn hz_assign(
+    c: HzCounts,
+    gu: &[u32],
+    ug: &[u32],
+    sg: &[u32],
+    gs: &[u32],
+    assignment: &mut [u32],
+    records: &[u32],
+    lit: u32,
+) -> HzChanged
+    ensures { λ r. ⌜ Gives (λ t room. assignOf t lit) (r .refusal) ([]) (countsOf (r .counts))
+        (quiet (countsOf c) gu ug sg gs assignment records) ⌝ }
+{
+    let d = Counts {
+        capacity: c.capacity,
+        user: c.user,
+        global: c.global,
+        solver: c.solver,
+    };
+    let r = marks::assign_lit(d, gu, ug, sg, gs, assignment, records, lit);
+    changed_out(r, d)
+}

@@ -1,0 +1,260 @@
+/*
+ * Hintzobar: variable names, notes and DRAT proof lines (document 01), for C and Rust.
+ * Built by `rt staticlib capi`, which writes target/staticlib/libcapi.a.
+ *
+ * The caller owns all memory. A table is an hz_counts and six lists of `capacity` words, lent in this order:
+ *     gu, ug        global from user, user from global      (0 for none, else index + 1)
+ *     sg, gs        solver from global, global from solver  (the same)
+ *     assignment    a word for each solver index: 0 none, 1 false, 2 true
+ *     records       a word for each global: mode (0 Sample, 1 Witness, 2 Hide) + 3 * unit + 9 if isolated + 18 if assumed + 36 if deleted
+ * A list is a pointer and its length in elements. A pointer is aligned and not null, also where the length is 0, and a list that a call may
+ * change overlaps no other list lent to it.
+ * An index, a literal code (2 * index, plus 1 if negative) and a length may be any number, and a list may hold any words.
+ *
+ * Every answer begins with `refusal`: 0 if the call was accepted, else one of the numbers below. A refused call changes no memory, its
+ * counts are those given, and its other fields are 0 unless said otherwise. After an accepted call the table is the same six lists with
+ * the counts that came back. A note is three words: kind (0 U, 1 S, 2 D, 3 C), global, and last index + 1 or 0, or 1 or 0 for C.
+ */
+#ifndef HINTZOBAR_H
+#define HINTZOBAR_H
+
+#include <stdbool.h>
+#include <stddef.h>
+#include <stdint.h>
+
+#ifdef __cplusplus
+extern "C" {
+#endif
+
+enum hz_refusal {
+    HZ_ACCEPTED = 0,
+    HZ_UNSOUND = 1,          /* the table is not sound */
+    HZ_SHORT = 2,            /* a lent output is shorter than this call fills */
+    HZ_OUT_OF_RANGE = 3,     /* an index at or above its bound, or more than 8,192 literals */
+    HZ_NOT_SAMPLED = 4,      /* sampling is required and a global is not Sample */
+    HZ_NO_ROOM = 5,          /* more users to map than there are free globals */
+    HZ_DELETED = 6,          /* the global is deleted */
+    HZ_ASSUMED = 7,          /* the global is assumed */
+    HZ_NOT_HELD = 8,         /* no global holds the solver index */
+    HZ_HAS_VALUE = 9,        /* the solver index has a value */
+    HZ_BAD_SIZE = 10,        /* the capacity is not 1 to 4,096, or a list has another length */
+    HZ_NOT_IN_DRAT = 11,     /* DRAT lacks this kind of step */
+    HZ_FEW_UNKNOWN = 12,     /* no literal is true, some are false, and fewer than two are unknown */
+    HZ_BROKEN_PROOF = 13,    /* a step is not whole */
+    HZ_UNMATCHED = 14        /* units and hashes differ in number */
+};
+
+/* A number for a mode, a mark, a format, a step kind or a cause that stands for none. Nothing is done. */
+#define HZ_UNKNOWN UINT32_C(0xFFFFFFFF)
+
+enum hz_mode { HZ_SAMPLE = 0, HZ_WITNESS = 1, HZ_HIDE = 2 };
+enum hz_mark { HZ_USED = 0, HZ_ASSUME = 1, HZ_RELEASE = 2 };
+enum hz_format { HZ_TEXT = 0, HZ_BINARY = 1 };
+enum hz_cause { HZ_REDUNDANT = 0, HZ_SATISFIED = 1, HZ_SIMPLIFIED = 2 };
+enum hz_made { HZ_KEPT = 0, HZ_DROPPED = 1, HZ_SHORTENED = 2, HZ_MADE_BINARY = 3 };
+
+/* The kinds of step, with what each carries of its own. A name is its index + 1, or 0 where it is withdrawn. */
+enum hz_kind {
+    HZ_ADD_CLAUSE = 0,
+    HZ_AT_CLAUSE = 1,             /* a: 0, or another number if redundant */
+    HZ_UNIT_CLAUSES = 2,
+    HZ_DELETE_CLAUSE = 3,         /* a: the cause */
+    HZ_MODEL = 4,
+    HZ_ASSUMPTIONS = 5,
+    HZ_FAILED_ASSUMPTIONS = 6,
+    HZ_SOLVER_VAR_NAME = 7,       /* a: the global, b: the name */
+    HZ_USER_VAR_NAME = 8,         /* a: the global, b: the name */
+    HZ_DELETE_VAR = 9,            /* a: the global */
+    HZ_CHANGE_SAMPLING_MODE = 10, /* a: the global, b: 0, or another number if Sample */
+    HZ_CHANGE_HASH_BITS = 11,     /* a: the bits */
+    HZ_END = 12
+};
+
+/* The capacity and the three watermarks. */
+typedef struct {
+    uint32_t capacity, user, global, solver;
+} hz_counts;
+
+typedef struct {
+    uint32_t kind, a, b;
+} hz_step;
+
+/* ---- answers */
+
+typedef struct {
+    uint32_t refusal;
+    hz_counts counts;
+} hz_changed;
+
+typedef struct {
+    uint32_t refusal;
+    hz_counts counts;
+    uint32_t notes; /* how many notes were filled, here and below */
+} hz_noted;
+
+typedef struct {
+    uint32_t refusal;
+    bool found;
+    uint32_t value; /* 0 where nothing is found */
+} hz_found;
+
+typedef struct {
+    uint32_t refusal;
+    hz_counts counts;
+    uint32_t global;
+    uint32_t notes;
+} hz_mapped;
+
+typedef struct {
+    uint32_t refusal;
+    hz_counts counts;
+    uint32_t user;
+    uint32_t global;
+    uint32_t notes;
+} hz_new_mapped;
+
+typedef struct {
+    uint32_t refusal;
+    hz_counts counts;
+    uint32_t solver;
+    uint32_t notes;
+} hz_granted;
+
+typedef struct {
+    uint32_t refusal;
+    hz_counts counts;
+    bool granted; /* whether a user was granted */
+    uint32_t user;
+    uint32_t notes;
+} hz_mode_set;
+
+/* Pose, Observe: how many literals, or users, were filled. */
+typedef struct {
+    uint32_t refusal;
+    hz_counts counts;
+    uint32_t filled;
+    uint32_t notes;
+} hz_posed;
+
+typedef struct {
+    uint32_t refusal;
+    uint32_t made; /* enum hz_made */
+    size_t lits;
+    bool redundant; /* the add step's flag */
+    size_t bytes;
+} hz_simplified;
+
+typedef struct {
+    uint32_t refusal;
+    hz_step step; /* as given */
+    size_t lits;
+    size_t hashes;
+} hz_renamed;
+
+typedef struct {
+    uint32_t refusal;
+    size_t bytes;
+} hz_written;
+
+typedef struct {
+    uint32_t refusal;
+    uint32_t globals;
+    uint32_t users;
+} hz_modelled;
+
+/* With refusal 13, `place` is the start of the first step that is not whole. */
+typedef struct {
+    uint32_t refusal;
+    size_t place;
+    size_t lits;
+    size_t steps;
+} hz_reading;
+
+/* The first step is the first `length` bytes. */
+typedef struct {
+    uint32_t refusal;
+    size_t place;
+    size_t length;
+} hz_first;
+
+/* The table as every call takes it: to be changed, and only read. */
+#define HZ_TABLE                                                                                             \
+    uint32_t *gu, size_t gu_len, uint32_t *ug, size_t ug_len, uint32_t *sg, size_t sg_len, uint32_t *gs,     \
+        size_t gs_len, uint32_t *assignment, size_t assignment_len, uint32_t *records, size_t records_len
+#define HZ_TABLE_CONST                                                                                       \
+    const uint32_t *gu, size_t gu_len, const uint32_t *ug, size_t ug_len, const uint32_t *sg, size_t sg_len, \
+        const uint32_t *gs, size_t gs_len, const uint32_t *assignment, size_t assignment_len,                \
+        const uint32_t *records, size_t records_len
+#define HZ_NOTES uint32_t *notes, size_t notes_len
+
+/* ---- the table: Open (10); whether it is sound; Lookup (1) */
+
+hz_changed hz_open(uint32_t capacity, HZ_TABLE);
+bool hz_is_sound(hz_counts c, HZ_TABLE_CONST);
+
+hz_found hz_global_from_user(hz_counts c, HZ_TABLE_CONST, uint32_t user);
+hz_found hz_user_from_global(hz_counts c, HZ_TABLE_CONST, uint32_t global);
+hz_found hz_solver_from_global(hz_counts c, HZ_TABLE_CONST, uint32_t global);
+hz_found hz_global_from_solver(hz_counts c, HZ_TABLE_CONST, uint32_t solver);
+hz_found hz_record(hz_counts c, HZ_TABLE_CONST, uint32_t global);
+hz_found hz_assignment(hz_counts c, HZ_TABLE_CONST, uint32_t solver);
+
+/* ---- names */
+
+/* Map a user: 1, 3, 4, 5, 2. New user: 1, 5, 2. */
+hz_mapped hz_map(hz_counts c, HZ_TABLE, uint32_t user, bool sampling, HZ_NOTES);
+hz_new_mapped hz_new_user(hz_counts c, HZ_TABLE, HZ_NOTES);
+
+/* Pose user literals; their solver literals are filled into `out`: 1, 3, 4, 5, 2. */
+hz_posed hz_pose(hz_counts c, HZ_TABLE, const uint32_t *lits, size_t lits_len, bool sampling, uint32_t *out, size_t out_len,
+                 HZ_NOTES);
+
+/* Grant a solver index: 1, 3, 6, 2. */
+hz_granted hz_grant(hz_counts c, HZ_TABLE, uint32_t global, HZ_NOTES);
+
+/* Set mode: 1, 3, 6, 7, 2. Observe; the users are filled into `out`: 1, 7, 2. */
+hz_mode_set hz_set_mode(hz_counts c, HZ_TABLE, uint32_t global, uint32_t mode, HZ_NOTES);
+hz_posed hz_observe(hz_counts c, HZ_TABLE, uint32_t *out, size_t out_len, HZ_NOTES);
+
+/* Marks: 1, 8. Assign a solver literal: 1, 8, 9. */
+hz_changed hz_mark(hz_counts c, HZ_TABLE, uint32_t mark, uint32_t solver);
+hz_changed hz_assign(hz_counts c, HZ_TABLE, uint32_t lit);
+
+/* Remove a solver index: 1, 8, 2. Sweep: 1, 2. */
+hz_noted hz_remove(hz_counts c, HZ_TABLE, uint32_t solver, HZ_NOTES);
+hz_noted hz_sweep(hz_counts c, HZ_TABLE, HZ_NOTES);
+
+/* ---- proof lines */
+
+/* Simplify a clause of solver literals; the rest is filled into `out`, the steps' bytes into `proof`: 1, 3, 8, 12, 2. */
+hz_simplified hz_simplify(hz_counts c, HZ_TABLE_CONST, uint32_t format, const uint32_t *lits, size_t lits_len, bool redundant,
+                          uint32_t *out, size_t out_len, uint8_t *proof, size_t proof_len);
+
+/* Rename a step's literals, which are solver literals if `solver_vars`, else global ones: 1, 14, 3, 8, 2. */
+hz_renamed hz_rename(hz_counts c, HZ_TABLE_CONST, hz_step step, bool solver_vars, const uint32_t *lits, size_t lits_len,
+                     const uint64_t *hashes, size_t hashes_len, uint32_t *out, size_t out_len, uint64_t *hash_out,
+                     size_t hash_out_len);
+
+/* Write a step: 1, 14, 3, 8, 11, 2. */
+hz_written hz_write(hz_counts c, HZ_TABLE_CONST, uint32_t format, hz_step step, bool solver_vars, const uint32_t *lits,
+                    size_t lits_len, const uint64_t *hashes, size_t hashes_len, uint8_t *proof, size_t proof_len);
+
+/* Write one clause of global literals from lits[a..b] at proof[at..], an add or with `kind` 1 a delete, with no table: 3, 2. The answer's
+ * `bytes` is the place after it. */
+hz_written hz_write_clause(uint32_t format, uint32_t kind, const uint32_t *lits, size_t lits_len, size_t a, size_t b, uint8_t *proof,
+                           size_t proof_len, size_t at);
+
+/* Read a proof: literal codes, each step's end among them, and kinds (0 add, 1 delete): 13, 2. The first step alone: 13. */
+hz_reading hz_read(uint32_t format, const uint8_t *bytes, size_t bytes_len, uint32_t *codes, size_t codes_len, uint64_t *ends,
+                   size_t ends_len, uint8_t *kinds, size_t kinds_len);
+hz_first hz_first_step(uint32_t format, const uint8_t *bytes, size_t bytes_len);
+
+/* ---- the model: a word for each global below its watermark, and the user literals: 1, 2 */
+
+hz_modelled hz_model(hz_counts c, HZ_TABLE_CONST, uint32_t *globals, size_t globals_len, uint32_t *users, size_t users_len);
+
+#ifdef __cplusplus
+}
+#endif
+
+#endif

@@ -1,0 +1,61 @@
+//! Compares document 01's calls: varisat's own functions, a plain reading of the document, and the proved library.
+use std::{env, panic, process, time::Instant};
+
+use oracle::{compare::Tally, random::Rng, reachable, run};
+
+const USAGE: &str = "usage: oracle sample [SEED]        about a minute of everything
+       oracle calls N [SEED]       N calls in random sessions
+       oracle reachable            every reachable table of capacity 1 and 2, every table of capacity 1";
+
+fn sample(seed: u64, tally: &mut Tally) -> run::Verdict<()> {
+    let mut rng = Rng::new(seed);
+    let tables = reachable::walk(1, 1, tally).map_err(run::told)?;
+    println!("capacity 1: {} reachable tables", tables);
+    run::sessions(&mut rng, 400_000, tally)?;
+    let unsound = run::damaged(&mut rng, 20_000, tally)?;
+    println!("20000 damaged tables, {} of them unsound", unsound);
+    let opened = run::opens(&mut rng, 2_000)?;
+    println!("2000 Opens, {} accepted", opened);
+    let by = run::proofs(&mut rng, 100_000)?;
+    println!("100000 proofs read: {} whole, {} with too little room, {} broken", by[0], by[1], by[2]);
+    Ok(())
+}
+
+fn reachable(tally: &mut Tally) -> run::Verdict<()> {
+    let sound = reachable::tables_of_one(tally).map_err(run::told)?;
+    println!("capacity 1: {} sound tables", sound);
+    for capacity in 1..=2 {
+        let tables = reachable::walk(capacity, 16, tally).map_err(run::told)?;
+        println!("capacity {}: {} reachable tables", capacity, tables);
+    }
+    Ok(())
+}
+
+fn main() {
+    // panics of varisat's functions are caught and judged
+    panic::set_hook(Box::new(|_| ()));
+    let args: Vec<String> = env::args().skip(1).collect();
+    let number = |i: usize| args.get(i).and_then(|arg| arg.parse().ok());
+    let began = Instant::now();
+    let mut tally = Tally::default();
+    let verdict = match args.first().map(String::as_str) {
+        Some("sample") => sample(number(1).unwrap_or(1), &mut tally),
+        Some("calls") => run::sessions(&mut Rng::new(number(2).unwrap_or(1)), number(1).unwrap_or(1_000_000), &mut tally),
+        Some("reachable") => reachable(&mut tally),
+        _ => {
+            eprintln!("{}", USAGE);
+            process::exit(2);
+        }
+    };
+    tally.print();
+    println!("{} sessions, {} clause steps read back", tally.sessions, tally.steps_read);
+    println!("{} calls, {} of them answered by varisat too, {} panics of varisat on refused calls", tally.calls, tally.compared, tally.panics);
+    let sides = if cfg!(feature = "library") { "document 01, varisat and the library" } else { "document 01 and varisat" };
+    match verdict {
+        Ok(()) => println!("{} agree: 0 disagreements ({:.0} s)", sides, began.elapsed().as_secs_f64()),
+        Err(what) => {
+            println!("DISAGREEMENT\n{}", what);
+            process::exit(1);
+        }
+    }
+}

@@ -1,0 +1,172 @@
+//! The runs: random sessions, damaged tables, memory to open, and proofs to read.
+use crate::call::Format;
+use crate::compare::{random_session, Disagreement, Session, Tally};
+use crate::random::{self, Rng, Style};
+use crate::reading::{drat, names, Table};
+
+/// A disagreement, told.
+pub type Verdict<T> = Result<T, String>;
+
+pub fn told(d: Box<Disagreement>) -> String {
+    d.to_string()
+}
+
+fn capacity(rng: &mut Rng) -> u32 {
+    match rng.below(80) {
+        0 => 4096,
+        1..=5 => 64,
+        n => 1 + n as u32 % 12,
+    }
+}
+
+/// Random sessions until so many calls were made, one in four from a random sound table.
+pub fn sessions(rng: &mut Rng, calls: u64, tally: &mut Tally) -> Verdict<()> {
+    let until = tally.calls + calls;
+    while tally.calls < until {
+        let capacity = capacity(rng);
+        let from = rng.one_in(4).then(|| random::sound_table(rng, capacity));
+        let length = (20 + rng.below(200)).min(until - tally.calls);
+        random_session(rng, from.as_ref(), capacity, length, tally).map_err(told)?;
+    }
+    Ok(())
+}
+
+/// Tables with one thing changed, so that most are unsound: a few calls on each.
+pub fn damaged(rng: &mut Rng, tables: u64, tally: &mut Tally) -> Verdict<u64> {
+    let mut unsound = 0;
+    for _ in 0..tables {
+        let capacity = if rng.one_in(50) { capacity(rng) } else { 1 + rng.below(12) as u32 };
+        let table = random::sound_table(rng, capacity);
+        let damaged = random::damaged(rng, &table);
+        unsound += !damaged.is_sound() as u64;
+        soundness(&damaged)?;
+        // the calls are drawn for the sound table, so that only the damage refuses them
+        let style = Style::draw(rng, capacity);
+        for _ in 0..3 {
+            let call = random::call(rng, Format::Text, &table, &style);
+            Session::load(Format::Text, &damaged).call(&call, tally).map_err(told)?;
+        }
+    }
+    Ok(unsound)
+}
+
+/// Open in memory of any size and content.
+pub fn opens(rng: &mut Rng, times: u64) -> Verdict<u64> {
+    let mut accepted = 0;
+    for _ in 0..times {
+        let capacity = capacity(rng);
+        let table = random::sound_table(rng, capacity);
+        let memory = if rng.flag() { table } else { random::damaged(rng, &table) };
+        let want = names::open(&memory);
+        accepted += (want.refusal == 0) as u64;
+        open_in(&memory, &want)?;
+    }
+    Ok(accepted)
+}
+
+/// Proofs: whole ones, cut ones, and ones with a byte changed.
+pub fn proofs(rng: &mut Rng, times: u64) -> Verdict<[u64; 3]> {
+    let mut by = [0; 3];
+    for _ in 0..times {
+        let format = if rng.flag() { Format::Text } else { Format::Binary };
+        let bytes = proof(rng, format);
+        let full = drat::read_call(format, &bytes, [usize::MAX; 3]);
+        let mut rooms = [full.codes.len(), full.ends.len(), full.kinds.len()];
+        for room in &mut rooms {
+            if rng.one_in(3) {
+                *room += rng.index(3);
+            } else if rng.one_in(12) {
+                *room = room.saturating_sub(1);
+            }
+        }
+        let want = drat::read_call(format, &bytes, rooms);
+        by[[0, 2, 13].iter().position(|&n| n == want.refusal).unwrap()] += 1;
+        read_of(format, &bytes, rooms, &want)?;
+    }
+    Ok(by)
+}
+
+fn proof(rng: &mut Rng, format: Format) -> Vec<u8> {
+    let top = [2, 20, 200, 8192][rng.index(4)];
+    let steps: Vec<drat::Clause> = (0..rng.index(6))
+        .map(|_| {
+            let lits = (0..rng.index(7)).map(|_| rng.below(top) as u32).collect();
+            drat::Clause { delete: rng.flag(), lits }
+        })
+        .collect();
+    let mut bytes = drat::encode(format, &steps);
+    match rng.below(6) {
+        0 => bytes.truncate(rng.index(bytes.len() + 1)),
+        1 | 2 if !bytes.is_empty() => {
+            let at = rng.index(bytes.len());
+            bytes[at] = odd_byte(rng);
+        }
+        3 => {
+            let at = rng.index(bytes.len() + 1);
+            bytes.insert(at, odd_byte(rng));
+        }
+        4 if rng.one_in(3) => bytes = (0..rng.index(12)).map(|_| odd_byte(rng)).collect(),
+        _ => (),
+    }
+    bytes
+}
+
+fn odd_byte(rng: &mut Rng) -> u8 {
+    if rng.one_in(4) {
+        return rng.next() as u8;
+    }
+    rng.of(b"0123456789- \n\rda+\t\x00\x01\x02\x7f\x80\x81\xff\x40")
+}
+
+// ---- the library's part
+
+#[cfg(feature = "library")]
+use crate::library;
+
+#[cfg(feature = "library")]
+fn soundness(table: &Table) -> Verdict<()> {
+    let (want, got) = (table.is_sound(), library::Library::load(Format::Text, table).is_sound());
+    if want != got {
+        return Err(format!("sound by document 01: {}, by the library: {}; {:?}", want, got, table));
+    }
+    Ok(())
+}
+
+#[cfg(feature = "library")]
+fn open_in(memory: &Table, want: &crate::reading::Outcome) -> Verdict<()> {
+    let got = library::Library::open(memory);
+    if got.refusal != want.refusal || got.table.lists() != want.table.lists() {
+        return Err(format!("Open of {:?}\n document 01: {:?}\n the library: {:?}", memory, want, got));
+    }
+    Ok(())
+}
+
+#[cfg(feature = "library")]
+fn read_of(format: Format, bytes: &[u8], rooms: [usize; 3], want: &drat::Filled) -> Verdict<()> {
+    let got = library::read(format, bytes, rooms)?;
+    if &got != want {
+        return Err(format!("Read of {:?} {:?}\n document 01: {:?}\n the library: {:?}", format, bytes, want, got));
+    }
+    let want = drat::first_step(format, bytes).map(|(_, length)| length).ok_or(0);
+    let got = library::first_step(format, bytes);
+    if got != want {
+        return Err(format!("the first step of {:?} {:?}: {:?}, the library: {:?}", format, bytes, want, got));
+    }
+    Ok(())
+}
+
+#[cfg(not(feature = "library"))]
+fn soundness(_table: &Table) -> Verdict<()> {
+    Ok(())
+}
+
+#[cfg(not(feature = "library"))]
+fn open_in(_memory: &Table, _want: &crate::reading::Outcome) -> Verdict<()> {
+    Ok(())
+}
+
+#[cfg(not(feature = "library"))]
+fn read_of(_format: Format, _bytes: &[u8], _rooms: [usize; 3], _want: &drat::Filled) -> Verdict<()> {
+    Ok(())
+}
+

@@ -1,0 +1,18 @@
+//! Links the static library that `rt staticlib capi` writes: from the folder $HINTZOBAR_LIB, or else target/staticlib of the repository.
+use std::{env, path::PathBuf};
+
+fn main() {
+    println!("cargo:rerun-if-env-changed=HINTZOBAR_LIB");
+    let here = PathBuf::from(env::var("CARGO_MANIFEST_DIR").unwrap());
+    let folder = match env::var("HINTZOBAR_LIB") {
+        Ok(folder) => PathBuf::from(folder),
+        Err(_) => here.join("../target/staticlib"),
+    };
+    let archive = folder.join("libcapi.a");
+    println!("cargo:rerun-if-changed={}", archive.display());
+    if !archive.exists() {
+        println!("cargo:warning={} is not there: run `rt staticlib capi` in the repository first", archive.display());
+    }
+    println!("cargo:rustc-link-search=native={}", folder.display());
+    println!("cargo:rustc-link-lib=static=capi");
+}

@@ -1,0 +1,33 @@
+//! Variable names, notes and DRAT proof lines, over a static library whose every call is proved to do what document 01 says.
+//!
+//! A [`Table`] gives variables three sorts of name: [`User`] indices for intake, [`Global`] indices for the proof, [`Solver`] indices for the
+//! search. Each call on it answers a value or a [`Refusal`]; no argument and no table makes one panic, and a refused call changes nothing.
+//! What a call did to names it says in [`Notes`]; what it proved it writes as DRAT, in either [`Format`].
+//!
+//! ```
+//! use hintzobar::{Format, Lit, Lits, Step, Table, User};
+//!
+//! let mut table = Table::open(16)?;
+//! let mut notes = table.notes();
+//!
+//! // intake's literals 3 and -7, as the search will know them
+//! let clause = [Lit::positive(User(2)), Lit::negative(User(6))];
+//! let mut posed = [Lit::from_code(0); 2];
+//! table.pose(&clause, false, &mut posed, &mut notes)?;
+//!
+//! // a line of the proof, under global names
+//! let mut proof = [0; 64];
+//! let n = table.write(Format::Text, Step::AtClause(false), Lits::Solver(&posed), &[], &mut proof)?;
+//! assert_eq!(&proof[..n], b"3 -7 0\n");
+//! # Ok::<(), hintzobar::Refusal>(())
+//! ```
+mod ffi;
+mod names;
+mod proof;
+mod refusal;
+mod table;
+
+pub use names::{Global, Lit, Name, Note, Notes, Solver, User};
+pub use proof::{first_step, read, write_clause, Cause, Format, Lits, Reading, Renamed, Step};
+pub use refusal::Refusal;
+pub use table::{Counts, Lists, Made, Mark, Mode, Simplified, Table};

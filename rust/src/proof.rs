@@ -1,0 +1,185 @@
+//! Proof lines: formats, steps, and the reader.
+use crate::{ffi, Global, Lit, Name, Refusal, Solver, User};
+
+/// The format of a DRAT proof.
+#[derive(Clone, Copy, PartialEq, Eq, Hash, Debug)]
+pub enum Format {
+    /// Lines of decimal numbers.
+    Text,
+    /// LEB128 codes.
+    Binary,
+}
+
+impl Format {
+    pub(crate) fn number(self) -> u32 {
+        match self {
+            Format::Text => 0,
+            Format::Binary => 1,
+        }
+    }
+
+    /// Enough bytes for any one Write or Simplify of this many literals.
+    pub fn room_for(self, lits: usize) -> usize {
+        12 * lits + 8
+    }
+}
+
+/// Why a clause is deleted.
+#[derive(Clone, Copy, PartialEq, Eq, Hash, Debug)]
+pub enum Cause {
+    Redundant,
+    Satisfied,
+    Simplified,
+}
+
+/// The kinds of proof step. Literals and hashes stand beside the step.
+#[derive(Clone, Copy, PartialEq, Eq, Hash, Debug)]
+pub enum Step {
+    AddClause,
+    /// Whether the clause is redundant.
+    AtClause(bool),
+    UnitClauses,
+    DeleteClause(Cause),
+    Model,
+    Assumptions,
+    FailedAssumptions,
+    SolverVarName(Global, Option<Solver>),
+    UserVarName(Global, Option<User>),
+    DeleteVar(Global),
+    /// Whether the global's mode is now Sample.
+    ChangeSamplingMode(Global, bool),
+    ChangeHashBits(u32),
+    End,
+}
+
+/// A name's word: index + 1, or 0 for none. The greatest index has no word; the one below stands for it.
+fn word<N: Name>(name: Option<N>) -> u32 {
+    name.map_or(0, |name| name.index().saturating_add(1))
+}
+
+impl Step {
+    pub(crate) fn words(self) -> ffi::Step {
+        let (kind, a, b) = match self {
+            Step::AddClause => (0, 0, 0),
+            Step::AtClause(redundant) => (1, redundant.into(), 0),
+            Step::UnitClauses => (2, 0, 0),
+            Step::DeleteClause(Cause::Redundant) => (3, 0, 0),
+            Step::DeleteClause(Cause::Satisfied) => (3, 1, 0),
+            Step::DeleteClause(Cause::Simplified) => (3, 2, 0),
+            Step::Model => (4, 0, 0),
+            Step::Assumptions => (5, 0, 0),
+            Step::FailedAssumptions => (6, 0, 0),
+            Step::SolverVarName(global, solver) => (7, global.0, word(solver)),
+            Step::UserVarName(global, user) => (8, global.0, word(user)),
+            Step::DeleteVar(global) => (9, global.0, 0),
+            Step::ChangeSamplingMode(global, sample) => (10, global.0, sample.into()),
+            Step::ChangeHashBits(bits) => (11, bits, 0),
+            Step::End => (12, 0, 0),
+        };
+        ffi::Step { kind, a, b }
+    }
+
+    pub(crate) fn from_words(words: ffi::Step) -> Option<Step> {
+        let ffi::Step { kind, a, b } = words;
+        Some(match kind {
+            0 => Step::AddClause,
+            1 => Step::AtClause(a != 0),
+            2 => Step::UnitClauses,
+            3 => Step::DeleteClause([Cause::Redundant, Cause::Satisfied, Cause::Simplified].get(a as usize).copied()?),
+            4 => Step::Model,
+            5 => Step::Assumptions,
+            6 => Step::FailedAssumptions,
+            7 => Step::SolverVarName(Global(a), b.checked_sub(1).map(Solver)),
+            8 => Step::UserVarName(Global(a), b.checked_sub(1).map(User)),
+            9 => Step::DeleteVar(Global(a)),
+            10 => Step::ChangeSamplingMode(Global(a), b != 0),
+            11 => Step::ChangeHashBits(a),
+            12 => Step::End,
+            _ => return None,
+        })
+    }
+}
+
+/// What Rename answers: the step, and how many literals and hashes were filled.
+#[derive(Clone, Copy, PartialEq, Eq, Hash, Debug)]
+pub struct Renamed {
+    pub step: Step,
+    pub lits: usize,
+    pub hashes: usize,
+}
+
+/// The literals of a step: solver literals, which are renamed, or global ones, which go as given.
+#[derive(Clone, Copy, PartialEq, Eq, Debug)]
+pub enum Lits<'a> {
+    Solver(&'a [Lit<Solver>]),
+    Global(&'a [Lit<Global>]),
+}
+
+/// What Read filled.
+#[derive(Clone, Copy, PartialEq, Eq, Debug)]
+pub struct Reading {
+    pub lits: usize,
+    pub steps: usize,
+}
+
+/// Reads a proof: the literals of all steps, each step's end among them, and kinds (0 add, 1 delete).
+///
+/// ```
+/// use hintzobar::{read, Format, Global, Lit, Refusal};
+/// let (mut lits, mut ends, mut kinds) = ([Lit::from_code(0); 4], [0; 2], [0; 2]);
+/// let reading = read(Format::Text, b"1 -2 0\nd 1 0\n", &mut lits, &mut ends, &mut kinds)?;
+/// assert_eq!((reading.lits, reading.steps), (3, 2));
+/// assert_eq!(lits[..3], [Lit::positive(Global(0)), Lit::negative(Global(1)), Lit::positive(Global(0))]);
+/// assert_eq!((ends, kinds), ([2, 3], [0, 1]));
+///
+/// let cut = read(Format::Text, b"1 0\n2 0", &mut lits, &mut ends, &mut kinds);
+/// assert_eq!(cut, Err(Refusal::BrokenProof(4)));
+/// # Ok::<(), Refusal>(())
+/// ```
+pub fn read(
+    format: Format,
+    bytes: &[u8],
+    lits: &mut [Lit<Global>],
+    ends: &mut [u64],
+    kinds: &mut [u8],
+) -> Result<Reading, Refusal> {
+    let answer = ffi::read(format.number(), bytes, crate::names::codes_mut(lits), ends, kinds);
+    Refusal::check(answer.refusal, answer.place)?;
+    Ok(Reading { lits: answer.lits, steps: answer.steps })
+}
+
+/// The first step's part of the bytes.
+///
+/// ```
+/// use hintzobar::{first_step, Format, Refusal};
+/// assert_eq!(first_step(Format::Text, b"d 1 0\nrubbish"), Ok(&b"d 1 0\n"[..]));
+/// assert_eq!(first_step(Format::Binary, b""), Err(Refusal::BrokenProof(0)));
+/// ```
+pub fn first_step(format: Format, bytes: &[u8]) -> Result<&[u8], Refusal> {
+    let answer = ffi::first_step(format.number(), bytes);
+    Refusal::check(answer.refusal, answer.place)?;
+    Ok(&bytes[..answer.length.min(bytes.len())])
+}
+
+/// Writes `lits[a..b]` as one step at `proof[at..]`: an add, or a delete. Answers the place after it.
+///
+/// ```
+/// use hintzobar::{write_clause, Format, Global, Lit};
+/// let mut proof = [0; 8];
+/// let end = write_clause(Format::Text, true, &[Lit::negative(Global(2))], 0, 1, &mut proof, 0)?;
+/// assert_eq!(&proof[..end], b"d -3 0\n");
+/// # Ok::<(), hintzobar::Refusal>(())
+/// ```
+pub fn write_clause(
+    format: Format,
+    delete: bool,
+    lits: &[Lit<Global>],
+    a: usize,
+    b: usize,
+    proof: &mut [u8],
+    at: usize,
+) -> Result<usize, Refusal> {
+    let answer = ffi::write_clause(format.number(), delete.into(), crate::names::codes(lits), a, b, proof, at);
+    Refusal::check(answer.refusal, 0)?;
+    Ok(answer.bytes)
+}

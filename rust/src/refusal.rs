@@ -1,0 +1,116 @@
+//! Why a call was refused.
+use std::{error::Error, fmt};
+
+/// Why a call was refused. A refused call leaves the table and every lent slice as they were.
+#[derive(Clone, Copy, PartialEq, Eq, Hash, Debug)]
+#[non_exhaustive]
+pub enum Refusal {
+    /// 1: the table is not sound.
+    Unsound,
+    /// 2: a lent output is shorter than this call fills.
+    Short,
+    /// 3: an index at or above its bound, or more than 8,192 literals.
+    OutOfRange,
+    /// 4: sampling is required and a user's global is not in mode Sample.
+    NotSampled,
+    /// 5: more users to map than there are free globals.
+    NoRoom,
+    /// 6: the global is deleted.
+    Deleted,
+    /// 7: the global is assumed.
+    Assumed,
+    /// 8: no global holds the solver index.
+    NotHeld,
+    /// 9: the solver index has a value already.
+    HasValue,
+    /// 10: the capacity is not 1 to 4,096, or a list has another length.
+    BadSize,
+    /// 11: DRAT lacks this kind of step.
+    NotInDrat,
+    /// 12: no literal is true, some are false, and fewer than two are unknown.
+    FewUnknown,
+    /// 13: a step of the proof is not whole; the place is its start.
+    BrokenProof(usize),
+    /// 14: units and hashes differ in number.
+    Unmatched,
+    /// A number that this crate does not know.
+    Other(u32),
+}
+
+impl Refusal {
+    /// `Ok` for 0, which is no refusal. The place goes with number 13.
+    pub(crate) fn check(number: u32, place: usize) -> Result<(), Refusal> {
+        Err(match number {
+            0 => return Ok(()),
+            1 => Refusal::Unsound,
+            2 => Refusal::Short,
+            3 => Refusal::OutOfRange,
+            4 => Refusal::NotSampled,
+            5 => Refusal::NoRoom,
+            6 => Refusal::Deleted,
+            7 => Refusal::Assumed,
+            8 => Refusal::NotHeld,
+            9 => Refusal::HasValue,
+            10 => Refusal::BadSize,
+            11 => Refusal::NotInDrat,
+            12 => Refusal::FewUnknown,
+            13 => Refusal::BrokenProof(place),
+            14 => Refusal::Unmatched,
+            other => Refusal::Other(other),
+        })
+    }
+
+    /// The refusal's number.
+    pub fn number(self) -> u32 {
+        match self {
+            Refusal::Unsound => 1,
+            Refusal::Short => 2,
+            Refusal::OutOfRange => 3,
+            Refusal::NotSampled => 4,
+            Refusal::NoRoom => 5,
+            Refusal::Deleted => 6,
+            Refusal::Assumed => 7,
+            Refusal::NotHeld => 8,
+            Refusal::HasValue => 9,
+            Refusal::BadSize => 10,
+            Refusal::NotInDrat => 11,
+            Refusal::FewUnknown => 12,
+            Refusal::BrokenProof(_) => 13,
+            Refusal::Unmatched => 14,
+            Refusal::Other(number) => number,
+        }
+    }
+
+    /// Its meaning.
+    pub fn meaning(self) -> &'static str {
+        match self {
+            Refusal::Unsound => "the table is not sound",
+            Refusal::Short => "an output is shorter than this call fills",
+            Refusal::OutOfRange => "an index is at or above its bound, or there are more than 8,192 literals",
+            Refusal::NotSampled => "sampling is required and the variable's mode is not Sample",
+            Refusal::NoRoom => "there are more users to map than free globals",
+            Refusal::Deleted => "the global is deleted",
+            Refusal::Assumed => "the global is assumed",
+            Refusal::NotHeld => "no global holds the solver index",
+            Refusal::HasValue => "the solver index has a value already",
+            Refusal::BadSize => "the capacity is not 1 to 4,096, or a list has another length",
+            Refusal::NotInDrat => "DRAT lacks this kind of step",
+            Refusal::FewUnknown => "no literal is true, some are false, and fewer than two are unknown",
+            Refusal::BrokenProof(_) => "a step of the proof is not whole",
+            Refusal::Unmatched => "units and hashes differ in number",
+            Refusal::Other(_) => "a number that this crate does not know",
+        }
+    }
+}
+
+impl fmt::Display for Refusal {
+    fn fmt(&self, f: &mut fmt::Formatter) -> fmt::Result {
+        write!(f, "refusal {}: {}", self.number(), self.meaning())?;
+        if let Refusal::BrokenProof(place) = self {
+            write!(f, ", the one at byte {}", place)?;
+        }
+        Ok(())
+    }
+}
+
+impl Error for Refusal {}

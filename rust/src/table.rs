@@ -1,0 +1,443 @@
+//! The table of names, and the calls on it.
+use crate::{
+    ffi,
+    names::{codes, codes_mut, indices_mut},
+    Format, Global, Lit, Lits, Notes, Refusal, Renamed, Solver, Step, User,
+};
+
+/// The capacity and the three watermarks.
+#[derive(Clone, Copy, PartialEq, Eq, Hash, Debug, Default)]
+pub struct Counts {
+    pub capacity: u32,
+    pub user: u32,
+    pub global: u32,
+    pub solver: u32,
+}
+
+/// A global's sampling mode.
+#[derive(Clone, Copy, PartialEq, Eq, Hash, Debug)]
+pub enum Mode {
+    Sample,
+    Witness,
+    Hide,
+}
+
+/// What is marked at a held solver index.
+#[derive(Clone, Copy, PartialEq, Eq, Hash, Debug)]
+pub enum Mark {
+    /// It is in use: no longer isolated.
+    Used,
+    /// It is assumed.
+    Assumed,
+    /// It is no longer assumed.
+    Released,
+}
+
+/// What Simplify made of a clause.
+#[derive(Clone, Copy, PartialEq, Eq, Hash, Debug)]
+pub enum Made {
+    Kept,
+    Dropped,
+    Shortened,
+    Binary,
+}
+
+/// The answer of Simplify: how many literals and bytes were filled, and the add step's redundant flag.
+#[derive(Clone, Copy, PartialEq, Eq, Hash, Debug)]
+pub struct Simplified {
+    pub made: Made,
+    pub redundant: bool,
+    pub lits: usize,
+    pub bytes: usize,
+}
+
+/// The six lists of a table, each of one word per index.
+#[derive(Clone, PartialEq, Eq, Hash, Debug, Default)]
+pub struct Lists {
+    /// Maps hold 0 for none, else index + 1.
+    pub global_from_user: Vec<u32>,
+    pub user_from_global: Vec<u32>,
+    pub solver_from_global: Vec<u32>,
+    pub global_from_solver: Vec<u32>,
+    /// 0 none, 1 false, 2 true.
+    pub assignment: Vec<u32>,
+    /// Mode + 3 × unit + 9 if isolated + 18 if assumed + 36 if deleted.
+    pub records: Vec<u32>,
+}
+
+/// A table of names, which owns its memory.
+///
+/// ```
+/// use hintzobar::{Global, Lit, Note, Solver, Table, User};
+/// let mut table = Table::open(8)?;
+/// let mut notes = table.notes();
+/// assert_eq!(table.map(User(2), false, &mut notes)?, Global(2));
+/// assert_eq!(notes.iter().last(), Some(Note::User(Global(2), Some(User(2)))));
+///
+/// let mut lits = [Lit::from_code(0); 2];
+/// table.pose(&[Lit::negative(User(2)), Lit::positive(User(0))], false, &mut lits, &mut notes)?;
+/// assert_eq!(lits, [Lit::negative(Solver(0)), Lit::positive(Solver(1))]);
+/// # Ok::<(), hintzobar::Refusal>(())
+/// ```
+#[derive(Clone, PartialEq, Eq, Hash, Debug, Default)]
+pub struct Table {
+    counts: Counts,
+    lists: Lists,
+}
+
+impl From<ffi::Counts> for Counts {
+    fn from(c: ffi::Counts) -> Counts {
+        Counts { capacity: c.capacity, user: c.user, global: c.global, solver: c.solver }
+    }
+}
+
+/// Calls an exported function with the table's counts and lists, to be changed or only read.
+macro_rules! call {
+    ($table:ident.$name:ident($($arg:expr),*)) => {{
+        let (c, l) = (words($table.counts), &mut $table.lists);
+        ffi::$name(
+            c,
+            &mut l.global_from_user,
+            &mut l.user_from_global,
+            &mut l.solver_from_global,
+            &mut l.global_from_solver,
+            &mut l.assignment,
+            &mut l.records,
+            $($arg),*
+        )
+    }};
+}
+
+macro_rules! ask {
+    ($table:ident.$name:ident($($arg:expr),*)) => {{
+        let (c, l) = (words($table.counts), &$table.lists);
+        ffi::$name(
+            c,
+            &l.global_from_user,
+            &l.user_from_global,
+            &l.solver_from_global,
+            &l.global_from_solver,
+            &l.assignment,
+            &l.records,
+            $($arg),*
+        )
+    }};
+}
+
+fn words(c: Counts) -> ffi::Counts {
+    ffi::Counts { capacity: c.capacity, user: c.user, global: c.global, solver: c.solver }
+}
+
+fn found(answer: ffi::Found) -> Result<Option<u32>, Refusal> {
+    Refusal::check(answer.refusal, 0)?;
+    Ok(answer.found.then_some(answer.value))
+}
+
+impl Table {
+    // ---- memory
+
+    /// A freshly opened, empty table. Refusals: 10.
+    ///
+    /// ```
+    /// use hintzobar::{Refusal, Table};
+    /// assert!(Table::open(1).is_ok() && Table::open(4096).is_ok());
+    /// assert_eq!(Table::open(0), Err(Refusal::BadSize));
+    /// assert_eq!(Table::open(4097), Err(Refusal::BadSize));
+    /// ```
+    pub fn open(capacity: u32) -> Result<Table, Refusal> {
+        // No more is lent than the largest table has: beyond that the capacity itself is refused.
+        let list = vec![0; capacity.min(4096) as usize];
+        let lists = Lists {
+            global_from_user: list.clone(),
+            user_from_global: list.clone(),
+            solver_from_global: list.clone(),
+            global_from_solver: list.clone(),
+            assignment: list.clone(),
+            records: list,
+        };
+        let mut table = Table { counts: Counts::default(), lists };
+        table.reopen(capacity)?;
+        Ok(table)
+    }
+
+    /// Opens the table anew in the memory that it has. Refusals: 10.
+    pub fn reopen(&mut self, capacity: u32) -> Result<(), Refusal> {
+        let l = &mut self.lists;
+        let answer = ffi::open(
+            capacity,
+            &mut l.global_from_user,
+            &mut l.user_from_global,
+            &mut l.solver_from_global,
+            &mut l.global_from_solver,
+            &mut l.assignment,
+            &mut l.records,
+        );
+        Refusal::check(answer.refusal, 0)?;
+        self.counts = answer.counts.into();
+        Ok(())
+    }
+
+    /// A table of any words. Where it is not sound, every call on it is refused.
+    ///
+    /// ```
+    /// use hintzobar::{Counts, Lists, Refusal, Table, User};
+    /// let table = Table::from_parts(Counts::default(), Lists::default());
+    /// assert!(!table.is_sound());
+    /// assert_eq!(table.global_from_user(User(0)), Err(Refusal::Unsound));
+    /// ```
+    pub fn from_parts(counts: Counts, lists: Lists) -> Table {
+        Table { counts, lists }
+    }
+
+    /// The capacity and the watermarks.
+    pub fn counts(&self) -> Counts {
+        self.counts
+    }
+
+    /// The words of the lists.
+    pub fn lists(&self) -> &Lists {
+        &self.lists
+    }
+
+    /// Whether the table is sound.
+    pub fn is_sound(&self) -> bool {
+        ask!(self.is_sound())
+    }
+
+    /// Memory for notes that suffices for every call on this table: no call makes more than two notes for each index.
+    pub fn notes(&self) -> Notes {
+        Notes::with_words(6 * self.counts.capacity.min(4096) as usize)
+    }
+
+    // ---- lookups: none where nothing is mapped, or the index is at or beyond the watermark. Refusals: 1.
+
+    /// The global of a user.
+    pub fn global_from_user(&self, user: User) -> Result<Option<Global>, Refusal> {
+        Ok(found(ask!(self.global_from_user(user.0)))?.map(Global))
+    }
+
+    /// The user of a global.
+    pub fn user_from_global(&self, global: Global) -> Result<Option<User>, Refusal> {
+        Ok(found(ask!(self.user_from_global(global.0)))?.map(User))
+    }
+
+    /// The solver index that a global holds.
+    pub fn solver_from_global(&self, global: Global) -> Result<Option<Solver>, Refusal> {
+        Ok(found(ask!(self.solver_from_global(global.0)))?.map(Solver))
+    }
+
+    /// The global that holds a solver index.
+    pub fn global_from_solver(&self, solver: Solver) -> Result<Option<Global>, Refusal> {
+        Ok(found(ask!(self.global_from_solver(solver.0)))?.map(Global))
+    }
+
+    /// A global's record.
+    pub fn record(&self, global: Global) -> Result<Option<u32>, Refusal> {
+        found(ask!(self.record(global.0)))
+    }
+
+    /// A solver index's assignment word.
+    pub fn assignment(&self, solver: Solver) -> Result<Option<u32>, Refusal> {
+        found(ask!(self.assignment(solver.0)))
+    }
+
+    // ---- names
+
+    /// Maps a user, and every user below it from the watermark up. Refusals: 1, 3, 4, 5, 2.
+    ///
+    /// ```
+    /// use hintzobar::{Refusal, Table, User};
+    /// let mut table = Table::open(2)?;
+    /// let mut notes = table.notes();
+    /// table.map(User(1), false, &mut notes)?;
+    /// assert_eq!(notes.len(), 2);
+    /// assert_eq!(table.map(User(2), false, &mut notes), Err(Refusal::OutOfRange));
+    /// assert_eq!(table.new_user(&mut notes), Err(Refusal::NoRoom));
+    /// # Ok::<(), Refusal>(())
+    /// ```
+    pub fn map(&mut self, user: User, sampling: bool, notes: &mut Notes) -> Result<Global, Refusal> {
+        let answer = call!(self.map(user.0, sampling, notes.lend()));
+        self.took(answer.refusal, answer.counts)?;
+        notes.set_len(answer.notes);
+        Ok(Global(answer.global))
+    }
+
+    /// Maps the least unmapped user; it and its global are answered. Refusals: 1, 5, 2.
+    pub fn new_user(&mut self, notes: &mut Notes) -> Result<(User, Global), Refusal> {
+        let answer = call!(self.new_user(notes.lend()));
+        self.took(answer.refusal, answer.counts)?;
+        notes.set_len(answer.notes);
+        Ok((User(answer.user), Global(answer.global)))
+    }
+
+    /// Maps and grants for each user literal in turn; the solver literals are filled and their number answered. Refusals: 1, 3, 4, 5, 2.
+    pub fn pose(
+        &mut self,
+        lits: &[Lit<User>],
+        sampling: bool,
+        out: &mut [Lit<Solver>],
+        notes: &mut Notes,
+    ) -> Result<usize, Refusal> {
+        let answer = call!(self.pose(codes(lits), sampling, codes_mut(out), notes.lend()));
+        self.took(answer.refusal, answer.counts)?;
+        notes.set_len(answer.notes);
+        Ok(answer.filled as usize)
+    }
+
+    /// The solver index that the global holds, or is given. Refusals: 1, 3, 6, 2.
+    pub fn grant(&mut self, global: Global, notes: &mut Notes) -> Result<Solver, Refusal> {
+        let answer = call!(self.grant(global.0, notes.lend()));
+        self.took(answer.refusal, answer.counts)?;
+        notes.set_len(answer.notes);
+        Ok(Solver(answer.solver))
+    }
+
+    /// Changes a global's mode; a user that it is granted is answered. Refusals: 1, 3, 6, 7, 2.
+    ///
+    /// ```
+    /// use hintzobar::{Global, Mode, Note, Table, User};
+    /// let mut table = Table::open(8)?;
+    /// let mut notes = table.notes();
+    /// table.map(User(2), false, &mut notes)?;
+    /// assert_eq!(table.set_mode(Global(1), Mode::Hide, &mut notes)?, None);
+    /// assert!(notes.iter().eq([Note::User(Global(1), None), Note::Delete(Global(1))]));
+    /// assert_eq!(table.new_user(&mut notes)?, (User(1), Global(1)));
+    /// # Ok::<(), hintzobar::Refusal>(())
+    /// ```
+    pub fn set_mode(&mut self, global: Global, mode: Mode, notes: &mut Notes) -> Result<Option<User>, Refusal> {
+        let mode = match mode {
+            Mode::Sample => 0,
+            Mode::Witness => 1,
+            Mode::Hide => 2,
+        };
+        let answer = call!(self.set_mode(global.0, mode, notes.lend()));
+        self.took(answer.refusal, answer.counts)?;
+        notes.set_len(answer.notes);
+        Ok(answer.granted.then_some(User(answer.user)))
+    }
+
+    /// Turns hidden globals into witnesses; their users are filled and their number answered. Refusals: 1, 7, 2.
+    pub fn observe(&mut self, out: &mut [User], notes: &mut Notes) -> Result<usize, Refusal> {
+        let answer = call!(self.observe(indices_mut(out), notes.lend()));
+        self.took(answer.refusal, answer.counts)?;
+        notes.set_len(answer.notes);
+        Ok(answer.filled as usize)
+    }
+
+    /// Marks a held solver index. Refusals: 1, 8.
+    pub fn mark(&mut self, mark: Mark, solver: Solver) -> Result<(), Refusal> {
+        let mark = match mark {
+            Mark::Used => 0,
+            Mark::Assumed => 1,
+            Mark::Released => 2,
+        };
+        let answer = call!(self.mark(mark, solver.0));
+        self.took(answer.refusal, answer.counts)
+    }
+
+    /// Makes a solver literal true, once. Refusals: 1, 8, 9.
+    pub fn assign(&mut self, lit: Lit<Solver>) -> Result<(), Refusal> {
+        let answer = call!(self.assign(lit.code()));
+        self.took(answer.refusal, answer.counts)
+    }
+
+    /// Takes a solver index from its global. Refusals: 1, 8, 2.
+    pub fn remove(&mut self, solver: Solver, notes: &mut Notes) -> Result<(), Refusal> {
+        let answer = call!(self.remove(solver.0, notes.lend()));
+        self.took(answer.refusal, answer.counts)?;
+        notes.set_len(answer.notes);
+        Ok(())
+    }
+
+    /// Learns units from the assignment and takes every isolated solver index that is not assumed. Refusals: 1, 2.
+    pub fn sweep(&mut self, notes: &mut Notes) -> Result<(), Refusal> {
+        let answer = call!(self.sweep(notes.lend()));
+        self.took(answer.refusal, answer.counts)?;
+        notes.set_len(answer.notes);
+        Ok(())
+    }
+
+    fn took(&mut self, refusal: u32, counts: ffi::Counts) -> Result<(), Refusal> {
+        Refusal::check(refusal, 0)?;
+        self.counts = counts.into();
+        Ok(())
+    }
+
+    // ---- proof lines
+
+    /// Simplifies a clause by the assignment; the literals left and the steps' bytes are filled. Refusals: 1, 3, 8, 12, 2.
+    pub fn simplify(
+        &self,
+        format: Format,
+        lits: &[Lit<Solver>],
+        redundant: bool,
+        out: &mut [Lit<Solver>],
+        proof: &mut [u8],
+    ) -> Result<Simplified, Refusal> {
+        let answer = ask!(self.simplify(format.number(), codes(lits), redundant, codes_mut(out), proof));
+        Refusal::check(answer.refusal, 0)?;
+        let made = match answer.made {
+            0 => Made::Kept,
+            1 => Made::Dropped,
+            2 => Made::Shortened,
+            _ => Made::Binary,
+        };
+        Ok(Simplified { made, redundant: answer.redundant, lits: answer.lits, bytes: answer.bytes })
+    }
+
+    /// A step under global names: its literals and hashes are filled; the step comes back as given. Refusals: 1, 14, 3, 8, 2.
+    pub fn rename(
+        &self,
+        step: Step,
+        lits: Lits,
+        hashes: &[u64],
+        out: &mut [Lit<Global>],
+        hash_out: &mut [u64],
+    ) -> Result<Renamed, Refusal> {
+        let (solver_vars, lits) = parts(lits);
+        let answer = ask!(self.rename(step.words(), solver_vars, lits, hashes, codes_mut(out), hash_out));
+        Refusal::check(answer.refusal, 0)?;
+        let step = Step::from_words(answer.step).unwrap_or(step);
+        Ok(Renamed { step, lits: answer.lits, hashes: answer.hashes })
+    }
+
+    /// A step's bytes under global names; how many were filled is answered. Refusals: 1, 14, 3, 8, 11, 2.
+    ///
+    /// ```
+    /// use hintzobar::{Cause, Format, Global, Lit, Lits, Solver, Step, Table, User};
+    /// let mut table = Table::open(8)?;
+    /// let mut notes = table.notes();
+    /// table.map(User(2), false, &mut notes)?;
+    /// assert_eq!(table.grant(Global(2), &mut notes)?, Solver(0));
+    ///
+    /// let mut proof = [0; 16];
+    /// let lits = [Lit::negative(Solver(0))];
+    /// let n = table.write(Format::Text, Step::AtClause(false), Lits::Solver(&lits), &[], &mut proof)?;
+    /// assert_eq!(&proof[..n], b"-3 0\n");
+    /// let n = table.write(Format::Binary, Step::DeleteClause(Cause::Redundant), Lits::Solver(&[]), &[], &mut proof)?;
+    /// assert_eq!(&proof[..n], [0x64, 0]);
+    /// # Ok::<(), hintzobar::Refusal>(())
+    /// ```
+    pub fn write(&self, format: Format, step: Step, lits: Lits, hashes: &[u64], proof: &mut [u8]) -> Result<usize, Refusal> {
+        let (solver_vars, lits) = parts(lits);
+        let answer = ask!(self.write(format.number(), step.words(), solver_vars, lits, hashes, proof));
+        Refusal::check(answer.refusal, 0)?;
+        Ok(answer.bytes)
+    }
+
+    // ---- the model
+
+    /// A word for each global below its watermark, and the literals of users that have a value; how many of each. Refusals: 1, 2.
+    pub fn model(&self, globals: &mut [u32], users: &mut [Lit<User>]) -> Result<(usize, usize), Refusal> {
+        let answer = ask!(self.model(globals, codes_mut(users)));
+        Refusal::check(answer.refusal, 0)?;
+        Ok((answer.globals as usize, answer.users as usize))
+    }
+}
+
+fn parts(lits: Lits<'_>) -> (bool, &[u32]) {
+    match lits {
+        Lits::Solver(lits) => (true, codes(lits)),
+        Lits::Global(lits) => (false, codes(lits)),
+    }
+}

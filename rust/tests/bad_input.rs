@@ -1,0 +1,160 @@
+//! Bad input gives the refusal, never a panic, and changes nothing.
+use hintzobar::{
+    first_step, read, write_clause, Cause, Counts, Format, Global, Lists, Lit, Lits, Mark, Mode, Notes, Refusal, Solver, Step, Table,
+    User,
+};
+
+const WILD: [u32; 6] = [8, 9, 4096, 1 << 31, u32::MAX - 1, u32::MAX];
+
+/// Capacity 8, users 0 to 2 mapped, global 2 granted.
+fn table() -> Table {
+    let mut table = Table::open(8).unwrap();
+    let mut notes = table.notes();
+    table.map(User(2), false, &mut notes).unwrap();
+    table.grant(Global(2), &mut notes).unwrap();
+    table
+}
+
+#[test]
+fn capacities() {
+    for capacity in [0, 4097, 1 << 31, u32::MAX] {
+        assert_eq!(Table::open(capacity), Err(Refusal::BadSize));
+    }
+    let mut table = table();
+    let before = table.clone();
+    assert_eq!(table.reopen(7), Err(Refusal::BadSize));
+    assert_eq!(table, before);
+}
+
+#[test]
+fn indices() {
+    let mut table = table();
+    let before = table.clone();
+    let mut notes = table.notes();
+    for index in WILD {
+        assert_eq!(table.map(User(index), true, &mut notes), Err(Refusal::OutOfRange));
+        assert_eq!(table.grant(Global(index), &mut notes), Err(Refusal::OutOfRange));
+        assert_eq!(table.set_mode(Global(index), Mode::Hide, &mut notes), Err(Refusal::OutOfRange));
+        assert_eq!(table.remove(Solver(index), &mut notes), Err(Refusal::NotHeld));
+        assert_eq!(table.mark(Mark::Used, Solver(index)), Err(Refusal::NotHeld));
+        assert_eq!(table.assign(Lit::negative(Solver(index))), Err(Refusal::NotHeld));
+        assert_eq!(table.global_from_user(User(index)), Ok(None));
+        assert_eq!(table.record(Global(index)), Ok(None));
+        let lits = [Lit::positive(User(index))];
+        assert_eq!(table.pose(&lits, false, &mut [Lit::from_code(0); 4], &mut notes), Err(Refusal::OutOfRange));
+        let lits = [Lit::negative(Global(index))];
+        let step = Step::AtClause(false);
+        assert_eq!(table.write(Format::Text, step, Lits::Global(&lits), &[], &mut [0; 99]), Err(Refusal::OutOfRange));
+        let lits = [Lit::negative(Solver(index))];
+        assert_eq!(table.write(Format::Binary, step, Lits::Solver(&lits), &[], &mut [0; 99]), Err(Refusal::NotHeld));
+        assert_eq!(
+            table.simplify(Format::Text, &lits, false, &mut [Lit::from_code(0); 4], &mut [0; 99]),
+            Err(Refusal::NotHeld)
+        );
+    }
+    assert_eq!(table, before);
+    assert!(notes.is_empty());
+}
+
+#[test]
+fn many_literals() {
+    let mut table = table();
+    let mut notes = table.notes();
+    let users = vec![Lit::positive(User(2)); 8193];
+    let mut solvers = vec![Lit::positive(Solver(0)); 8193];
+    assert_eq!(table.pose(&users, false, &mut solvers, &mut notes), Err(Refusal::OutOfRange));
+    assert_eq!(table.pose(&users[1..], false, &mut solvers, &mut notes), Ok(8192));
+    let mut proof = vec![0; Format::Text.room_for(8193)];
+    let all = Lits::Solver(&solvers);
+    let delete = Step::DeleteClause(Cause::Satisfied);
+    assert_eq!(table.write(Format::Text, delete, all, &[], &mut proof), Err(Refusal::OutOfRange));
+    assert_eq!(table.rename(delete, all, &[], &mut vec![Lit::from_code(0); 8193], &mut []), Err(Refusal::OutOfRange));
+    let mut rest = vec![Lit::from_code(0); 8193];
+    assert_eq!(table.simplify(Format::Text, &solvers, true, &mut rest, &mut proof), Err(Refusal::OutOfRange));
+    let globals = vec![Lit::positive(Global(0)); 8193];
+    assert_eq!(write_clause(Format::Binary, false, &globals, 0, 8193, &mut proof, 0), Err(Refusal::OutOfRange));
+    assert_eq!(write_clause(Format::Binary, false, &globals, 1, 8193, &mut proof, 0), Ok(8194));
+}
+
+#[test]
+fn places() {
+    let lits = [Lit::positive(Global(0)); 3];
+    let mut proof = [7; 8];
+    for (a, b) in [(2, 1), (0, 4), (usize::MAX, 0), (0, usize::MAX), (usize::MAX, usize::MAX)] {
+        assert_eq!(write_clause(Format::Text, false, &lits, a, b, &mut proof, 0), Err(Refusal::OutOfRange));
+    }
+    for at in [7, 8, 9, usize::MAX] {
+        assert_eq!(write_clause(Format::Text, false, &lits, 0, 0, &mut proof, at), Err(Refusal::Short));
+    }
+    assert_eq!(proof, [7; 8]);
+}
+
+#[test]
+fn cut_proofs() {
+    let text = b"1 -2 0\nd 4096 0\n";
+    let binary = [0x61, 0x02, 0x81, 0x40, 0x00, 0x64, 0x7e, 0x00];
+    for (format, proof, second) in [(Format::Text, &text[..], 7), (Format::Binary, &binary[..], 5)] {
+        for length in 0..=proof.len() {
+            let (mut lits, mut ends, mut kinds) = ([Lit::from_code(9); 3], [9; 2], [9; 2]);
+            let answer = read(format, &proof[..length], &mut lits, &mut ends, &mut kinds);
+            if length == 0 || length == second || length == proof.len() {
+                assert!(answer.is_ok());
+            } else {
+                let start = if length < second { 0 } else { second };
+                assert_eq!(answer, Err(Refusal::BrokenProof(start)));
+                assert_eq!((lits, ends, kinds), ([Lit::from_code(9); 3], [9; 2], [9; 2]));
+            }
+            assert_eq!(first_step(format, &proof[..length]).is_ok(), length >= second);
+        }
+    }
+}
+
+#[test]
+fn short_outputs() {
+    let mut table = Table::open(8).unwrap();
+    let before = table.clone();
+    for words in 0..9 {
+        let mut notes = Notes::from(vec![7; words]);
+        assert_eq!(table.map(User(2), false, &mut notes), Err(Refusal::Short));
+        assert_eq!(notes.words(), vec![7; words]);
+    }
+    assert_eq!(table, before);
+    assert_eq!(table.map(User(2), false, &mut Notes::with_words(9)), Ok(Global(2)));
+    assert_eq!(table.model(&mut [0; 2], &mut [Lit::from_code(0); 3]), Err(Refusal::Short));
+    assert_eq!(table.model(&mut [0; 3], &mut [Lit::from_code(0); 3]), Ok((3, 3)));
+}
+
+#[test]
+fn any_table() {
+    for capacity in [0, 1, 3, 4096, u32::MAX] {
+        for word in [0, 1, 47, 72, u32::MAX] {
+            let counts = Counts { capacity, user: word, global: word, solver: word };
+            let lists = Lists {
+                global_from_user: vec![word; 3],
+                user_from_global: vec![word; 2],
+                records: vec![word; 3],
+                ..Lists::default()
+            };
+            let mut table = Table::from_parts(counts, lists);
+            let before = table.clone();
+            let mut notes = table.notes();
+            assert!(!table.is_sound());
+            assert_eq!(table.map(User(0), false, &mut notes), Err(Refusal::Unsound));
+            assert_eq!(table.new_user(&mut notes), Err(Refusal::Unsound));
+            assert_eq!(table.pose(&[Lit::from_code(word)], true, &mut [], &mut notes), Err(Refusal::Unsound));
+            assert_eq!(table.observe(&mut [], &mut notes), Err(Refusal::Unsound));
+            assert_eq!(table.sweep(&mut notes), Err(Refusal::Unsound));
+            assert_eq!(table.model(&mut [], &mut []), Err(Refusal::Unsound));
+            assert_eq!(table.solver_from_global(Global(word)), Err(Refusal::Unsound));
+            assert_eq!(table, before);
+        }
+    }
+}
+
+#[test]
+fn refusals_say_what_they_mean() {
+    let text = Table::open(0).unwrap_err().to_string();
+    assert_eq!(text, "refusal 10: the capacity is not 1 to 4,096, or a list has another length");
+    let text = first_step(Format::Text, b"x").unwrap_err().to_string();
+    assert_eq!(text, "refusal 13: a step of the proof is not whole, the one at byte 0");
+}
