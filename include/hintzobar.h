@@ -244,6 +244,12 @@ hz_written hz_write(hz_counts c, HZ_TABLE_CONST, uint32_t format, hz_step step, 
 hz_written hz_write_clause(uint32_t format, uint32_t kind, const uint32_t *lits, size_t lits_len, size_t a, size_t b, uint8_t *proof,
                            size_t proof_len, size_t at);
 
+/* Write a whole proof of global literals from the lists that `hz_read` fills, from the start of `proof` on, with no table: 3, 2. 3 where the lists
+ * are no proof: a code of 8,192 or more, not as many ends as kinds, an end below the one before it, a last end that is not the number of
+ * codes, a kind above 1. */
+hz_written hz_write_proof(uint32_t format, const uint32_t *codes, size_t codes_len, const uint64_t *ends, size_t ends_len,
+                          const uint8_t *kinds, size_t kinds_len, uint8_t *proof, size_t proof_len);
+
 /* Read a proof: literal codes, each step's end among them, and kinds (0 add, 1 delete): 13, 2. The first step alone: 13. */
 hz_reading hz_read(uint32_t format, const uint8_t *bytes, size_t bytes_len, uint32_t *codes, size_t codes_len, uint64_t *ends,
                    size_t ends_len, uint8_t *kinds, size_t kinds_len);

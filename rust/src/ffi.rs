@@ -188,6 +188,7 @@ exported! {
     fn rename = hz_rename(c: Counts, lent, step: Step, solver_vars: bool, lits: &[u32], hashes: &[u64], out: &mut [u32], hash_out: &mut [u64]) -> Renamed;
     fn write = hz_write(c: Counts, lent, format: u32, step: Step, solver_vars: bool, lits: &[u32], hashes: &[u64], proof: &mut [u8]) -> Written;
     fn write_clause = hz_write_clause(format: u32, kind: u32, lits: &[u32], a: usize, b: usize, proof: &mut [u8], at: usize) -> Written;
+    fn write_proof = hz_write_proof(format: u32, codes: &[u32], ends: &[u64], kinds: &[u8], proof: &mut [u8]) -> Written;
     fn read = hz_read(format: u32, bytes: &[u8], codes: &mut [u32], ends: &mut [u64], kinds: &mut [u8]) -> Reading;
     fn first_step = hz_first_step(format: u32, bytes: &[u8]) -> First;
     fn model = hz_model(c: Counts, lent, globals: &mut [u32], users: &mut [u32]) -> Modelled;

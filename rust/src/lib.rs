@@ -28,6 +28,6 @@ mod refusal;
 mod table;
 
 pub use names::{Global, Lit, Name, Note, Notes, Solver, User};
-pub use proof::{first_step, read, write_clause, Cause, Format, Lits, Reading, Renamed, Step};
+pub use proof::{first_step, read, write_clause, write_proof, Cause, Format, Lits, Reading, Renamed, Step};
 pub use refusal::Refusal;
 pub use table::{Counts, Lists, Made, Mark, Mode, Simplified, Table};

@@ -183,3 +183,23 @@ pub fn write_clause(
     Refusal::check(answer.refusal, 0)?;
     Ok(answer.bytes)
 }
+
+/// Writes a whole proof from the lists that [`read`] fills: the literals of all steps, each step's end among them, and kinds (0 add, 1
+/// delete). Answers how many bytes it took. Refusals: 3 where the lists are no proof, 2.
+///
+/// ```
+/// use hintzobar::{write_proof, Format, Global, Lit, Refusal};
+/// let lits = [Lit::positive(Global(0)), Lit::negative(Global(1)), Lit::positive(Global(0))];
+/// let mut proof = [0; 16];
+/// let end = write_proof(Format::Text, &lits, &[2, 3], &[0, 1], &mut proof)?;
+/// assert_eq!(&proof[..end], b"1 -2 0\nd 1 0\n");
+///
+/// let falling = write_proof(Format::Text, &lits, &[3, 2], &[0, 1], &mut proof);
+/// assert_eq!(falling, Err(Refusal::OutOfRange));
+/// # Ok::<(), Refusal>(())
+/// ```
+pub fn write_proof(format: Format, lits: &[Lit<Global>], ends: &[u64], kinds: &[u8], proof: &mut [u8]) -> Result<usize, Refusal> {
+    let answer = ffi::write_proof(format.number(), crate::names::codes(lits), ends, kinds, proof);
+    Refusal::check(answer.refusal, 0)?;
+    Ok(answer.bytes)
+}

@@ -10,10 +10,11 @@ use Rattle.base.specs.Answer.{accepted, refused}
 use Rattle.drat.specs.declared.Format.{Format}
 use Rattle.drat.specs.declared.Kind.{Kind}
 use Rattle.drat.specs.Writing.{writeOf}
+use Rattle.drat.specs.Listed.{writeAllOf}
 use Rattle.drat.specs.Filled.{refusing, readOf, firstOf, firstBy, first}
 use Rattle.drat.specs.Reading.{One, got, fault, oneStep}
 use Rattle.capi.specs.Numbers.{known, unknown, formatAt, kindAt}
-use Rattle.capi.specs.Codec.{noWriting, writeClauseAt, readAt, firstAt}
+use Rattle.capi.specs.Codec.{noWriting, writeClauseAt, writeProofAt, readAt, firstAt}
 use Rattle.capi.proofs.NumberLaws.{known-is, unknown-is}
 
 -- what is filled, by another name
@@ -34,6 +35,17 @@ module _ (format kind : ℕ) (buf : List ℕ) (a b room at : ℕ) where
   pub no-clause-kind : {f : Format} → formatAt format ≡ known f → kindAt kind ≡ unknown → writeClauseAt format kind buf a b room at ≡ noWriting
   unfolding writeClauseAt
   no-clause-kind e g = known-is _ _ e ∙ unknown-is _ _ g
+
+-- ---- the writer of a whole proof
+
+module _ (format : ℕ) (codes es ks : List ℕ) (room : ℕ) where
+  pub write-proof-is : {f : Format} → formatAt format ≡ known f → writeProofAt format codes es ks room ≡ writeAllOf f codes es ks room
+  unfolding writeProofAt
+  write-proof-is e = known-is _ _ e
+
+  pub no-proof-format : formatAt format ≡ unknown → writeProofAt format codes es ks room ≡ noWriting
+  unfolding writeProofAt
+  no-proof-format e = unknown-is _ _ e
 
 -- ---- the reader
 

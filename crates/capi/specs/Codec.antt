@@ -6,6 +6,7 @@ use lib.Dec.{eqb}
 use Rattle.base.specs.Choice.{pick}
 use Rattle.base.specs.Answer.{Answer, accepted, refused, numberOf}
 use Rattle.drat.specs.Writing.{Writing, writeOf}
+use Rattle.drat.specs.Listed.{writeAllOf}
 use Rattle.drat.specs.Filled.{Filling, refusing, readOf, firstOf}
 use Rattle.capi.specs.Numbers.{whenKnown, formatAt, kindAt}
 
@@ -25,6 +26,9 @@ noWriting = record { answer = refused 4294967295 []; bytes = [] }
 unfoldable pub writeClauseAt : ℕ → ℕ → List ℕ → ℕ → ℕ → ℕ → ℕ → Writing
 writeClauseAt format kind buf a b room at =
     whenKnown (formatAt format) noWriting (λ f. whenKnown (kindAt kind) noWriting (λ k. writeOf f k buf a b room at))
+
+unfoldable pub writeProofAt : ℕ → List ℕ → List ℕ → List ℕ → ℕ → Writing
+writeProofAt format codes es ks room = whenKnown (formatAt format) noWriting (λ f. writeAllOf f codes es ks room)
 
 unfoldable pub readAt : ℕ → List ℕ → ℕ → ℕ → ℕ → Filling
 readAt format s a b c = whenKnown (formatAt format) (refusing 4294967295 []) (λ f. readOf f s a b c)

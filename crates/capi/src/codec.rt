@@ -10,7 +10,7 @@ ghost use lib.ListN.{length, take};
 ghost use Rattle.base.specs.Lent.{old, new, Fills};
 ghost use Rattle.drat.specs.Writing.{wrote};
 ghost use Rattle.drat.specs.Filled.{read};
-ghost use Rattle.capi.specs.Codec.{Answered, placeAt, writeClauseAt, readAt, firstAt};
+ghost use Rattle.capi.specs.Codec.{Answered, placeAt, writeClauseAt, writeProofAt, readAt, firstAt};
 
 // How many bytes were filled; of `hz_write_clause`, the place after them.
 #[repr(C)]
@@ -108,6 +108,29 @@ pub extern "C" fn hz_write_clause(
         };
     };
     let r = drat_write::write_clause(f, k, buf, a, b, out, at);
+    wrote_out(r)
+}
+
+// A whole proof from the lists that `hz_read` fills (3, 2): `writeAllOf` of the writer.
+#[no_mangle]
+pub extern "C" fn hz_write_proof(
+    format: u32,
+    codes: &[u32],
+    ends: &[u64],
+    kinds: &[u8],
+    out: &mut [u8],
+) -> HzWritten
+    ensures { λ r. let w = writeProofAt format (old codes) (old ends) (old kinds) (length (old out)) in
+        ⌜ Answered (w .answer) (r .refusal) (r .bytes ∷ []) [] ⌝
+        ∗ ⌜ Fills out 0 (w .bytes) ⌝ }
+{
+    let FormatNumber::Known(f) = format_in(format) else {
+        return HzWritten {
+            refusal: 0xffffffff,
+            bytes: 0,
+        };
+    };
+    let r = drat_write::write_proof(f, codes, ends, kinds, out);
     wrote_out(r)
 }
 

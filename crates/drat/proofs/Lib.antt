@@ -12,3 +12,4 @@ pub mod CodesLaws
 pub mod WritingLaws
 pub mod Shapes
 pub mod Complete
+pub mod ListedLaws

@@ -6,8 +6,8 @@ use mathlib.Core.Bool.{Bool, true, false}
 use mathlib.Core.Logic.{⊎-elim}
 use native.Mathlib.Omega.{arith}
 use lib.Dec.{eqb, leb}
-use lib.ListN.{length, set, length-append}
-use lib.Seq.{sets, set-set}
+use lib.ListN.{length, getD, set, drop, length-append, length-drop}
+use lib.Seq.{sets, set-set, getD-drop}
 use borrow.Author.Tests.{eqb-true, eqb-false, leb-true, leb-false}
 use Rattle.base.specs.Choice.{pick}
 use Rattle.base.proofs.Truth.{split}
@@ -17,7 +17,7 @@ use Rattle.drat.specs.declared.Kind.{Kind}
 use Rattle.drat.specs.declared.Format.{Format}
 use Rattle.drat.specs.declared.Format.the-variants.{Text, Binary}
 use Rattle.drat.proofs.Numerals.{bytes-top, bytes-below}
-use Rattle.drat.proofs.Steps.{step-length, opens-le, ends-le}
+use Rattle.drat.proofs.Steps.{step-length, numbers-sets, opens-le, ends-le}
 
 -- a digit more in front of the blank
 more-digit : (n : ℕ) (ds : List ℕ) → 10 ≤ n → bytesOf decimal (n / 10) ≡ ds → bytesOf decimal n ≡ ds ++ (48 + n % 10) ∷ []
@@ -106,6 +106,27 @@ code-length c h = ap length (number-code c) ∙ go (leb 126 c) refl
     go : (t : Bool) → leb 126 c ≡ t → length (bytesOf leb128 (c + 2)) ≡ 1 + pick t 1 0
     go true e = ap length (leb-2 (c + 2) (omega (arith, leb-true 126 c e)) (omega arith))
     go false e = ap length (leb-1 (c + 2) (omega arith) (omega (arith, leb-false 126 c e)))
+
+-- codes of one byte each
+abbrev pub Short : List ℕ → Type 0
+Short l = (i : ℕ) → i < length l → getD l i 0 < 126
+
+pub code-short : (c : ℕ) → c < 126 → number Binary c ≡ (c + 2) ∷ []
+code-short c h = number-code c ∙ leb-1 (c + 2) (omega arith) (omega arith)
+
+pub short-length : (l : List ℕ) → Short l → length (numbers Binary l) ≡ length l
+unfolding numbers
+short-length [] h = refl
+short-length (c ∷ cs) h = omega (arith, length-append (number Binary c) (numbers Binary cs), ap length (code-short c (h 0 (omega arith))), short-length cs (λ i l. h (suc i) (omega arith)))
+
+pub short-drop : (l : List ℕ) (n : ℕ) → Short l → Short (drop n l)
+short-drop l n h i k = rw getD-drop (h (n + i) (omega (arith, length-drop n l)))
+
+-- one of them written, and then those after it
+pub short-sets : (l o : List ℕ) (p i : ℕ) → Short l → i < length l → sets (set o p (getD l i 0 + 2)) (p + 1) (numbers Binary (drop (i + 1) l)) ≡ sets o p (numbers Binary (drop i l))
+short-sets l o p i h k =
+    let e = code-short (getD l i 0) (h i k) in
+    ap (λ (n : List ℕ). sets (sets o p n) (p + length n) (numbers Binary (drop (i + 1) l))) (sym e) ∙ numbers-sets Binary l o p i k
 
 -- a literal takes at most six bytes
 one-le : (t : Bool) → pick {A = ℕ} t 1 0 ≤ 1

@@ -28,6 +28,11 @@ pub numbers-done : (f : Format) (l : List ℕ) (i : ℕ) → length l ≤ i → 
 unfolding numbers
 numbers-done f l i h = ap (numbers f) (drop-of-length-le l h)
 
+-- a literal written, and then those after it
+pub numbers-sets : (f : Format) (l o : List ℕ) (p i : ℕ) → i < length l
+    → sets (sets o p (number f (getD l i 0))) (p + length (number f (getD l i 0))) (numbers f (drop (i + 1) l)) ≡ sets o p (numbers f (drop i l))
+numbers-sets f l o p i h = sym (ap (sets o p) (numbers-next f l i h) ∙ sets-append (number f (getD l i 0)) (numbers f (drop (i + 1) l)) o p)
+
 pub step-length : (f : Format) (k : Kind) (l : List ℕ) → length (encodeStep f (stepOf k l)) ≡ length (opens f k) + (length (numbers f l) + length (ends f))
 unfolding encodeStep
 step-length f k l = length-append (opens f k) (numbers f l ++ ends f) ∙ ap (λ (n : ℕ). length (opens f k) + n) (length-append (numbers f l) (ends f))

@@ -18,14 +18,14 @@ use Rattle.drat.specs.declared.Kind.{Kind}
 use Rattle.drat.specs.declared.Format.{Format}
 use Rattle.drat.proofs.CodesLaws.{codes-true}
 
--- the test of codes, one code more
-pub test-none : (cs : List ℕ) → true ≡ allBelow 0 (λ i. ltb (getD cs i 0) 8192)
+-- the test that all words are below a bound, one word more
+pub test-none : (b : ℕ) (l : List ℕ) → true ≡ allBelow 0 (λ i. ltb (getD l i 0) b)
 unfolding allBelow
-test-none cs = refl
+test-none b l = refl
 
-pub test-more : (cs : List ℕ) (i : ℕ) (t : Bool) → t ≡ allBelow i (λ j. ltb (getD cs j 0) 8192) → t && ltb (getD cs i 0) 8192 ≡ allBelow (i + 1) (λ j. ltb (getD cs j 0) 8192)
+pub test-more : (b : ℕ) (l : List ℕ) (i : ℕ) (t : Bool) → t ≡ allBelow i (λ j. ltb (getD l j 0) b) → t && ltb (getD l i 0) b ≡ allBelow (i + 1) (λ j. ltb (getD l j 0) b)
 unfolding allBelow
-test-more cs i t e = rw add-one (ap (λ (b : Bool). b && ltb (getD cs i 0) 8192) e)
+test-more b l i t e = rw add-one (ap (λ (x : Bool). x && ltb (getD l i 0) b) e)
 
 -- the four ways to be no clause, in the order in which they are tried
 module _ (buf : List ℕ) (a b : ℕ) where

@@ -3,3 +3,4 @@ pub mod Grammar
 pub mod Reading
 pub mod Filled
 pub mod Writing
+pub mod Listed

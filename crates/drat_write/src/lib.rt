@@ -3,17 +3,25 @@
 use drat::Format;
 use drat::Kind;
 use drat::Wrote;
+use proof::no_proof;
+use proof::proof_fits;
+use proof::put_proof;
 ghost use mathlib.Core.Path.{_≡_};
 ghost use mathlib.Core.List.{[], _∷_};
 ghost use Prim.Native.Nat.{_+_, _/_, _%_, _≤_, _<_};
-ghost use lib.Dec.{leb};
-ghost use lib.ListN.{length};
+ghost use lib.Dec.{leb, ltb};
+ghost use lib.ListN.{length, getD};
 ghost use Rattle.base.specs.Lent.{old, new, Fills};
 ghost use Rattle.base.specs.Choice.{pick};
-ghost use Rattle.drat.specs.declared.Format.the-variants.{Text};
+ghost use Rattle.base.specs.Bounded.{allBelow};
+ghost use Rattle.drat.specs.declared.Format.the-variants.{Text, Binary};
 ghost use Rattle.drat.specs.Numeral.{bytesOf, leb128};
 ghost use Rattle.drat.specs.Grammar.{blanked, number, numbers, opens, ends, stepOf, encodeStep, Codes};
 ghost use Rattle.drat.specs.Writing.{codesTest, outside, writeOf, wrote};
+ghost use Rattle.drat.specs.Listed.{writeAllOf};
+ghost use Rattle.drat.proofs.Shapes.{Short};
+
+mod proof;
 
 fn one(b: bool) -> u32
     ensures { λ r. ⌜ r ≡ pick b 1 0 ⌝ }
@@ -213,17 +221,14 @@ fn put_text(c: u32, out: &mut [u8], at: usize) -> usize
     put_decimal(c / 2 + 1, out, at + (c % 2) as usize)
 }
 
-// Writes a literal.
-fn put_number(f: Format, c: u32, out: &mut [u8], at: usize) -> usize
+// Writes a literal in binary.
+fn put_binary(c: u32, out: &mut [u8], at: usize) -> usize
     requires { ⌜ c < 8192 ⌝ }
-    requires { ⌜ at + length (number f c) ≤ length (now out) ⌝ }
-    ensures { λ r. ⌜ r ≡ at + length (number f c) ⌝ }
-    ensures { λ _. ⌜ Fills out at (number f c) ⌝ }
+    requires { ⌜ at + length (number Binary c) ≤ length (now out) ⌝ }
+    ensures { λ r. ⌜ r ≡ at + length (number Binary c) ⌝ }
+    ensures { λ _. ⌜ Fills out at (number Binary c) ⌝ }
 {
-    match f {
-        Format::Text => put_text(c, out, at),
-        Format::Binary => put_code(c + 2, out, at),
-    }
+    put_code(c + 2, out, at)
 }
 
 fn put_open(f: Format, k: Kind, out: &mut [u8], at: usize) -> usize
@@ -271,23 +276,91 @@ fn put_end(f: Format, out: &mut [u8], at: usize) -> usize
     }
 }
 
+fn put_texts(lits: &[u32], out: &mut [u8], at: usize) -> usize
+    requires { ⌜ Codes (now lits) ⌝ }
+    requires { ⌜ at + length (numbers Text (now lits)) ≤ length (now out) ⌝ }
+    ensures { λ r. ⌜ r ≡ at + length (numbers Text (old lits)) ⌝ }
+    ensures { λ _. ⌜ Fills out at (numbers Text (old lits)) ⌝ }
+{
+    let mut p = at;
+    let mut i = 0;
+    while i < lits.len() {
+        p = put_text(lits[i], out, p);
+        i += 1;
+    }
+    p
+}
+
+// Whether every code takes one byte.
+fn all_short(lits: &[u32]) -> bool
+    ensures { λ r. ⌜ r ≡ allBelow (length (old lits)) (λ i. ltb (getD (old lits) i 0) 126) ⌝ }
+{
+    let mut ok = true;
+    let mut i = 0;
+    while i < lits.len() {
+        ok = ok & (lits[i] < 126);
+        i += 1;
+    }
+    ok
+}
+
+// Writes literals of one byte each.
+fn put_short(lits: &[u32], out: &mut [u8], at: usize) -> usize
+    requires { ⌜ Short (now lits) ⌝ }
+    requires { ⌜ at + length (now lits) ≤ length (now out) ⌝ }
+    ensures { λ r. ⌜ r ≡ at + length (old lits) ⌝ }
+    ensures { λ _. ⌜ Fills out at (numbers Binary (old lits)) ⌝ }
+{
+    let mut i = 0;
+    while i < lits.len() {
+        out[at + i] = (lits[i] + 2) as u8;
+        i += 1;
+    }
+    at + i
+}
+
+fn put_each(lits: &[u32], out: &mut [u8], at: usize) -> usize
+    requires { ⌜ Codes (now lits) ⌝ }
+    requires { ⌜ at + length (numbers Binary (now lits)) ≤ length (now out) ⌝ }
+    ensures { λ r. ⌜ r ≡ at + length (numbers Binary (old lits)) ⌝ }
+    ensures { λ _. ⌜ Fills out at (numbers Binary (old lits)) ⌝ }
+{
+    let mut p = at;
+    let mut i = 0;
+    while i < lits.len() {
+        p = put_binary(lits[i], out, p);
+        i += 1;
+    }
+    p
+}
+
+// Where all literals take one byte, they are copied without a test of each.
+fn put_binaries(lits: &[u32], out: &mut [u8], at: usize) -> usize
+    requires { ⌜ Codes (now lits) ⌝ }
+    requires { ⌜ at + length (numbers Binary (now lits)) ≤ length (now out) ⌝ }
+    ensures { λ r. ⌜ r ≡ at + length (numbers Binary (old lits)) ⌝ }
+    ensures { λ _. ⌜ Fills out at (numbers Binary (old lits)) ⌝ }
+{
+    if all_short(lits) {
+        return put_short(lits, out, at);
+    }
+    put_each(lits, out, at)
+}
+
+// Writes literals. A loop for each format, so that the short one is inlined.
 fn put_lits(f: Format, lits: &[u32], out: &mut [u8], at: usize) -> usize
     requires { ⌜ Codes (now lits) ⌝ }
     requires { ⌜ at + length (numbers f (now lits)) ≤ length (now out) ⌝ }
     ensures { λ r. ⌜ r ≡ at + length (numbers f (old lits)) ⌝ }
     ensures { λ _. ⌜ Fills out at (numbers f (old lits)) ⌝ }
 {
-    let mut p = at;
-    let mut i = 0;
-    while i < lits.len() {
-        p = put_number(f, lits[i], out, p);
-        i += 1;
+    match f {
+        Format::Text => put_texts(lits, out, at),
+        Format::Binary => put_binaries(lits, out, at),
     }
-    p
 }
 
-// Writes a step from the place `at` on, and gives the place after it.
-pub fn put_step(f: Format, k: Kind, lits: &[u32], out: &mut [u8], at: usize) -> usize
+fn put_any(f: Format, k: Kind, lits: &[u32], out: &mut [u8], at: usize) -> usize
     requires { ⌜ Codes (now lits) ⌝ }
     requires { ⌜ at + length (encodeStep f (stepOf k (now lits))) ≤ length (now out) ⌝ }
     ensures { λ r. ⌜ r ≡ at + length (encodeStep f (stepOf k (old lits))) ⌝ }
@@ -296,6 +369,34 @@ pub fn put_step(f: Format, k: Kind, lits: &[u32], out: &mut [u8], at: usize) -> 
     let p = put_open(f, k, out, at);
     let q = put_lits(f, lits, out, p);
     put_end(f, out, q)
+}
+
+// In binary, with no pass over the literals before they are written.
+fn put_few(k: Kind, lits: &[u32], out: &mut [u8], at: usize) -> usize
+    requires { ⌜ Codes (now lits) ⌝ }
+    requires { ⌜ at + length (encodeStep Binary (stepOf k (now lits))) ≤ length (now out) ⌝ }
+    ensures { λ r. ⌜ r ≡ at + length (encodeStep Binary (stepOf k (old lits))) ⌝ }
+    ensures { λ _. ⌜ Fills out at (encodeStep Binary (stepOf k (old lits))) ⌝ }
+{
+    let p = put_open(Format::Binary, k, out, at);
+    let q = put_each(lits, out, p);
+    put_end(Format::Binary, out, q)
+}
+
+// Writes a step from the place `at` on, and gives the place after it. Short binary ones go apart, so that they are inlined.
+pub fn put_step(f: Format, k: Kind, lits: &[u32], out: &mut [u8], at: usize) -> usize
+    requires { ⌜ Codes (now lits) ⌝ }
+    requires { ⌜ at + length (encodeStep f (stepOf k (now lits))) ≤ length (now out) ⌝ }
+    ensures { λ r. ⌜ r ≡ at + length (encodeStep f (stepOf k (old lits))) ⌝ }
+    ensures { λ _. ⌜ Fills out at (encodeStep f (stepOf k (old lits))) ⌝ }
+{
+    if 16 <= lits.len() {
+        return put_any(f, k, lits, out, at);
+    }
+    match f {
+        Format::Text => put_any(f, k, lits, out, at),
+        Format::Binary => put_few(k, lits, out, at),
+    }
 }
 
 fn codes_ok(lits: &[u32]) -> bool
@@ -347,6 +448,22 @@ pub fn write_clause(
     }
     if step_fits(f, k, &buf[a..b], out.len() - at) {
         let e = put_step(f, k, &buf[a..b], out, at);
+        return Wrote::Done(e);
+    }
+    Wrote::Lacking
+}
+
+// Writes a whole proof from the three lists that the reader fills, from the start of the output on: 3, 2.
+// `writeAllOf` of drat's specs/Listed.antt, and `wrote` for the answer.
+pub fn write_proof(f: Format, codes: &[u32], ends: &[u64], kinds: &[u8], out: &mut [u8]) -> Wrote
+    ensures { λ r. ⌜ wrote r ≡ writeAllOf f (old codes) (old ends) (old kinds) (length (old out)) .answer ⌝ }
+    ensures { λ _. ⌜ Fills out 0 (writeAllOf f (old codes) (old ends) (old kinds) (length (old out)) .bytes) ⌝ }
+{
+    if no_proof(codes, ends, kinds) {
+        return Wrote::Outside;
+    }
+    if proof_fits(f, codes, ends, kinds, out.len()) {
+        let e = put_proof(f, codes, ends, kinds, out);
         return Wrote::Done(e);
     }
     Wrote::Lacking

@@ -17,7 +17,7 @@ abbrev μ-loop : tie.MeasureT-loop
 μ-loop lits ok₀ i₀ ok i = length lits - i
 
 loop-holds : tie.Need-loop-holds Inv-loop μ-loop
-loop-holds c = (omega arith, test-none (c .args .lits .now))
+loop-holds c = (omega arith, test-none 8192 (c .args .lits .now))
 
 mul-ok : tie.Need-mul-ok Inv-loop μ-loop
 mul-ok c = search needs
@@ -35,7 +35,7 @@ loop-again : tie.Need-loop-again Inv-loop μ-loop
 loop-again c =
     let a = c .before .before .before .args in
     let l = c .before .before .loop in
-    (omega arith, test-more (a .lits .now) (l .i) (l .ok) (l .inv .1))
+    (omega arith, test-more 8192 (a .lits .now) (l .i) (l .ok) (l .inv .1))
 
 returns : tie.Need-returns Inv-loop μ-loop
 returns c =

@@ -1,49 +1,65 @@
--- The three parts are laid one after another: `step-sets`.
-use Prim.Native.Nat.{ℕ, _+_}
-use mathlib.Core.List.{List}
-use mathlib.Core.Path.{ap, ap₂, _∙_}
+use mathlib.Core.Path.{sym, ap, _∙_}
 use native.Mathlib.Omega.{arith}
 use lib.Seq.{sets}
 use lib.ListN.{length}
 use borrow.Author.Needs.{needs}
-use Rattle.drat.proofs.Steps.{step-length, step-sets}
-use Rattle.drat.specs.Grammar.{numbers, ends}
+use Rattle.drat.specs.declared.Format.{Format}
+use Rattle.drat.specs.Grammar.{stepOf, encodeStep}
 use Rattle.drat_write.proofs.put_step.Statement.{statement}
 use Rattle.drat_write.proofs.put_step.Tie as tie
 
-put-open-requires : tie.Need-put-open-requires
-put-open-requires c κs =
-    let a = c .before .before .before .args in
-    let l = step-length (a .f) (a .k) (a .lits .now) in
-    omega arith
-
-put-lits-requires : tie.Need-put-lits-requires
-put-lits-requires c κs =
-    let a = c .before .before .before .before .before .before .before .args in
-    let l = step-length (a .f) (a .k) (a .lits .now) in
-    (c .before .before .before .before .before .before .before .pre .0, omega (arith, c .before .before .before .put-open .ensures .0, c .before .before .before .put-open .kept .1 .1 .0))
-
-put-end-requires : tie.Need-put-end-requires
-put-end-requires c κs =
-    let a = c .before .before .before .before .before .before .before .before .before .before .before .args in
-    let l = step-length (a .f) (a .k) (a .lits .now) in
-    omega (arith, c .before .before .before .before .before .before .before .put-open .ensures .0, c .before .before .before .before .before .before .before .put-open .kept .1 .1 .0, c .before .before .before .put-lits .ensures .0, c .before .before .before .put-lits .kept .1 .1 .0)
+put-any-requires : tie.Need-put-any-requires
+put-any-requires c κs = search needs
 
 same-length : tie.Need-same-length
 same-length c = search needs
 
 returns : tie.Need-returns
-returns c =
-    let a = c .before .before .before .before .before .before .before .before .before .before .before .before .before .before .args in
-    let l = step-length (a .f) (a .k) (a .lits .now) in
-    let o = c .before .before .before .before .before .before .before .before .before .before .put-open .ensures in
-    let p = c .before .before .before .before .before .before .put-lits .ensures in
-    let e = c .before .before .put-end .ensures in (
-      omega (arith, o .0, p .0, e .0),
-      e .1 ∙ ap₂ (λ (x : List ℕ) (i : ℕ). sets x i (ends (a .f))) (p .1 ∙ ap₂ (λ (x : List ℕ) (i : ℕ). sets x i (numbers (a .f) (a .lits .now))) (o .1) (o .0)) (p .0 ∙ ap (λ (i : ℕ). i + length (numbers (a .f) (a .lits .now))) (o .0))
-          ∙ step-sets (a .f) (a .k) (a .lits .now) (a .out .now) (a .at),
-    )
+returns c = search needs
+
+enum-told : tie.Need-enum-told
+enum-told c = search needs
+
+put-any-requires-2 : tie.Need-put-any-requires-2
+put-any-requires-2 c κs = search needs
+
+enum-told-2 : tie.Need-enum-told-2
+enum-told-2 c = search needs
+
+put-few-requires : tie.Need-put-few-requires
+put-few-requires c κs =
+    let a = c .before .before .before .before .before .before .args in
+    let e = ap (λ (x : Format). length (encodeStep x (stepOf (a .k) (a .lits .now)))) (c .before .enum-told2 .given .1) in
+    (c .before .before .before .before .before .before .pre .0, omega (arith, e))
+
+same-length-2 : tie.Need-same-length-2
+same-length-2 c = search needs
+
+returns-2 : tie.Need-returns-2
+returns-2 c = search needs
+
+same-length-3 : tie.Need-same-length-3
+same-length-3 c = search needs
+
+returns-3 : tie.Need-returns-3
+returns-3 c =
+    let a = c .before .before .before .before .before .before .before .before .before .args in
+    let e = ap (λ (x : Format). encodeStep x (stepOf (a .k) (a .lits .now))) (c .before .before .before .before .enum-told2 .given .1) in
+    let p = c .before .before .put-few .ensures in
+    (p .0 ∙ omega (arith, ap length e), p .1 ∙ sym (ap (sets (a .out .now) (a .at)) e))
 
 pub put-step-spec : {M : Type 1} → statement M
 put-step-spec =
-    tie.close (tie.spec put-open-requires put-lits-requires put-end-requires same-length returns)
+    tie.close
+    (tie.spec
+    put-any-requires
+    same-length
+    returns
+    enum-told
+    put-any-requires-2
+    enum-told-2
+    put-few-requires
+    same-length-2
+    returns-2
+    same-length-3
+    returns-3)

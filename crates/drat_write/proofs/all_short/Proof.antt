@@ -1,0 +1,58 @@
+-- The invariant: the flag is the test of the codes passed.
+use Prim.Native.Nat.{ℕ, _-_, _≤_}
+use mathlib.Core.Path.{_≡_, ap, _∙_}
+use native.Mathlib.Omega.{arith}
+use lib.Dec.{ltb}
+use lib.ListN.{length, getD}
+use borrow.Author.Needs.{needs}
+use Rattle.base.specs.Bounded.{allBelow}
+use Rattle.drat.proofs.WritingLaws.{test-none, test-more}
+use Rattle.drat_write.proofs.all_short.Statement.{statement}
+use Rattle.drat_write.proofs.all_short.Tie as tie
+
+abbrev Inv-loop : tie.InvT-loop
+Inv-loop lits ok₀ i₀ ok i = (i ≤ length lits) × (ok ≡ allBelow i (λ j. ltb (getD lits j 0) 126))
+
+abbrev μ-loop : tie.MeasureT-loop
+μ-loop lits ok₀ i₀ ok i = length lits - i
+
+loop-holds : tie.Need-loop-holds Inv-loop μ-loop
+loop-holds c = (omega arith, test-none 126 (c .args .lits .now))
+
+mul-ok : tie.Need-mul-ok Inv-loop μ-loop
+mul-ok c = search needs
+
+shared-slice-read-ok : tie.Need-shared-slice-read-ok Inv-loop μ-loop
+shared-slice-read-ok c = search needs
+
+add-i : tie.Need-add-i Inv-loop μ-loop
+add-i c = search needs
+
+loop-less : tie.Need-loop-less Inv-loop μ-loop
+loop-less c = search needs
+
+loop-again : tie.Need-loop-again Inv-loop μ-loop
+loop-again c =
+    let a = c .before .before .before .args in
+    let l = c .before .before .loop in
+    (omega arith, test-more 126 (a .lits .now) (l .i) (l .ok) (l .inv .1))
+
+returns : tie.Need-returns Inv-loop μ-loop
+returns c =
+    let l = c .before .loop in
+    let e : l .i ≡ length (c .before .before .args .lits .now) = omega arith in
+    l .inv .1 ∙ ap (λ (n : ℕ). allBelow n (λ j. ltb (getD (c .before .before .args .lits .now) j 0) 126)) e
+
+pub all-short-spec : {M : Type 1} → statement M
+all-short-spec =
+    tie.close
+    (tie.spec
+    Inv-loop
+    μ-loop
+    loop-holds
+    mul-ok
+    shared-slice-read-ok
+    add-i
+    loop-less
+    loop-again
+    returns)
