@@ -1,6 +1,6 @@
 -- The judging and the counts at a place of the input, as the loops meet them.
 use Prim.Native.Nat.{ℕ, suc, _+_, _-_, _≤_, _<_}
-use mathlib.Core.Bool.{Bool, true, false, _&&_}
+use mathlib.Core.Bool.{Bool, true, false, not, _&&_}
 use mathlib.Core.List.{List, [], _∷_}
 use mathlib.Core.Path.{_≡_, refl, sym, ap, ap₂, _∙_}
 use lib.Dec.{eqb, ltb, leb·suc-suc}
@@ -76,6 +76,15 @@ binary-turn s j i h k ok r e q =
 pub runs-out : (f : Format) (s : List ℕ) (j : Bool) (i : ℕ) → length s ≤ i → 1 ≤ i → (ok : Bool) → ok && runsAt f s i ≡ j → ok && eqb (getD s (i - 1) 0) (mark f) ≡ j
 runs-out f s j i h k ok e =
     ap (λ (p : ℕ). ok && eqb p (mark f)) (sym (back-at f s i 1 k)) ∙ ap (λ (t : Bool). ok && t) (sym (runs-done f s i h)) ∙ e
+
+-- a part judged, and what is ahead of it
+pub part-holds : (r x y : Bool) → not r ≡ false → r && x ≡ y → x ≡ y
+part-holds true x y h e = e
+part-holds false x y h e = let z : _≡_ {A = ℕ} 0 1 = cc in absurd (omega arith)
+
+pub part-fails : (r x y : Bool) → not r ≡ true → r && x ≡ y → false ≡ y
+part-fails true x y h e = let z : _≡_ {A = ℕ} 0 1 = cc in absurd (omega arith)
+part-fails false x y h e = e
 
 pub tally-next : (lo hi : ℕ) (s : List ℕ) (i : ℕ) → i < length s → tally lo hi (drop i s) ≡ pick (within lo hi (getD s i 0)) 1 0 + tally lo hi (drop (i + 1) s)
 unfolding tally

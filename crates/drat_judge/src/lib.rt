@@ -101,45 +101,77 @@ fn head_runs(f: Format, s: &[u8], n: usize) -> bool
     ok
 }
 
-// The bytes from the fifth on, and the end.
-fn text_runs(s: &[u8]) -> bool
-    requires { ⌜ 4 ≤ length (now s) ⌝ }
-    ensures { λ r. ⌜ r ≡ runsAt Text (old s) 4 ⌝ }
+// The bytes of text from one place to another.
+fn text_part(s: &[u8], from: usize, to: usize) -> bool
+    requires { ⌜ 4 ≤ from ⌝ }
+    requires { ⌜ from ≤ to ⌝ }
+    requires { ⌜ to ≤ length (now s) ⌝ }
+    ensures { λ r. ⌜ r && runsAt Text (old s) to ≡ runsAt Text (old s) from ⌝ }
 {
     let mut ok = true;
-    let mut i = 4;
-    while i < s.len() {
+    let mut i = from;
+    while i < to {
         ok = ok & text_next(s[i - 4], s[i - 3], s[i - 2], s[i - 1], s[i]);
         i += 1;
     }
-    ok & (s[i - 1] == 10)
+    ok
 }
 
-// The bytes from the second on, and the end.
-fn binary_runs(s: &[u8]) -> bool
-    requires { ⌜ 1 ≤ length (now s) ⌝ }
-    ensures { λ r. ⌜ r ≡ runsAt Binary (old s) 1 ⌝ }
+// The bytes of binary from one place to another.
+fn binary_part(s: &[u8], from: usize, to: usize) -> bool
+    requires { ⌜ 4 ≤ from ⌝ }
+    requires { ⌜ from ≤ to ⌝ }
+    requires { ⌜ to ≤ length (now s) ⌝ }
+    ensures { λ r. ⌜ r && runsAt Binary (old s) to ≡ runsAt Binary (old s) from ⌝ }
 {
     let mut ok = true;
-    let mut i = 1;
-    while i < s.len() {
+    let mut i = from;
+    while i < to {
         ok = ok & binary_next(s[i - 1], s[i]);
         i += 1;
     }
-    ok & (s[i - 1] == 0)
+    ok
+}
+
+fn part_runs(f: Format, s: &[u8], from: usize, to: usize) -> bool
+    requires { ⌜ 4 ≤ from ⌝ }
+    requires { ⌜ from ≤ to ⌝ }
+    requires { ⌜ to ≤ length (now s) ⌝ }
+    ensures { λ r. ⌜ r && runsAt f (old s) to ≡ runsAt f (old s) from ⌝ }
+{
+    match f {
+        Format::Text => text_part(s, from, to),
+        Format::Binary => binary_part(s, from, to),
+    }
+}
+
+// The bytes from the fifth on, and the end. In parts: a fault ends the judging with its part.
+fn tail_runs(f: Format, s: &[u8]) -> bool
+    requires { ⌜ 4 ≤ length (now s) ⌝ }
+    ensures { λ r. ⌜ r ≡ runsAt f (old s) 4 ⌝ }
+{
+    let mut i: usize = 4;
+    while 4096 < s.len() - i {
+        if !part_runs(f, s, i, i + 4096) {
+            return false;
+        }
+        i += 4096;
+    }
+    let n = s.len();
+    part_runs(f, s, i, n) & (s[n - 1] == mark_of(f))
 }
 
 fn is_judged(f: Format, s: &[u8]) -> bool
     ensures { λ r. ⌜ r ≡ judged f (old s) ⌝ }
 {
-    if s.len() < 4 {
-        let n = s.len();
+    let n = s.len();
+    if n < 4 {
         return head_runs(f, s, n) & (byte_back(f, s, n, 1) == mark_of(f));
     }
-    match f {
-        Format::Text => head_runs(f, s, 4) & text_runs(s),
-        Format::Binary => head_runs(f, s, 1) & binary_runs(s),
+    if !head_runs(f, s, 4) {
+        return false;
     }
+    tail_runs(f, s)
 }
 
 fn one(t: bool) -> u8

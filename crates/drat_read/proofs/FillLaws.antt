@@ -15,9 +15,10 @@ use Rattle.drat.specs.Reading.{token, opening, Part, whole, broken, One, got, f
 use Rattle.drat.specs.declared.Format.{Format}
 use Rattle.drat.specs.declared.Kind.{Kind}
 use Rattle.drat.specs.declared.Opening.the-variants.{Opens, Wrong}
+use Rattle.drat.specs.declared.Opening.{Opening}
 use Rattle.drat.specs.declared.Scanned.the-variants.{Whole}
 use Rattle.drat.specs.declared.Token.the-variants.{Lit, Stop}
-use Rattle.drat_read.specs.Known.{Fits, BodyFits, BodyFilled}
+use Rattle.drat_read.specs.Known.{Fits, BodyFits, BodyFilled, IsOpen}
 use Rattle.drat_read.proofs.BodyLaws.{body-is, Ahead, stops, goes, ahead}
 
 -- ---- what a whole is made of
@@ -87,8 +88,15 @@ module _ (f : Format) (s codes₀ ends₀ kinds₀ codes ends kinds : List ℕ) 
       go fault g = absurd (steps-fault (r .0) at (sym (fault-at f s hb at h g) ∙ r .1))
 
   module _ (a b c : ℕ) (w : Fits f s a b c) (h : at < length s) where
-    pub fill-wrong : opening f at (drop at s) ≡ Wrong → ⊥
+    fill-wrong : opening f at (drop at s) ≡ Wrong → ⊥
     fill-wrong e = let g = coming (w .ss) (w .reads) h in fault-got (g .now) (g .end) (sym (wrong-at f s hb at e) ∙ g .here)
+
+    pub fill-open : IsOpen (opening f at (drop at s))
+    fill-open = go (opening f at (drop at s)) refl
+      where
+        go : (t : Opening) → opening f at (drop at s) ≡ t → IsOpen (opening f at (drop at s))
+        go (Opens k j) e = record { kind = k; first = j; is = e }
+        go Wrong e = absurd (fill-wrong e)
 
     pub fill-opens : (k : Kind) (first : ℕ) → opening f at (drop at s) ≡ Opens k first → BodyFits f s first n a
     fill-opens k first e =

@@ -1,4 +1,5 @@
 pub mod LitLaws
 pub mod BodyLaws
+pub mod OpenLaws
 pub mod FillLaws
 pub mod ScanLaws

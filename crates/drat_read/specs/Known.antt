@@ -1,13 +1,17 @@
 -- What the fill is told of bytes that were judged whole, and what it says of a step's literals.
-use Prim.Native.Nat.{ℕ, _+_, _≤_}
+use Prim.Native.Nat.{ℕ, _+_, _*_, _≤_}
 use mathlib.Core.Path.{_≡_}
 use mathlib.Core.List.{List}
 use lib.ListN.{length, drop}
 use lib.Seq.{sets}
 use Rattle.drat.specs.Grammar.{Step}
 use Rattle.drat.specs.Reading.{Part, whole, body, steps, readProof}
-use Rattle.drat.specs.Filled.{codesOf}
+use Rattle.drat.specs.Filled.{kindNumber, codesOf}
 use Rattle.drat.specs.declared.Format.{Format}
+use Rattle.drat.specs.declared.Format.the-variants.{Text, Binary}
+use Rattle.drat.specs.declared.Kind.{Kind}
+use Rattle.drat.specs.declared.Opening.{Opening}
+use Rattle.drat.specs.declared.Opening.the-variants.{Opens}
 use Rattle.drat.specs.declared.Token.{Token}
 use Rattle.drat.specs.declared.Token.the-variants.{Lit}
 
@@ -44,3 +48,19 @@ pub record IsLit (t : Token) : Type 0 where
   pub code : ℕ
   pub next : ℕ
   pub is : t ≡ Lit code next
+
+-- A step that opens; the number of its kind and the place of its first literal.
+pub record IsOpen (t : Opening) : Type 0 where
+  pub kind : Kind
+  pub first : ℕ
+  pub is : t ≡ Opens kind first
+
+pub record Opened (t : Opening) (number first : ℕ) : Type 0 where
+  pub kind : Kind
+  pub is : t ≡ Opens kind first
+  pub numbered : number ≡ kindNumber kind
+
+-- That place, by the number: in text a deletion has two bytes before it, in binary each step has one.
+abbrev pub firstPlace : Format → ℕ → ℕ → ℕ
+firstPlace Text i number = i + 2 * number
+firstPlace Binary i number = i + 1

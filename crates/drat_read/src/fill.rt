@@ -1,19 +1,17 @@
 // The fill: the words of steps that were judged whole. It asks nothing of a byte that the judging has asked.
-use crate::place::kind_number;
-use crate::place::opening_at;
+use crate::place::minus;
 use drat::Format;
-use drat::Opening;
 ghost use mathlib.Core.Path.{_≡_};
 ghost use Prim.Native.Nat.{_+_, _≤_};
 ghost use lib.Dec.{eqb};
 ghost use lib.ListN.{length, getD, drop};
 ghost use Rattle.base.specs.Choice.{pick};
 ghost use Rattle.base.specs.Lent.{old, new};
-ghost use Rattle.drat.specs.Reading.{decimalFrom, lebFrom, token, readProof};
+ghost use Rattle.drat.specs.Reading.{decimalFrom, lebFrom, token, opening, readProof};
 ghost use Rattle.drat.specs.Filled.{counted, Scan};
 ghost use Rattle.drat.specs.declared.Format.the-variants.{Text, Binary};
 ghost use Rattle.drat.specs.declared.Token.the-variants.{Lit};
-ghost use Rattle.drat_read.specs.Known.{Fits, BodyFits, BodyFilled, IsLit};
+ghost use Rattle.drat_read.specs.Known.{Fits, BodyFits, BodyFilled, IsLit, IsOpen, Opened};
 
 // A literal's code and the place after it.
 struct Literal {
@@ -27,10 +25,10 @@ struct Place {
     n: usize,
 }
 
-fn minus(b: u8) -> u32
-    ensures { λ r. ⌜ (r ≡ pick (eqb b 45) 1 0) × (r ≤ 1) ⌝ }
-{
-    if b == 45 { 1 } else { 0 }
+// A step's kind, 1 for a deletion, and the place of its first literal.
+struct Start {
+    kind: u8,
+    first: usize,
 }
 
 // The digits from a place on, and the blank after them.
@@ -118,6 +116,30 @@ fn body_from(f: Format, s: &[u8], codes: &mut [u32], from: usize, first: usize) 
     }
 }
 
+fn kind_by(b: u8) -> u8
+    ensures { λ r. ⌜ (r ≡ pick (eqb b 100) 1 0) × (r ≤ 1) ⌝ }
+{
+    if b == 100 { 1 } else { 0 }
+}
+
+// How a step opens that is known to open. Without a branch on the kind: where additions and deletions mix it would be mispredicted.
+fn start_at(f: Format, s: &[u8], at: usize) -> Start
+    requires { ⌜ IsOpen (opening f at (drop at (now s))) ⌝ }
+    ensures { λ r. ⌜ Opened (opening f at (drop at (old s))) (r .kind) (r .first) ⌝ }
+{
+    let kind = kind_by(s[at]);
+    match f {
+        Format::Text => Start {
+            kind,
+            first: at + 2 * (kind as usize),
+        },
+        Format::Binary => Start {
+            kind,
+            first: at + 1,
+        },
+    }
+}
+
 // Fills all steps. Where they are whole every step opens.
 pub(crate) fn fill(f: Format, s: &[u8], codes: &mut [u32], ends: &mut [u64], kinds: &mut [u8])
     requires { ⌜ Fits f (now s) (length (now codes)) (length (now ends)) (length (now kinds)) ⌝ }
@@ -127,14 +149,12 @@ pub(crate) fn fill(f: Format, s: &[u8], codes: &mut [u32], ends: &mut [u64], kin
     let mut n: usize = 0;
     let mut m: usize = 0;
     while at < s.len() {
-        let Opening::Opens(k, first) = opening_at(f, s, at) else {
-            return;
-        };
-        let p = body_from(f, s, codes, first, n);
+        let b = start_at(f, s, at);
+        let p = body_from(f, s, codes, b.first, n);
         n = p.n;
         at = p.at;
         ends[m] = n as u64;
-        kinds[m] = kind_number(k);
+        kinds[m] = b.kind;
         m += 1;
     }
 }

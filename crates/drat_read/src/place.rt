@@ -5,10 +5,19 @@ use drat::Opening;
 use drat::Token;
 ghost use mathlib.Core.Path.{_≡_};
 ghost use Prim.Native.Nat.{_≤_};
+ghost use lib.Dec.{eqb};
 ghost use lib.ListN.{drop};
+ghost use Rattle.base.specs.Choice.{pick};
 ghost use Rattle.base.specs.Lent.{old};
-ghost use Rattle.drat.specs.Filled.{kindNumber};
 ghost use Rattle.drat.specs.Reading.{decimalFrom, lebFrom, token, opening};
+ghost use Rattle.drat.specs.declared.Format.the-variants.{Text, Binary};
+
+// 1 for a minus, without a branch: where signs mix it would be mispredicted.
+pub(crate) fn minus(b: u8) -> u32
+    ensures { λ r. ⌜ (r ≡ pick (eqb b 45) 1 0) × (r ≤ 1) ⌝ }
+{
+    if b == 45 { 1 } else { 0 }
+}
 
 // Decimal digits from a place on.
 fn decimal_at(s: &[u8], at: usize, sign: u32) -> Token
@@ -76,38 +85,39 @@ fn leb_at(s: &[u8], at: usize) -> Token
     Token::Bad
 }
 
-// What stands at a place inside a step.
-pub(crate) fn token_at(f: Format, s: &[u8], at: usize) -> Token
-    ensures { λ r. ⌜ r ≡ token f at (drop at (old s)) ⌝ }
+// What stands at a place inside a text step.
+pub(crate) fn text_token(s: &[u8], at: usize) -> Token
+    ensures { λ r. ⌜ r ≡ token Text at (drop at (old s)) ⌝ }
 {
     if s.len() <= at {
         return Token::Bad;
     }
     let b = s[at];
-    match f {
-        Format::Text => {
-            if b == 48 {
-                let j = at + 1;
-                if s.len() <= j {
-                    return Token::Bad;
-                }
-                if s[j] == 10 {
-                    return Token::Stop(j + 1);
-                }
-                return Token::Bad;
-            }
-            if b == 45 {
-                return decimal_at(s, at + 1, 1);
-            }
-            decimal_at(s, at, 0)
+    if b == 48 {
+        let j = at + 1;
+        if s.len() <= j {
+            return Token::Bad;
         }
-        Format::Binary => {
-            if b == 0 {
-                return Token::Stop(at + 1);
-            }
-            leb_at(s, at)
+        if s[j] == 10 {
+            return Token::Stop(j + 1);
         }
+        return Token::Bad;
     }
+    let sign = minus(b);
+    decimal_at(s, at + sign as usize, sign)
+}
+
+// What stands at a place inside a binary step.
+pub(crate) fn binary_token(s: &[u8], at: usize) -> Token
+    ensures { λ r. ⌜ r ≡ token Binary at (drop at (old s)) ⌝ }
+{
+    if s.len() <= at {
+        return Token::Bad;
+    }
+    if s[at] == 0 {
+        return Token::Stop(at + 1);
+    }
+    leb_at(s, at)
 }
 
 // How the step at a place opens.
@@ -141,14 +151,5 @@ pub(crate) fn opening_at(f: Format, s: &[u8], at: usize) -> Opening
             }
             Opening::Wrong
         }
-    }
-}
-
-pub(crate) fn kind_number(k: Kind) -> u8
-    ensures { λ r. ⌜ r ≡ kindNumber k ⌝ }
-{
-    match k {
-        Kind::Add => 0,
-        Kind::Delete => 1,
     }
 }

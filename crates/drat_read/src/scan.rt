@@ -1,6 +1,7 @@
 // The scan: all steps in turn, up to the first fault.
+use crate::place::binary_token;
 use crate::place::opening_at;
-use crate::place::token_at;
+use crate::place::text_token;
 use drat::Format;
 use drat::Opening;
 use drat::Scanned;
@@ -10,7 +11,17 @@ ghost use Prim.Native.Nat.{_≤_};
 ghost use lib.ListN.{length, drop};
 ghost use Rattle.base.specs.Lent.{old};
 ghost use Rattle.drat.specs.Filled.{counted, endOf};
-ghost use Rattle.drat.specs.Reading.{oneStep, readProof};
+ghost use Rattle.drat.specs.Reading.{token, oneStep, readProof};
+
+// What stands at a place inside a step. It is called from one place alone, so that it is compiled into the scan's loop.
+fn token_at(f: Format, s: &[u8], at: usize) -> Token
+    ensures { λ r. ⌜ r ≡ token f at (drop at (old s)) ⌝ }
+{
+    match f {
+        Format::Text => text_token(s, at),
+        Format::Binary => binary_token(s, at),
+    }
+}
 
 // The number of literals and of steps, or the start of the first step that is not whole.
 pub(crate) fn scan(f: Format, s: &[u8]) -> Scanned
@@ -50,6 +61,16 @@ pub(crate) fn scan(f: Format, s: &[u8]) -> Scanned
     }
 }
 
+// The same, for one step alone.
+fn token_alone(f: Format, s: &[u8], at: usize) -> Token
+    ensures { λ r. ⌜ r ≡ token f at (drop at (old s)) ⌝ }
+{
+    match f {
+        Format::Text => text_token(s, at),
+        Format::Binary => binary_token(s, at),
+    }
+}
+
 // The place after the step that starts at a place, or that place itself where no whole step stands there.
 pub(crate) fn step_end(f: Format, s: &[u8], start: usize) -> usize
     requires { ⌜ start ≤ length (now s) ⌝ }
@@ -60,7 +81,7 @@ pub(crate) fn step_end(f: Format, s: &[u8], start: usize) -> usize
     };
     let mut at = first;
     loop {
-        match token_at(f, s, at) {
+        match token_alone(f, s, at) {
             Token::Lit(_, next) => {
                 at = next;
             }

@@ -46,8 +46,8 @@ loop-holds c =
     let v = opens-at (a .f) s hb (a .start) (c .before .before .before .before .before .pre) k first eo in
     (v .2, sym (end-step (a .start) k (bodyAt (a .f) s first)) ∙ sym (ap (endOf (a .start)) (v .0)))
 
-token-at-requires : tie.Need-token-at-requires Inv-loop μ-loop
-token-at-requires c κs = search needs
+token-alone-requires : tie.Need-token-alone-requires Inv-loop μ-loop
+token-alone-requires c κs = search needs
 
 enum-known-next : tie.Need-enum-known-next Inv-loop μ-loop
 enum-known-next c = search needs
@@ -58,7 +58,7 @@ loop-less c =
     let s = a .s .now in
     let hb : Bytes s = λ i. omega (arith, c .before .before .before .before .before .before .before .before .before .shared-slice-known .given i) in
     let l = c .before .before .before .before .loop in
-    let v = lit-at (a .f) s hb (l .at) (l .inv .0) (c .before .next .given .0 .0) (c .before .next .given .0 .1 .0) (sym (c .before .before .before .token-at .ensures) ∙ c .before .next .given .1) in
+    let v = lit-at (a .f) s hb (l .at) (l .inv .0) (c .before .next .given .0 .0) (c .before .next .given .0 .1 .0) (sym (c .before .before .before .token-alone .ensures) ∙ c .before .next .given .1) in
     omega (arith, v .1, v .2)
 
 loop-again : tie.Need-loop-again Inv-loop μ-loop
@@ -69,7 +69,7 @@ loop-again c =
     let l = c .before .before .before .before .loop in
     let ch = c .before .next .given .0 .0 in
     let nx = c .before .next .given .0 .1 .0 in
-    let v = lit-at (a .f) s hb (l .at) (l .inv .0) ch nx (sym (c .before .before .before .token-at .ensures) ∙ c .before .next .given .1) in
+    let v = lit-at (a .f) s hb (l .at) (l .inv .0) ch nx (sym (c .before .before .before .token-alone .ensures) ∙ c .before .next .given .1) in
     (v .2, sym (ap (endPart (a .start)) (v .0) ∙ end-cons (a .start) ch (bodyAt (a .f) s nx)) ∙ l .inv .1)
 
 enum-known-next-2 : tie.Need-enum-known-next-2 Inv-loop μ-loop
@@ -82,7 +82,7 @@ returns-2 c =
     let hb : Bytes s = λ i. omega (arith, c .before .before .before .before .before .before .before .before .before .shared-slice-known .given i) in
     let l = c .before .before .before .before .loop in
     let nx = c .before .next2 .given .0 .0 in
-    let v = stop-at (a .f) s hb (l .at) (l .inv .0) nx (sym (c .before .before .before .token-at .ensures) ∙ c .before .next2 .given .1) in
+    let v = stop-at (a .f) s hb (l .at) (l .inv .0) nx (sym (c .before .before .before .token-alone .ensures) ∙ c .before .next2 .given .1) in
     (sym (end-whole (a .start) [] nx) ∙ sym (ap (endPart (a .start)) (v .0)) ∙ l .inv .1 ∙ ap (endOf (a .start)) (step-is (a .f) s (a .start)), v .2)
 
 enum-told-2 : tie.Need-enum-told-2 Inv-loop μ-loop
@@ -94,7 +94,7 @@ returns-3 c =
     let s = a .s .now in
     let hb : Bytes s = λ i. omega (arith, c .before .before .before .before .before .before .before .before .shared-slice-known .given i) in
     let l = c .before .before .before .loop in
-    let v = bad-at (a .f) s hb (l .at) (sym (c .before .before .token-at .ensures) ∙ c .enum-told2 .given .1) in
+    let v = bad-at (a .f) s hb (l .at) (sym (c .before .before .token-alone .ensures) ∙ c .enum-told2 .given .1) in
     (sym (end-broken (a .start)) ∙ sym (ap (endPart (a .start)) v) ∙ l .inv .1 ∙ ap (endOf (a .start)) (step-is (a .f) s (a .start)), c .before .before .before .before .before .before .before .before .before .pre)
 
 pub step-end-spec : {M : Type 1} → statement M
@@ -108,7 +108,7 @@ step-end-spec =
     enum-told
     returns
     loop-holds
-    token-at-requires
+    token-alone-requires
     enum-known-next
     loop-less
     loop-again

@@ -1,21 +1,20 @@
--- The invariant: what was said of the bytes passed, and what is said of those ahead, is what is said from the second byte on.
-use Prim.Native.Nat.{_-_, _≤_}
+-- The invariant: what was said of the bytes passed, and what is said of those ahead, is what is said from the first place on.
+use Prim.Native.Nat.{ℕ, _-_, _≤_}
 use mathlib.Core.Bool.{_&&_}
-use mathlib.Core.Path.{_≡_}
-use lib.ListN.{length}
+use mathlib.Core.Path.{_≡_, subst}
 use native.Mathlib.Omega.{arith}
 use borrow.Author.Needs.{needs}
 use Rattle.drat.specs.declared.Format.the-variants.{Binary}
-use Rattle.drat_judge.proofs.RunsLaws.{binary-turn, runs-out}
+use Rattle.drat_judge.proofs.RunsLaws.{binary-turn}
 use Rattle.drat_judge.specs.Local.{runsAt}
-use Rattle.drat_judge.proofs.binary_runs.Statement.{statement}
-use Rattle.drat_judge.proofs.binary_runs.Tie as tie
+use Rattle.drat_judge.proofs.binary_part.Statement.{statement}
+use Rattle.drat_judge.proofs.binary_part.Tie as tie
 
 abbrev Inv-loop : tie.InvT-loop
-Inv-loop s ok₀ i₀ ok i = (1 ≤ i) × (i ≤ length s) × (ok && runsAt Binary s i ≡ runsAt Binary s 1)
+Inv-loop s from to ok₀ i₀ ok i = (from ≤ i) × (i ≤ to) × (ok && runsAt Binary s i ≡ runsAt Binary s from)
 
 abbrev μ-loop : tie.MeasureT-loop
-μ-loop s ok₀ i₀ ok i = length s - i
+μ-loop s from to ok₀ i₀ ok i = to - i
 
 loop-holds : tie.Need-loop-holds Inv-loop μ-loop
 loop-holds c = search needs
@@ -40,24 +39,20 @@ loop-less c = search needs
 
 loop-again : tie.Need-loop-again Inv-loop μ-loop
 loop-again c =
-    let s = c .before .before .before .before .before .before .args .s .now in
+    let a = c .before .before .before .before .before .before .args in
+    let s = a .s .now in
     let l = c .before .before .before .before .loop in
-    (omega arith, omega arith, binary-turn s (runsAt Binary s 1) (l .i) (omega arith) (l .inv .0) (l .ok) (c .binary-next .result) (l .inv .2) (c .binary-next .ensures))
-
-sub-result : tie.Need-sub-result Inv-loop μ-loop
-sub-result c = search needs
-
-shared-slice-read-result : tie.Need-shared-slice-read-result Inv-loop μ-loop
-shared-slice-read-result c = search needs
+    (omega arith, omega arith, binary-turn s (runsAt Binary s (a .from)) (l .i) (omega arith) (omega arith) (l .ok) (c .binary-next .result) (l .inv .2) (c .binary-next .ensures))
 
 returns : tie.Need-returns Inv-loop μ-loop
 returns c =
-    let s = c .before .before .before .before .args .s .now in
-    let l = c .before .before .loop in
-    runs-out Binary s (runsAt Binary s 1) (l .i) (c .before .loop-test .left) (omega arith) (l .ok) (l .inv .2)
+    let a = c .before .before .before .args in
+    let l = c .before .loop in
+    let e : l .i ≡ a .to = omega arith in
+    subst (λ (k : ℕ). l .ok && runsAt Binary (a .s .now) k ≡ runsAt Binary (a .s .now) (a .from)) e (l .inv .2)
 
-pub binary-runs-spec : {M : Type 1} → statement M
-binary-runs-spec =
+pub binary-part-spec : {M : Type 1} → statement M
+binary-part-spec =
     tie.close
     (tie.spec
     Inv-loop
@@ -70,6 +65,4 @@ binary-runs-spec =
     add-i
     loop-less
     loop-again
-    sub-result
-    shared-slice-read-result
     returns)

@@ -5,8 +5,8 @@ use mathlib.Core.Path.{sym, ap}
 use native.Mathlib.Omega.{arith}
 use borrow.Author.Tests.{eq-eqb, ne-eqb}
 use Rattle.base.specs.Choice.{pick}
-use Rattle.drat_read.proofs.fill.minus.Statement.{statement}
-use Rattle.drat_read.proofs.fill.minus.Tie as tie
+use Rattle.drat_read.proofs.place.minus.Statement.{statement}
+use Rattle.drat_read.proofs.place.minus.Tie as tie
 
 returns : tie.Need-returns
 returns c = (sym (ap (λ (t : Bool). pick t 1 0) (eq-eqb (c .before .args .b) 45 (c .if1 .taken))), omega arith)

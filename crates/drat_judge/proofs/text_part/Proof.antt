@@ -1,21 +1,20 @@
--- The invariant: what was said of the bytes passed, and what is said of those ahead, is what is said from the fifth byte on.
-use Prim.Native.Nat.{_-_, _≤_}
+-- The invariant: what was said of the bytes passed, and what is said of those ahead, is what is said from the first place on.
+use Prim.Native.Nat.{ℕ, _-_, _≤_}
 use mathlib.Core.Bool.{_&&_}
-use mathlib.Core.Path.{_≡_}
-use lib.ListN.{length}
+use mathlib.Core.Path.{_≡_, subst}
 use native.Mathlib.Omega.{arith}
 use borrow.Author.Needs.{needs}
 use Rattle.drat.specs.declared.Format.the-variants.{Text}
-use Rattle.drat_judge.proofs.RunsLaws.{text-turn, runs-out}
+use Rattle.drat_judge.proofs.RunsLaws.{text-turn}
 use Rattle.drat_judge.specs.Local.{runsAt}
-use Rattle.drat_judge.proofs.text_runs.Statement.{statement}
-use Rattle.drat_judge.proofs.text_runs.Tie as tie
+use Rattle.drat_judge.proofs.text_part.Statement.{statement}
+use Rattle.drat_judge.proofs.text_part.Tie as tie
 
 abbrev Inv-loop : tie.InvT-loop
-Inv-loop s ok₀ i₀ ok i = (4 ≤ i) × (i ≤ length s) × (ok && runsAt Text s i ≡ runsAt Text s 4)
+Inv-loop s from to ok₀ i₀ ok i = (from ≤ i) × (i ≤ to) × (ok && runsAt Text s i ≡ runsAt Text s from)
 
 abbrev μ-loop : tie.MeasureT-loop
-μ-loop s ok₀ i₀ ok i = length s - i
+μ-loop s from to ok₀ i₀ ok i = to - i
 
 loop-holds : tie.Need-loop-holds Inv-loop μ-loop
 loop-holds c = search needs
@@ -58,24 +57,20 @@ loop-less c = search needs
 
 loop-again : tie.Need-loop-again Inv-loop μ-loop
 loop-again c =
-    let s = c .before .before .before .before .before .before .before .before .before .args .s .now in
+    let a = c .before .before .before .before .before .before .before .before .before .args in
+    let s = a .s .now in
     let l = c .before .before .before .before .before .before .before .loop in
-    (omega arith, omega arith, text-turn s (runsAt Text s 4) (l .i) (omega arith) (l .inv .0) (l .ok) (c .text-next .result) (l .inv .2) (c .text-next .ensures))
-
-sub-result : tie.Need-sub-result Inv-loop μ-loop
-sub-result c = search needs
-
-shared-slice-read-result : tie.Need-shared-slice-read-result Inv-loop μ-loop
-shared-slice-read-result c = search needs
+    (omega arith, omega arith, text-turn s (runsAt Text s (a .from)) (l .i) (omega arith) (omega arith) (l .ok) (c .text-next .result) (l .inv .2) (c .text-next .ensures))
 
 returns : tie.Need-returns Inv-loop μ-loop
 returns c =
-    let s = c .before .before .before .before .args .s .now in
-    let l = c .before .before .loop in
-    runs-out Text s (runsAt Text s 4) (l .i) (c .before .loop-test .left) (omega arith) (l .ok) (l .inv .2)
+    let a = c .before .before .before .args in
+    let l = c .before .loop in
+    let e : l .i ≡ a .to = omega arith in
+    subst (λ (k : ℕ). l .ok && runsAt Text (a .s .now) k ≡ runsAt Text (a .s .now) (a .from)) e (l .inv .2)
 
-pub text-runs-spec : {M : Type 1} → statement M
-text-runs-spec =
+pub text-part-spec : {M : Type 1} → statement M
+text-part-spec =
     tie.close
     (tie.spec
     Inv-loop
@@ -94,6 +89,4 @@ text-runs-spec =
     add-i
     loop-less
     loop-again
-    sub-result
-    shared-slice-read-result
     returns)
