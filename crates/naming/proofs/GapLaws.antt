@@ -22,7 +22,7 @@ use Rattle.inner.specs.Cursor.{Passed}
 use Rattle.inner.specs.Leaves.{Leaves}
 use Rattle.inner.proofs.CursorLaws.{passed-none}
 use Rattle.inner.proofs.LeavesLaws.{leaves-stay, leaves-giving, leaves-then, leaves-joined, leaves-length}
-use Rattle.naming.specs.Maps.{free, freeFor, MapAsks}
+use Rattle.naming.specs.Maps.{free, freeFor, MapAsks, Solvers, tableWith, UpAsks, UpLeaves}
 use Rattle.naming.proofs.FreeLaws.{taken-passed}
 
 -- The users from the watermark up to i are mapped, where i is at most u or the watermark.
@@ -30,6 +30,11 @@ pub record Gap (t : Table) (u at i next : ℕ) (s : Table) (words words' : List 
   pub low : t .counts .user ≤ i
   pub high : i ≤ max (t .counts .user) u
   pub done : Leaves (fillGap (i - t .counts .user) t) at (fillGap (i - t .counts .user) t .value) next s words words'
+
+-- the same with any solver maps
+pub record GapWith (c : Counts) (gu ug records : List ℕ) (u at i next : ℕ) (c' : Counts) (gu' ug' records' words words' : List ℕ) : Type 0 where
+  pub with : (x : Solvers) → MapAsks (tableWith c gu ug records x) u at (length words)
+      → Gap (tableWith c gu ug records x) u at i next (tableWith c' gu' ug' records' x) words words'
 
 pub gap-start : (t : Table) (u at : ℕ) (words : List ℕ) → Gap t u at (t .counts .user) at t words words
 unfolding fillGap each
@@ -263,3 +268,16 @@ module _ (t : Table) (u at i next : ℕ) (s : Table) (words words' : List ℕ) (
         records = ap length (o .1 .1 .1 .1 .1 .1 .0) ∙ length-set (s .records) _ 9 ∙ z .records;
         notes = ap length (o .1 .1 .1 .1 .1 .1 .1) ∙ (simp length-sets) ∙ z .notes;
       }
+
+-- ---- on a whole table
+
+abbrev solversOf : Table → Solvers
+solversOf t = record { solverFromGlobal = t .solverFromGlobal; globalFromSolver = t .globalFromSolver; assignment = t .assignment }
+
+pub up-asks : (t : Table) (u at room : ℕ) → MapAsks t u at room → UpAsks (t .counts) (t .globalFromUser) (t .userFromGlobal) (t .records) u at room
+up-asks t u at room h = record { solvers = solversOf t; asks = h }
+
+pub up-leaves : (t : Table) (u at g next : ℕ) (c' : Counts) (gu' ug' records' words words' : List ℕ) → MapAsks t u at (length words)
+    → UpLeaves (t .counts) (t .globalFromUser) (t .userFromGlobal) (t .records) u at g next c' gu' ug' records' words words'
+    → Leaves (mapUser u t) at g next (tableOf c' gu' ug' (t .solverFromGlobal) (t .globalFromSolver) (t .assignment) records') words words'
+up-leaves t u at g next c' gu' ug' records' words words' h l = l .with (solversOf t) h

@@ -4,15 +4,16 @@ use mathlib.Core.Path.{_≡_}
 use mathlib.Core.Bool.{Bool, true, false, _||_, not}
 use mathlib.Core.List.{List, [], _∷_}
 use lib.Dec.{eqb, ltb}
-use lib.ListN.{getD}
+use lib.ListN.{length, getD}
 use Rattle.base.specs.Choice.{pick}
 use Rattle.base.specs.Bounded.{least}
 use Rattle.base.specs.Answer.{accepted, refused}
 use Rattle.scope.specs.declared.Counts.{Counts}
-use Rattle.scope.specs.Table.{Table, word, modeOf, isDeleted}
+use Rattle.scope.specs.Table.{Table, tableOf, word, modeOf, isDeleted}
 use Rattle.scope.specs.Sound.{soundb}
-use Rattle.scope.specs.Map.{undeleted, toMap}
+use Rattle.scope.specs.Map.{mapUser, undeleted, toMap}
 use Rattle.scope.specs.Contract.{Said}
+use Rattle.inner.specs.Leaves.{Leaves}
 use Rattle.naming.specs.declared.UserMapped.{UserMapped}
 use Rattle.naming.specs.declared.UserMapped.the-variants as Map
 use Rattle.naming.specs.declared.NewUser.{NewUser}
@@ -44,6 +45,30 @@ pub record MapAsks (t : Table) (u at room : ℕ) : Type 0 where
   pub within : u < t .counts .capacity
   pub enough : undeleted t + toMap t u ≤ t .counts .capacity
   pub words : at + 3 * toMap t u ≤ room
+
+-- ---- the inner mapping reads and writes only the maps of users and the records
+
+abbrev pub marks : ℕ → ℕ → ℕ → ℕ → Counts
+marks capacity users globals solvers = record { capacity = capacity; user = users; global = globals; solver = solvers }
+
+-- the lists that it leaves alone
+pub record Solvers : Type 0 where
+  pub solverFromGlobal : List ℕ
+  pub globalFromSolver : List ℕ
+  pub assignment : List ℕ
+
+abbrev pub tableWith : Counts → List ℕ → List ℕ → List ℕ → Solvers → Table
+tableWith c gu ug records x = tableOf c gu ug (x .solverFromGlobal) (x .globalFromSolver) (x .assignment) records
+
+-- what it asks, with some of these
+pub record UpAsks (c : Counts) (gu ug records : List ℕ) (u at room : ℕ) : Type 0 where
+  pub solvers : Solvers
+  pub asks : MapAsks (tableWith c gu ug records solvers) u at room
+
+-- and what it leaves, with any of them
+pub record UpLeaves (c : Counts) (gu ug records : List ℕ) (u at g next : ℕ) (c' : Counts) (gu' ug' records' words words' : List ℕ) : Type 0 where
+  pub with : (x : Solvers) → MapAsks (tableWith c gu ug records x) u at (length words)
+      → Leaves (mapUser u (tableWith c gu ug records x)) at g next (tableWith c' gu' ug' records' x) words words'
 
 -- The number and the values of each case of `UserMapped`: the global and the count of notes.
 abbrev pub userMapped : UserMapped → Counts → Said

@@ -28,15 +28,26 @@ or-none : (a : Bool) → a || false ≡ a
 or-none true = refl
 or-none false = refl
 
+-- a test of one literal more
+any-more : (p : ℕ → Bool) (lits : List ℕ) (i : ℕ) → i < length lits → anyOf p (take (i + 1) lits) ≡ anyOf p (take i lits) || p (getD lits i 0)
+unfolding anyOf
+any-more p lits i l =
+    rw (add-one, take-suc lits i 0 l, any-append p (take i lits) (getD lits i 0 ∷ []))
+    (ap (λ (b : Bool). anyOf p (take i lits) || b) (or-none (p (getD lits i 0))))
+
+pub any-on : (p : ℕ → Bool) (lits : List ℕ) (i : ℕ) (b : Bool) → i < length lits → b ≡ anyOf p (take i lits) → b || p (getD lits i 0) ≡ anyOf p (take (i + 1) lits)
+any-on p lits i b l e = ap (λ (x : Bool). x || p (getD lits i 0)) e ∙ sym (any-more p lits i l)
+
+pub any-all : (p : ℕ → Bool) (lits : List ℕ) (i : ℕ) (b : Bool) → length lits ≤ i → b ≡ anyOf p (take i lits) → b ≡ anyOf p lits
+any-all p lits i b l e = e ∙ ap (anyOf p) (take-all i lits l)
+
 named-start : (lits : List ℕ) (v : ℕ) → named (take 0 lits) v ≡ false
 unfolding named
 named-start lits v = any-start (λ c. eqb (indexOf c) v) lits
 
 pub named-more : (lits : List ℕ) (i v : ℕ) → i < length lits → named (take (i + 1) lits) v ≡ named (take i lits) v || eqb (indexOf (getD lits i 0)) v
-unfolding named anyOf
-named-more lits i v l =
-    rw (add-one, take-suc lits i 0 l, any-append (λ c. eqb (indexOf c) v) (take i lits) (getD lits i 0 ∷ []))
-    (ap (λ (b : Bool). named (take i lits) v || b) (or-none (eqb (indexOf (getD lits i 0)) v)))
+unfolding named
+named-more lits i v l = any-more (λ c. eqb (indexOf c) v) lits i l
 
 -- ---- one user more
 
@@ -188,6 +199,14 @@ grant-free gu sg u g e q = sym (eq-eqb (getD sg g 0) 0 q) ∙ grant-some gu sg u
 pub grant-held : (gu sg : List ℕ) (u g s : ℕ) → getD gu u 0 ≡ g + 1 → getD sg g 0 ≡ s + 1 → false ≡ needsGrant gu sg u
 grant-held gu sg u g s e q = sym (ne-eqb (getD sg g 0) 0 (λ z. omega arith)) ∙ grant-some gu sg u g e
 
+and-true : (b : Bool) → b && true ≡ b
+and-true true = refl
+and-true false = refl
+
+and-false : (b : Bool) → b && false ≡ false
+and-false true = refl
+and-false false = refl
+
 -- a test as a number
 byte-one : (b : Bool) → boolByte b ≡ pick b 1 0
 byte-one true = refl
@@ -197,8 +216,23 @@ pub low-is : (m : ℕ) (gu : List ℕ) (mark u w : ℕ) (fresh : Bool) → w ≡
 unfolding isLow
 low-is m gu mark u w fresh e = ap (λ (k : ℕ). m + k) (byte-one (fresh && (ltb u mark && eqb w 0)) ∙ ap (λ (x : ℕ). pick (fresh && (ltb u mark && eqb x 0)) 1 0) e)
 
-pub grants-is : (m : ℕ) (gu sg : List ℕ) (u : ℕ) (fresh b : Bool) → b ≡ needsGrant gu sg u → m + boolByte (fresh && b) ≡ m + pick (fresh && needsGrant gu sg u) 1 0
-grants-is m gu sg u fresh b e = ap (λ (k : ℕ). m + k) (byte-one (fresh && b)) ∙ ap (λ (k : Bool). m + pick (fresh && k) 1 0) e
+pub grants-is : (m : ℕ) (gu sg : List ℕ) (u : ℕ) (fresh : Bool) → needsGrant gu sg u ≡ true → m + boolByte fresh ≡ m + pick (fresh && needsGrant gu sg u) 1 0
+grants-is m gu sg u fresh e = rw (e, and-true fresh) (ap (λ (k : ℕ). m + k) (byte-one fresh))
+
+-- a user that has a solver index counts nowhere
+unneeded : (m : ℕ) (fresh b : Bool) → b ≡ false → m ≡ m + pick (fresh && b) 1 0
+unneeded m fresh b e = rw (e, and-false fresh) (omega arith)
+
+held-mapped : (gu sg : List ℕ) (mark u : ℕ) → needsGrant gu sg u ≡ false → isLow gu mark u ≡ false
+unfolding isLow
+held-mapped gu sg mark u e =
+    let n : getD gu u 0 ≡ 0 → ⊥ = λ z. true≢false (grant-none gu sg u z ∙ e) in
+    rw (ne-eqb (getD gu u 0) 0 n) (and-false (ltb u mark))
+
+pub held-counts : (low grants : ℕ) (gu sg : List ℕ) (mark u : ℕ) (fresh : Bool) → needsGrant gu sg u ≡ false
+    → (low ≡ low + pick (fresh && isLow gu mark u) 1 0) × (grants ≡ grants + pick (fresh && needsGrant gu sg u) 1 0)
+held-counts low grants gu sg mark u fresh h =
+    (unneeded low fresh (isLow gu mark u) (held-mapped gu sg mark u h), unneeded grants fresh (needsGrant gu sg u) h)
 
 byte-most : (b : Bool) → boolByte b ≤ 1
 byte-most true = omega arith

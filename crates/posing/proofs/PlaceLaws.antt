@@ -1,23 +1,26 @@
 -- Laws of one user: mapped, then granted.
-use Prim.Native.Nat.{ℕ, _+_, _-_, _<_}
-use mathlib.Core.Path.{_≡_, sym, ap, _∙_, subst}
+use Prim.Native.Nat.{ℕ, zero, suc, _+_, _-_, _<_}
+use mathlib.Core.Path.{_≡_, refl, sym, ap, _∙_, subst}
 use mathlib.Core.List.{List}
 use native.Mathlib.Omega.{arith}
 use lib.Dec.{eqb}
 use lib.ListN.{length, getD, length-append}
-use Rattle.scope.specs.Table.{Table}
-use Rattle.scope.specs.Outcome.{_then_}
+use Rattle.scope.specs.Table.{Table, word}
+use Rattle.scope.specs.Outcome.{Result, _then_}
 use Rattle.scope.specs.Map.{mapUser}
 use Rattle.scope.specs.Grant.{grant}
+use Rattle.scope.proofs.ResultLaws.{word-none, word-some}
 use Rattle.scope.proofs.SoundLaws.{sound-of, sound-to}
-use Rattle.scope.proofs.MapLaws.{MapRoom, map-user-mapped, mapped-global}
-use Rattle.scope.proofs.GrantLaws.{grant-granted}
+use Rattle.scope.proofs.MapLaws.{MapRoom, map-user-has, map-user-mapped, mapped-global}
+use Rattle.scope.proofs.GrantLaws.{grant-has, grant-granted}
 use Rattle.inner.specs.Cursor.{Passed}
 use Rattle.inner.specs.Leaves.{Leaves}
-use Rattle.inner.proofs.LeavesLaws.{leaves-then, leaves-length}
+use Rattle.inner.proofs.LeavesLaws.{leaves-stay, leaves-then, leaves-length}
+use Rattle.table.specs.declared.FoundSolver.{FoundSolver}
+use Rattle.table.specs.Found.{foundSolver}
 use Rattle.granting.specs.Grants.{GrantAsks}
 use Rattle.naming.specs.Maps.{free, MapAsks}
-use Rattle.posing.specs.Poses.{Ahead, placed, PlaceAsks}
+use Rattle.posing.specs.Poses.{heldWord, Ahead, placed, PlaceAsks}
 
 map-room : (t : Table) (u at room : ℕ) → PlaceAsks t u at room → MapRoom t u
 map-room t u at room h = record { sound = sound-of t (h .sound); within = h .within; room = h .enough }
@@ -76,6 +79,30 @@ global-ahead g at1 s at2 from after t1 t2 words1 words2 h m p q =
     let a : t2 .records ≡ t1 .records = ap (λ (s : Table). s .records) (m .table) ∙ x .records in
     let b : t2 .counts .global ≡ t1 .counts .global = ap (λ (s : Table). s .counts .global) (m .table) ∙ x .global in
     record { solver = q; global = rw (a, b) p }
+
+-- ---- a user that has a solver index already
+
+pub held-none : (gu sg : List ℕ) (u : ℕ) → getD gu u 0 ≡ 0 → FoundSolver.Nothing ≡ foundSolver (heldWord gu sg u)
+unfolding heldWord word
+held-none gu sg u e = rw e
+
+pub held-some : (gu sg : List ℕ) (u g : ℕ) (f : FoundSolver) → getD gu u 0 ≡ g + 1 → f ≡ foundSolver (getD sg g 0) → f ≡ foundSolver (heldWord gu sg u)
+unfolding heldWord
+held-some gu sg u g f e q = q ∙ ap foundSolver (sym (word-some 0 (λ g. getD sg g 0) _ g e))
+
+-- nothing changes
+pub held-leaves : (t : Table) (u s at : ℕ) (words : List ℕ) → heldWord (t .globalFromUser) (t .solverFromGlobal) u ≡ s + 1 → Leaves (placed u t) at s at t words words
+unfolding heldWord
+held-leaves t u s at words e = go (getD (t .globalFromUser) u 0) refl
+  where
+    go : (w : ℕ) → getD (t .globalFromUser) u 0 ≡ w → Leaves (placed u t) at s at t words words
+    go zero q = absurd (let z = sym (word-none 0 (λ g. getD (t .solverFromGlobal) g 0) _ q) ∙ e in omega arith)
+    go (suc g) q =
+        let m : getD (t .globalFromUser) u 0 ≡ g + 1 = omega arith in
+        let h = sym (word-some 0 (λ g. getD (t .solverFromGlobal) g 0) _ g m) ∙ e in
+        placed-leaves t u at g at s at t t words words words
+        (subst (λ (x : Result ℕ). Leaves x at g at t words words) (sym (map-user-has t u g m)) (leaves-stay g at t words))
+        (subst (λ (x : Result ℕ). Leaves x at s at t words words) (sym (grant-has t g s h)) (leaves-stay s at t words))
 
 -- the solver index is one of the capacity
 pub placed-small : (t : Table) (u : ℕ) → MapRoom t u → placed u t .value < t .counts .capacity

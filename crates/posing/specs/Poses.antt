@@ -36,6 +36,10 @@ isLow gu mark v = ltb v mark && eqb (getD gu v 0) 0
 unfoldable pub needsGrant : List ℕ → List ℕ → ℕ → Bool
 needsGrant gu sg v = word true (λ g. eqb (getD sg g 0) 0) (getD gu v 0)
 
+-- the word of the solver index that a user has, 0 for none
+unfoldable pub heldWord : List ℕ → List ℕ → ℕ → ℕ
+heldWord gu sg u = word 0 (λ g. getD sg g 0) (getD gu u 0)
+
 -- how many named users below n pass the test
 unfoldable pub countNamed : ℕ → (ℕ → Bool) → List ℕ → ℕ
 countNamed n p lits = count n (λ v. named lits v && p v)

@@ -24,8 +24,9 @@ ghost use Rattle.scope.specs.Literals.{indexOf};
 ghost use Rattle.scope.specs.Contract.{given, before, after, lent, Meets};
 ghost use Rattle.scope.specs.Pose.{pose, poseRefusal, poseOf};
 ghost use Rattle.inner.specs.Leaves.{Leaves};
+ghost use Rattle.table.specs.Found.{foundSolver};
 ghost use Rattle.naming.specs.Maps.{isUnsampled, Inside};
-ghost use Rattle.posing.specs.Poses.{isLow, needsGrant, countNamed, Covers, Within, Ahead, placed, PlaceAsks, PoseAsks, posed};
+ghost use Rattle.posing.specs.Poses.{isLow, heldWord, needsGrant, countNamed, Covers, Within, Ahead, placed, PlaceAsks, PoseAsks, posed};
 
 // Where the searches for a free solver index and for a free global go on.
 pub struct Cursors {
@@ -60,8 +61,18 @@ pub enum PosedLits {
     Refused(u32),
 }
 
+// The solver index that a user has already.
+fn held_solver(gu: &[u32], sg: &[u32], user: User) -> FoundSolver
+    ensures { λ r. ⌜ r ≡ foundSolver (heldWord (old gu) (old sg) (user .0)) ⌝ }
+{
+    let FoundGlobal::At(g) = global_of(gu, user) else {
+        return FoundSolver::Nothing;
+    };
+    solver_of(sg, g)
+}
+
 // The solver index of a user of a sound table: mapped, then granted.
-fn place_user(
+fn place_new(
     c: Counts,
     gu: &mut [u32],
     ug: &mut [u32],
@@ -122,6 +133,37 @@ fn place_user(
     }
 }
 
+// The same, where a user that has a solver index already is only looked up.
+fn place_user(
+    c: Counts,
+    gu: &mut [u32],
+    ug: &mut [u32],
+    sg: &mut [u32],
+    gs: &mut [u32],
+    assignment: &mut [u32],
+    records: &mut [u32],
+    user: User,
+    k: Cursors,
+    at: usize,
+    notes: &mut [u32],
+) -> Placed
+    requires { ⌜ PlaceAsks (given c gu ug sg gs assignment records) (user .0) at (length (now notes)) ⌝ }
+    requires { ⌜ Ahead (given c gu ug sg gs assignment records) k ⌝ }
+    ensures { λ r. ⌜ Leaves (placed (user .0) (before c gu ug sg gs assignment records)) at (r .solver .0) (r .at)
+        (after (r .counts) gu ug sg gs assignment records) (old notes) (new notes) ⌝ }
+    ensures { λ r. ⌜ Ahead (after (r .counts) gu ug sg gs assignment records) (r .cursors) ⌝ }
+{
+    let FoundSolver::At(solver) = held_solver(gu, sg, user) else {
+        return place_new(c, gu, ug, sg, gs, assignment, records, user, k, at, notes);
+    };
+    Placed {
+        counts: c,
+        solver,
+        cursors: k,
+        at,
+    }
+}
+
 // A solver literal for each user literal, on a sound table with room for all.
 fn place_all(
     c: Counts,
@@ -165,14 +207,13 @@ fn place_all(
 fn any_outside(capacity: u32, lits: &[u32]) -> bool
     ensures { λ r. ⌜ r ≡ anyOf (λ c. leb capacity (indexOf c)) (old lits) ⌝ }
 {
+    let mut found = false;
     let mut i = 0;
     while i < lits.len() {
-        if capacity <= lits[i] / 2 {
-            return true;
-        }
+        found = found | (capacity <= lits[i] / 2);
         i += 1;
     }
-    false
+    found
 }
 
 // Sampling is required, and a literal's user has a global that is not Sample.
@@ -222,12 +263,19 @@ fn count_one(mark: u32, gu: &[u32], sg: &[u32], user: User, fresh: bool, n: Need
     ensures { λ r. ⌜ r .grants ≡ n .grants + pick (fresh && needsGrant (old gu) (old sg) (user .0)) 1 0 ⌝ }
 {
     let u = user.0;
+    let top = larger(n.top, u + 1);
+    if !needs_grant(gu, sg, user) {
+        return Needs {
+            low: n.low,
+            top,
+            grants: n.grants,
+        };
+    }
     let low = fresh & ((u < mark) & (word_at(gu, u) == 0));
-    let grant = fresh & needs_grant(gu, sg, user);
     Needs {
         low: n.low + low as u32,
-        top: larger(n.top, u + 1),
-        grants: n.grants + grant as u32,
+        top,
+        grants: n.grants + fresh as u32,
     }
 }
 

@@ -1,3 +1,4 @@
+use Rattle.naming.proofs.FreeLaws.{marks-cover}
 use mathlib.Core.Path.{refl}
 use borrow.Author.Needs.{needs}
 use Rattle.naming.proofs.map_one.Statement.{statement}
@@ -53,7 +54,7 @@ same-length-4 c = search needs
 
 -- src/lib.rt:89:1
 returns : tie.Need-returns
-returns c = rw (← (c .before .before .before .before .before .before .before .before .before .before .before .before .before .global-for .ensures .0)) (refl, (c .before .before .before .before .map .ensures .0, (c .before .before .before .before .before .before .before .before .before .before .before .before .before .global-for .ensures .1, (refl, (c .before .before .before .before .map .ensures .1 .0, (c .before .before .before .before .map .ensures .1 .1, (refl, c .before .before .before .before .before .before .before .before .before .put-note .ensures)))))))
+returns c = rw (← (c .before .before .before .before .before .before .before .before .before .before .before .before .before .global-for .ensures .0)) (refl, (marks-cover _ _ _ _ (c .before .before .before .before .map .ensures .0), (c .before .before .before .before .before .before .before .before .before .before .before .before .before .global-for .ensures .1, (refl, (c .before .before .before .before .map .ensures .1 .0, (c .before .before .before .before .map .ensures .1 .1, (refl, c .before .before .before .before .before .before .before .before .before .put-note .ensures)))))))
 
 pub map-one-spec : {M : Type 1} → statement M
 map-one-spec =

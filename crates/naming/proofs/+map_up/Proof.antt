@@ -1,0 +1,277 @@
+use Rattle.table.proofs.FoundLaws.{globalWord, global-word}
+use Rattle.naming.proofs.GapLaws.{GapWith, user-small, gap-start, gap-asks, gap-more, gap-sizes, gap-kept, last-asks, last-done, last-sizes}
+use Rattle.naming.specs.Maps.{free, marks}
+use Rattle.inner.specs.Cursor.{Passed}
+use native.Mathlib.Omega.{arith}
+use mathlib.Core.Path.{_∙_, ap}
+use borrow.Author.Needs.{needs}
+use Prim.Native.Nat.{ℕ, _-_, _<_}
+use borrow.Fn.Kinds.{In}
+use borrow.Fn.PlainCycle.{Measures, is, falls, and}
+use Rattle.naming.proofs.map_up.Reads as map-up
+use Rattle.naming.proofs.map_up.Kinds as map-up-kinds
+use Rattle.naming.proofs.+map_up.Lts-map_up as map-up-lts
+use Rattle.naming.proofs.map_one.Reads as map-one-reads
+use Rattle.table.proofs.global_of.Reads as global-of-reads
+use Rattle.naming.proofs.+map_up.{statement}
+use Rattle.naming.proofs.+map_up.Tie.{close}
+
+abbrev μ-map-up : Measures 4 map-up-kinds.ps ℕ
+μ-map-up κs a = a .1 .1 .1 .1 .1 .1 .1 .0 .0
+
+abbrev map-up-at : ℕ → In 4 map-up-kinds.ps
+map-up-at t = and 4 map-up-kinds.ps (is 4 map-up-kinds.ps μ-map-up t) map-up.Pre
+
+abbrev map-up-below : ℕ → In 4 map-up-kinds.ps
+map-up-below t = and 4 map-up-kinds.ps (falls 4 map-up-kinds.ps _<_ μ-map-up t) map-up.Pre
+
+abbrev map-up-Inv-loop : map-up-lts.InvT-loop
+map-up-Inv-loop capacity users globals solvers gu₀ ug₀ records₀ user from at notes₀ m₀ n₀ k₀ next₀ i₀ gu ug records notes m n k next i =
+    GapWith (marks capacity users globals solvers) gu₀ ug₀ records₀ (user .0) at i next (marks capacity m n solvers) gu ug records notes₀ notes
+    × Passed (free records) n k
+
+abbrev map-up-μ-loop : map-up-lts.MeasureT-loop
+map-up-μ-loop capacity users globals solvers gu₀ ug₀ records₀ user from at notes₀ m₀ n₀ k₀ next₀ i₀ gu ug records notes m n k next i =
+    user .0 - i
+
+-- src/lib.rt:168:5
+map-up-loop-holds : (t : ℕ) → map-up-lts.Need-loop-holds (
+  map-up-below t,
+  map-up.Post,
+  global-of-reads.Asked,
+  global-of-reads.Learnt,
+  map-one-reads.Asked,
+  map-one-reads.Learnt,
+) (map-up-at t) map-up.Post map-up-Inv-loop map-up-μ-loop
+map-up-loop-holds t c = (record { with = λ x h. gap-start _ _ _ _ }, c .before .before .before .before .pre .1 .1)
+
+-- src/lib.rt:169:13
+map-up-map-up-requires : (t : ℕ) → map-up-lts.Need-map-up-requires (
+  map-up-below t,
+  map-up.Post,
+  global-of-reads.Asked,
+  global-of-reads.Learnt,
+  map-one-reads.Asked,
+  map-one-reads.Learnt,
+) (map-up-at t) map-up.Post map-up-Inv-loop map-up-μ-loop
+map-up-map-up-requires t c κs = (let l = c .before .before .before .before .if1 .taken in let e = c .before .before .before .before .before .before .before .before .before .before .before .pre .0 in omega arith, (record { solvers = c .before .before .before .before .before .before .before .before .before .before .before .pre .1 .0 .solvers; asks = gap-asks _ _ _ _ _ _ _ _ (c .before .before .before .before .before .before .before .before .before .before .before .pre .1 .0 .asks) (c .before .before .before .before .before .before .loop .inv .0 .with _ (c .before .before .before .before .before .before .before .before .before .before .before .pre .1 .0 .asks)) (c .before .before .before .before .if1 .taken) }, c .before .before .before .before .before .before .loop .inv .1))
+
+-- src/lib.rt:186:9
+map-up-add-i : (t : ℕ) → map-up-lts.Need-add-i (
+  map-up-below t,
+  map-up.Post,
+  global-of-reads.Asked,
+  global-of-reads.Learnt,
+  map-one-reads.Asked,
+  map-one-reads.Learnt,
+) (map-up-at t) map-up.Post map-up-Inv-loop map-up-μ-loop
+map-up-add-i t c = let l = c .before .before .before .before .before .before .before .before .before .before .before .before .before .if1 .taken in let w = user-small _ _ _ _ (c .before .before .before .before .before .before .before .before .before .before .before .before .before .before .before .before .before .before .before .before .pre .1 .0 .asks) in omega arith
+
+-- src/lib.rt:168:5
+map-up-loop-less : (t : ℕ) → map-up-lts.Need-loop-less (
+  map-up-below t,
+  map-up.Post,
+  global-of-reads.Asked,
+  global-of-reads.Learnt,
+  map-one-reads.Asked,
+  map-one-reads.Learnt,
+) (map-up-at t) map-up.Post map-up-Inv-loop map-up-μ-loop
+map-up-loop-less t c = let l = c .before .before .before .before .before .before .before .before .before .before .before .before .before .if1 .taken in omega arith
+
+-- src/lib.rt:168:5
+map-up-loop-again : (t : ℕ) → map-up-lts.Need-loop-again (
+  map-up-below t,
+  map-up.Post,
+  global-of-reads.Asked,
+  global-of-reads.Learnt,
+  map-one-reads.Asked,
+  map-one-reads.Learnt,
+) (map-up-at t) map-up.Post map-up-Inv-loop map-up-μ-loop
+map-up-loop-again t c = (record { with = λ x h. gap-more _ _ _ _ _ _ _ _ _ _ _ _ h (c .before .before .before .before .before .before .before .before .before .before .before .before .before .before .before .loop .inv .0 .with x h) (c .before .before .before .before .before .before .before .before .before .before .before .before .before .if1 .taken) (c .before .before .before .before .before .before .before .before .map-up .ensures .0 .with x (gap-asks _ _ _ _ _ _ _ _ h (c .before .before .before .before .before .before .before .before .before .before .before .before .before .before .before .loop .inv .0 .with x h) (c .before .before .before .before .before .before .before .before .before .before .before .before .before .if1 .taken))) }, c .before .before .before .before .before .before .before .before .map-up .ensures .1)
+
+-- src/lib.rt:188:35
+map-up-global-of-requires : (t : ℕ) → map-up-lts.Need-global-of-requires (
+  map-up-below t,
+  map-up.Post,
+  global-of-reads.Asked,
+  global-of-reads.Learnt,
+  map-one-reads.Asked,
+  map-one-reads.Learnt,
+) (map-up-at t) map-up.Post map-up-Inv-loop map-up-μ-loop
+map-up-global-of-requires t c κs = search needs
+
+-- src/lib.rt:188:25
+map-up-enum-known-global : (t : ℕ) → map-up-lts.Need-enum-known-global (
+  map-up-below t,
+  map-up.Post,
+  global-of-reads.Asked,
+  global-of-reads.Learnt,
+  map-one-reads.Asked,
+  map-one-reads.Learnt,
+) (map-up-at t) map-up.Post map-up-Inv-loop map-up-μ-loop
+map-up-enum-known-global t c = search needs
+
+-- src/lib.rt:189:13
+map-up-enum-told : (t : ℕ) → map-up-lts.Need-enum-told (
+  map-up-below t,
+  map-up.Post,
+  global-of-reads.Asked,
+  global-of-reads.Learnt,
+  map-one-reads.Asked,
+  map-one-reads.Learnt,
+) (map-up-at t) map-up.Post map-up-Inv-loop map-up-μ-loop
+map-up-enum-told t c = search needs
+
+-- src/lib.rt:195:9
+map-up-map-one-requires : (t : ℕ) → map-up-lts.Need-map-one-requires (
+  map-up-below t,
+  map-up.Post,
+  global-of-reads.Asked,
+  global-of-reads.Learnt,
+  map-one-reads.Asked,
+  map-one-reads.Learnt,
+) (map-up-at t) map-up.Post map-up-Inv-loop map-up-μ-loop
+map-up-map-one-requires t c κs = last-asks _ _ _ _ _ _ _ _ (c .before .before .before .before .before .before .before .before .before .before .before .before .before .before .before .pre .1 .0 .asks) (c .before .before .before .before .before .before .before .before .before .before .loop .inv .0 .with _ (c .before .before .before .before .before .before .before .before .before .before .before .before .before .before .before .pre .1 .0 .asks)) (c .before .before .before .before .before .before .before .before .if1 .left) ((global-word _ _ (c .before .before .before .before .before .before .global-of .ensures) ∙ ap globalWord (c .before .before .before .before .enum-told .given .1))) _ (c .before .before .before .before .before .before .before .before .before .before .loop .inv .1)
+
+-- src/lib.rt:195:9
+map-up-same-length : (t : ℕ) → map-up-lts.Need-same-length (
+  map-up-below t,
+  map-up.Post,
+  global-of-reads.Asked,
+  global-of-reads.Learnt,
+  map-one-reads.Asked,
+  map-one-reads.Learnt,
+) (map-up-at t) map-up.Post map-up-Inv-loop map-up-μ-loop
+map-up-same-length t c = last-sizes _ _ _ _ _ _ _ _ (c .before .before .before .before .before .before .before .before .before .before .before .before .before .before .before .before .before .before .before .before .before .before .before .before .pre .1 .0 .asks) (c .before .before .before .before .before .before .before .before .before .before .before .before .before .before .before .before .before .before .before .loop .inv .0 .with _ (c .before .before .before .before .before .before .before .before .before .before .before .before .before .before .before .before .before .before .before .before .before .before .before .before .pre .1 .0 .asks)) (c .before .before .before .before .before .before .before .before .before .before .before .before .before .before .before .before .before .if1 .left) ((global-word _ _ (c .before .before .before .before .before .before .before .before .before .before .before .before .before .before .before .global-of .ensures) ∙ ap globalWord (c .before .before .before .before .before .before .before .before .before .before .before .before .before .enum-told .given .1))) _ _ _ _ _ _ _ _ (c .before .before .before .before .before .before .before .before .map-one .ensures) .globalFromUser
+
+-- src/lib.rt:195:9
+map-up-same-length-2 : (t : ℕ) → map-up-lts.Need-same-length-2 (
+  map-up-below t,
+  map-up.Post,
+  global-of-reads.Asked,
+  global-of-reads.Learnt,
+  map-one-reads.Asked,
+  map-one-reads.Learnt,
+) (map-up-at t) map-up.Post map-up-Inv-loop map-up-μ-loop
+map-up-same-length-2 t c = last-sizes _ _ _ _ _ _ _ _ (c .before .before .before .before .before .before .before .before .before .before .before .before .before .before .before .before .before .before .before .before .before .before .before .before .pre .1 .0 .asks) (c .before .before .before .before .before .before .before .before .before .before .before .before .before .before .before .before .before .before .before .loop .inv .0 .with _ (c .before .before .before .before .before .before .before .before .before .before .before .before .before .before .before .before .before .before .before .before .before .before .before .before .pre .1 .0 .asks)) (c .before .before .before .before .before .before .before .before .before .before .before .before .before .before .before .before .before .if1 .left) ((global-word _ _ (c .before .before .before .before .before .before .before .before .before .before .before .before .before .before .before .global-of .ensures) ∙ ap globalWord (c .before .before .before .before .before .before .before .before .before .before .before .before .before .enum-told .given .1))) _ _ _ _ _ _ _ _ (c .before .before .before .before .before .before .before .before .map-one .ensures) .userFromGlobal
+
+-- src/lib.rt:195:9
+map-up-same-length-3 : (t : ℕ) → map-up-lts.Need-same-length-3 (
+  map-up-below t,
+  map-up.Post,
+  global-of-reads.Asked,
+  global-of-reads.Learnt,
+  map-one-reads.Asked,
+  map-one-reads.Learnt,
+) (map-up-at t) map-up.Post map-up-Inv-loop map-up-μ-loop
+map-up-same-length-3 t c = last-sizes _ _ _ _ _ _ _ _ (c .before .before .before .before .before .before .before .before .before .before .before .before .before .before .before .before .before .before .before .before .before .before .before .before .pre .1 .0 .asks) (c .before .before .before .before .before .before .before .before .before .before .before .before .before .before .before .before .before .before .before .loop .inv .0 .with _ (c .before .before .before .before .before .before .before .before .before .before .before .before .before .before .before .before .before .before .before .before .before .before .before .before .pre .1 .0 .asks)) (c .before .before .before .before .before .before .before .before .before .before .before .before .before .before .before .before .before .if1 .left) ((global-word _ _ (c .before .before .before .before .before .before .before .before .before .before .before .before .before .before .before .global-of .ensures) ∙ ap globalWord (c .before .before .before .before .before .before .before .before .before .before .before .before .before .enum-told .given .1))) _ _ _ _ _ _ _ _ (c .before .before .before .before .before .before .before .before .map-one .ensures) .records
+
+-- src/lib.rt:195:9
+map-up-same-length-4 : (t : ℕ) → map-up-lts.Need-same-length-4 (
+  map-up-below t,
+  map-up.Post,
+  global-of-reads.Asked,
+  global-of-reads.Learnt,
+  map-one-reads.Asked,
+  map-one-reads.Learnt,
+) (map-up-at t) map-up.Post map-up-Inv-loop map-up-μ-loop
+map-up-same-length-4 t c = last-sizes _ _ _ _ _ _ _ _ (c .before .before .before .before .before .before .before .before .before .before .before .before .before .before .before .before .before .before .before .before .before .before .before .before .pre .1 .0 .asks) (c .before .before .before .before .before .before .before .before .before .before .before .before .before .before .before .before .before .before .before .loop .inv .0 .with _ (c .before .before .before .before .before .before .before .before .before .before .before .before .before .before .before .before .before .before .before .before .before .before .before .before .pre .1 .0 .asks)) (c .before .before .before .before .before .before .before .before .before .before .before .before .before .before .before .before .before .if1 .left) ((global-word _ _ (c .before .before .before .before .before .before .before .before .before .before .before .before .before .before .before .global-of .ensures) ∙ ap globalWord (c .before .before .before .before .before .before .before .before .before .before .before .before .before .enum-told .given .1))) _ _ _ _ _ _ _ _ (c .before .before .before .before .before .before .before .before .map-one .ensures) .notes
+
+-- src/lib.rt:195:9
+map-up-returns : (t : ℕ) → map-up-lts.Need-returns (
+  map-up-below t,
+  map-up.Post,
+  global-of-reads.Asked,
+  global-of-reads.Learnt,
+  map-one-reads.Asked,
+  map-one-reads.Learnt,
+) (map-up-at t) map-up.Post map-up-Inv-loop map-up-μ-loop
+map-up-returns t c = (record { with = λ x h. last-done _ _ _ _ _ _ _ _ h (c .before .before .before .before .before .before .before .before .before .before .before .before .before .before .before .before .before .before .before .loop .inv .0 .with x h) (c .before .before .before .before .before .before .before .before .before .before .before .before .before .before .before .before .before .if1 .left) ((global-word _ _ (c .before .before .before .before .before .before .before .before .before .before .before .before .before .before .before .global-of .ensures) ∙ ap globalWord (c .before .before .before .before .before .before .before .before .before .before .before .before .before .enum-told .given .1))) _ _ _ _ _ _ _ _ (c .before .before .before .before .before .before .before .before .map-one .ensures) .0 }, last-done _ _ _ _ _ _ _ _ (c .before .before .before .before .before .before .before .before .before .before .before .before .before .before .before .before .before .before .before .before .before .before .before .before .pre .1 .0 .asks) (c .before .before .before .before .before .before .before .before .before .before .before .before .before .before .before .before .before .before .before .loop .inv .0 .with _ (c .before .before .before .before .before .before .before .before .before .before .before .before .before .before .before .before .before .before .before .before .before .before .before .before .pre .1 .0 .asks)) (c .before .before .before .before .before .before .before .before .before .before .before .before .before .before .before .before .before .if1 .left) ((global-word _ _ (c .before .before .before .before .before .before .before .before .before .before .before .before .before .before .before .global-of .ensures) ∙ ap globalWord (c .before .before .before .before .before .before .before .before .before .before .before .before .before .enum-told .given .1))) _ _ _ _ _ _ _ _ (c .before .before .before .before .before .before .before .before .map-one .ensures) .1)
+
+-- src/lib.rt:144:1
+map-up-same-length-5 : (t : ℕ) → map-up-lts.Need-same-length-5 (
+  map-up-below t,
+  map-up.Post,
+  global-of-reads.Asked,
+  global-of-reads.Learnt,
+  map-one-reads.Asked,
+  map-one-reads.Learnt,
+) (map-up-at t) map-up.Post map-up-Inv-loop map-up-μ-loop
+map-up-same-length-5 t c = gap-sizes _ _ _ _ _ _ _ _ (c .before .before .before .before .before .before .before .before .before .before .before .before .pre .1 .0 .asks) (c .before .before .before .before .before .before .before .loop .inv .0 .with _ (c .before .before .before .before .before .before .before .before .before .before .before .before .pre .1 .0 .asks)) .globalFromUser
+
+-- src/lib.rt:144:1
+map-up-same-length-6 : (t : ℕ) → map-up-lts.Need-same-length-6 (
+  map-up-below t,
+  map-up.Post,
+  global-of-reads.Asked,
+  global-of-reads.Learnt,
+  map-one-reads.Asked,
+  map-one-reads.Learnt,
+) (map-up-at t) map-up.Post map-up-Inv-loop map-up-μ-loop
+map-up-same-length-6 t c = gap-sizes _ _ _ _ _ _ _ _ (c .before .before .before .before .before .before .before .before .before .before .before .before .pre .1 .0 .asks) (c .before .before .before .before .before .before .before .loop .inv .0 .with _ (c .before .before .before .before .before .before .before .before .before .before .before .before .pre .1 .0 .asks)) .userFromGlobal
+
+-- src/lib.rt:144:1
+map-up-same-length-7 : (t : ℕ) → map-up-lts.Need-same-length-7 (
+  map-up-below t,
+  map-up.Post,
+  global-of-reads.Asked,
+  global-of-reads.Learnt,
+  map-one-reads.Asked,
+  map-one-reads.Learnt,
+) (map-up-at t) map-up.Post map-up-Inv-loop map-up-μ-loop
+map-up-same-length-7 t c = gap-sizes _ _ _ _ _ _ _ _ (c .before .before .before .before .before .before .before .before .before .before .before .before .pre .1 .0 .asks) (c .before .before .before .before .before .before .before .loop .inv .0 .with _ (c .before .before .before .before .before .before .before .before .before .before .before .before .pre .1 .0 .asks)) .records
+
+-- src/lib.rt:144:1
+map-up-same-length-8 : (t : ℕ) → map-up-lts.Need-same-length-8 (
+  map-up-below t,
+  map-up.Post,
+  global-of-reads.Asked,
+  global-of-reads.Learnt,
+  map-one-reads.Asked,
+  map-one-reads.Learnt,
+) (map-up-at t) map-up.Post map-up-Inv-loop map-up-μ-loop
+map-up-same-length-8 t c = gap-sizes _ _ _ _ _ _ _ _ (c .before .before .before .before .before .before .before .before .before .before .before .before .pre .1 .0 .asks) (c .before .before .before .before .before .before .before .loop .inv .0 .with _ (c .before .before .before .before .before .before .before .before .before .before .before .before .pre .1 .0 .asks)) .notes
+
+-- src/lib.rt:144:1
+map-up-returns-2 : (t : ℕ) → map-up-lts.Need-returns-2 (
+  map-up-below t,
+  map-up.Post,
+  global-of-reads.Asked,
+  global-of-reads.Learnt,
+  map-one-reads.Asked,
+  map-one-reads.Learnt,
+) (map-up-at t) map-up.Post map-up-Inv-loop map-up-μ-loop
+map-up-returns-2 t c = (record { with = λ x h. gap-kept _ _ _ _ _ _ _ _ _ h (c .before .before .before .before .before .before .before .loop .inv .0 .with x h) (c .before .before .before .before .before .if1 .left) ((global-word _ _ (c .before .before .before .global-of .ensures) ∙ ap globalWord (c .before .global .given .1))) }, c .before .before .before .before .before .before .before .loop .inv .1)
+
+pub +map-up-spec : {M : Type 1} → statement M
++map-up-spec = close μ-map-up λ t. map-up-lts.spec (
+  map-up-below t,
+  map-up.Post,
+  global-of-reads.Asked,
+  global-of-reads.Learnt,
+  map-one-reads.Asked,
+  map-one-reads.Learnt,
+)
+    (map-up-at t)
+    map-up.Post
+    map-up-Inv-loop
+    map-up-μ-loop
+    (map-up-loop-holds t)
+    (map-up-map-up-requires t)
+    (map-up-add-i t)
+    (map-up-loop-less t)
+    (map-up-loop-again t)
+    (map-up-global-of-requires t)
+    (map-up-enum-known-global t)
+    (map-up-enum-told t)
+    (map-up-map-one-requires t)
+    (map-up-same-length t)
+    (map-up-same-length-2 t)
+    (map-up-same-length-3 t)
+    (map-up-same-length-4 t)
+    (map-up-returns t)
+    (map-up-same-length-5 t)
+    (map-up-same-length-6 t)
+    (map-up-same-length-7 t)
+    (map-up-same-length-8 t)
+    (map-up-returns-2 t)
