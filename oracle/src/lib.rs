@@ -7,4 +7,5 @@ pub mod library;
 pub mod random;
 pub mod reachable;
 pub mod reading;
+pub mod record;
 pub mod run;

@@ -351,3 +351,15 @@ pub fn first_step(format: Format, bytes: &[u8]) -> Result<usize, usize> {
         Err(_) => Err(usize::MAX),
     }
 }
+
+/// A whole proof written into so many bytes.
+pub fn write_proof(format: Format, lists: &Filled, room: usize) -> Result<Result<Vec<u8>, u32>, String> {
+    let mut proof = vec![BEFORE as u8; room];
+    Ok(match hintzobar::write_proof(format_of(format), &lits(&lists.codes), &lists.ends, &lists.kinds, &mut proof) {
+        Ok(length) => Ok(kept(&proof, length, BEFORE as u8)?),
+        Err(refusal) => {
+            kept(&proof, 0, BEFORE as u8)?;
+            Err(refusal.number())
+        }
+    })
+}

@@ -1,23 +1,26 @@
 //! Compares document 01's calls: varisat's own functions, a plain reading of the document, and the proved library.
 use std::{env, panic, process, time::Instant};
 
-use oracle::{compare::Tally, random::Rng, reachable, run};
+use oracle::{compare::Tally, random::Rng, reachable, record, run};
 
 const USAGE: &str = "usage: oracle sample [SEED]        about a minute of everything
        oracle calls N [SEED]       N calls in random sessions
-       oracle reachable            every reachable table of capacity 1 and 2, every table of capacity 1";
+       oracle reachable            every reachable table of capacity 1 and 2, every table of capacity 1
+       oracle record [SEED]        the recorded list that crates/replay replays, to standard output";
 
 fn sample(seed: u64, tally: &mut Tally) -> run::Verdict<()> {
     let mut rng = Rng::new(seed);
     let tables = reachable::walk(1, 1, tally).map_err(run::told)?;
     println!("capacity 1: {} reachable tables", tables);
-    run::sessions(&mut rng, 400_000, tally)?;
-    let unsound = run::damaged(&mut rng, 20_000, tally)?;
-    println!("20000 damaged tables, {} of them unsound", unsound);
-    let opened = run::opens(&mut rng, 2_000)?;
-    println!("2000 Opens, {} accepted", opened);
-    let by = run::proofs(&mut rng, 100_000)?;
-    println!("100000 proofs read: {} whole, {} with too little room, {} broken", by[0], by[1], by[2]);
+    run::sessions(&mut rng, 5_000_000, tally)?;
+    let unsound = run::damaged(&mut rng, 200_000, tally)?;
+    println!("200000 damaged tables, {} of them unsound", unsound);
+    let opened = run::opens(&mut rng, 20_000)?;
+    println!("20000 Opens, {} accepted", opened);
+    let by = run::proofs(&mut rng, 1_000_000)?;
+    println!("1000000 proofs read: {} whole, {} with too little room, {} broken", by[0], by[1], by[2]);
+    let by = run::writes(&mut rng, 1_000_000)?;
+    println!("1000000 proofs written from lists: {} whole, {} no proof, {} with too little room", by[0], by[1], by[2]);
     Ok(())
 }
 
@@ -31,6 +34,21 @@ fn reachable(tally: &mut Tally) -> run::Verdict<()> {
     Ok(())
 }
 
+/// The list to standard output, a summary to standard error.
+fn record(seed: u64) -> ! {
+    match record::list(seed) {
+        Ok(list) => {
+            print!("{}", list.text);
+            eprint!("{}", record::summary(&list));
+            process::exit(0)
+        }
+        Err(what) => {
+            eprintln!("NO LIST\n{}", what);
+            process::exit(1)
+        }
+    }
+}
+
 fn main() {
     // panics of varisat's functions are caught and judged
     panic::set_hook(Box::new(|_| ()));
@@ -42,6 +60,7 @@ fn main() {
         Some("sample") => sample(number(1).unwrap_or(1), &mut tally),
         Some("calls") => run::sessions(&mut Rng::new(number(2).unwrap_or(1)), number(1).unwrap_or(1_000_000), &mut tally),
         Some("reachable") => reachable(&mut tally),
+        Some("record") => record(number(1).unwrap_or(1)),
         _ => {
             eprintln!("{}", USAGE);
             process::exit(2);

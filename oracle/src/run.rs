@@ -68,22 +68,66 @@ pub fn opens(rng: &mut Rng, times: u64) -> Verdict<u64> {
 pub fn proofs(rng: &mut Rng, times: u64) -> Verdict<[u64; 3]> {
     let mut by = [0; 3];
     for _ in 0..times {
-        let format = if rng.flag() { Format::Text } else { Format::Binary };
-        let bytes = proof(rng, format);
-        let full = drat::read_call(format, &bytes, [usize::MAX; 3]);
-        let mut rooms = [full.codes.len(), full.ends.len(), full.kinds.len()];
-        for room in &mut rooms {
-            if rng.one_in(3) {
-                *room += rng.index(3);
-            } else if rng.one_in(12) {
-                *room = room.saturating_sub(1);
-            }
-        }
+        let (format, bytes, rooms) = draw_proof(rng);
         let want = drat::read_call(format, &bytes, rooms);
         by[[0, 2, 13].iter().position(|&n| n == want.refusal).unwrap()] += 1;
         read_of(format, &bytes, rooms, &want)?;
     }
     Ok(by)
+}
+
+/// Whole proofs written from their lists, some of which were damaged. How many were written, were no proof, had too little room.
+pub fn writes(rng: &mut Rng, times: u64) -> Verdict<[u64; 3]> {
+    let mut by = [0; 3];
+    for _ in 0..times {
+        let format = if rng.flag() { Format::Text } else { Format::Binary };
+        let mut lists = drat::read_call(format, &proof(rng, format), [usize::MAX; 3]);
+        if rng.one_in(3) {
+            damage(rng, &mut lists);
+        }
+        let length = drat::write_call(format, &lists, usize::MAX).map_or(9, |bytes| bytes.len());
+        let room = if rng.one_in(8) { rng.index(length + 1) } else { length + rng.index(3) * rng.index(40) };
+        let want = drat::write_call(format, &lists, room);
+        by[[0, 3, 2].iter().position(|&n| n == want.as_ref().err().copied().unwrap_or(0)).unwrap()] += 1;
+        write_of(format, &lists, room, &want)?;
+    }
+    Ok(by)
+}
+
+/// One word of the lists changed, added or taken away.
+fn damage(rng: &mut Rng, lists: &mut drat::Filled) {
+    let drat::Filled { codes, ends, kinds, .. } = lists;
+    let wild = rng.of(&[0, 1, 2, 3, 8191, 8192, u64::MAX]);
+    match rng.below(8) {
+        0 => codes.push(wild as u32),
+        1 => ends.push(wild),
+        2 => kinds.push(wild as u8),
+        3 => drop(codes.pop()),
+        4 => drop(ends.pop()),
+        5 if !codes.is_empty() => *codes.last_mut().unwrap() = wild as u32,
+        6 if !ends.is_empty() => {
+            let at = rng.index(ends.len());
+            ends[at] = if rng.flag() { wild } else { ends[at].wrapping_sub(1) };
+        }
+        7 if !kinds.is_empty() => kinds[0] = wild as u8,
+        _ => drop(kinds.pop()),
+    }
+}
+
+/// A proof, and the lengths of the slices to read it into: what it needs, a little more, or now and then too little.
+pub fn draw_proof(rng: &mut Rng) -> (Format, Vec<u8>, [usize; 3]) {
+    let format = if rng.flag() { Format::Text } else { Format::Binary };
+    let bytes = proof(rng, format);
+    let full = drat::read_call(format, &bytes, [usize::MAX; 3]);
+    let mut rooms = [full.codes.len(), full.ends.len(), full.kinds.len()];
+    for room in &mut rooms {
+        if rng.one_in(3) {
+            *room += rng.index(3);
+        } else if rng.one_in(12) {
+            *room = room.saturating_sub(1);
+        }
+    }
+    (format, bytes, rooms)
 }
 
 fn proof(rng: &mut Rng, format: Format) -> Vec<u8> {
@@ -124,7 +168,7 @@ fn odd_byte(rng: &mut Rng) -> u8 {
 use crate::library;
 
 #[cfg(feature = "library")]
-fn soundness(table: &Table) -> Verdict<()> {
+pub fn soundness(table: &Table) -> Verdict<()> {
     let (want, got) = (table.is_sound(), library::Library::load(Format::Text, table).is_sound());
     if want != got {
         return Err(format!("sound by document 01: {}, by the library: {}; {:?}", want, got, table));
@@ -133,7 +177,7 @@ fn soundness(table: &Table) -> Verdict<()> {
 }
 
 #[cfg(feature = "library")]
-fn open_in(memory: &Table, want: &crate::reading::Outcome) -> Verdict<()> {
+pub fn open_in(memory: &Table, want: &crate::reading::Outcome) -> Verdict<()> {
     let got = library::Library::open(memory);
     if got.refusal != want.refusal || got.table.lists() != want.table.lists() {
         return Err(format!("Open of {:?}\n document 01: {:?}\n the library: {:?}", memory, want, got));
@@ -142,7 +186,7 @@ fn open_in(memory: &Table, want: &crate::reading::Outcome) -> Verdict<()> {
 }
 
 #[cfg(feature = "library")]
-fn read_of(format: Format, bytes: &[u8], rooms: [usize; 3], want: &drat::Filled) -> Verdict<()> {
+pub fn read_of(format: Format, bytes: &[u8], rooms: [usize; 3], want: &drat::Filled) -> Verdict<()> {
     let got = library::read(format, bytes, rooms)?;
     if &got != want {
         return Err(format!("Read of {:?} {:?}\n document 01: {:?}\n the library: {:?}", format, bytes, want, got));
@@ -155,18 +199,32 @@ fn read_of(format: Format, bytes: &[u8], rooms: [usize; 3], want: &drat::Filled)
     Ok(())
 }
 
-#[cfg(not(feature = "library"))]
-fn soundness(_table: &Table) -> Verdict<()> {
+#[cfg(feature = "library")]
+fn write_of(format: Format, lists: &drat::Filled, room: usize, want: &Result<Vec<u8>, u32>) -> Verdict<()> {
+    let got = library::write_proof(format, lists, room)?;
+    if &got != want {
+        return Err(format!("{:?} {:?} written in {}\n plainly: {:?}\n the library: {:?}", format, lists, room, want, got));
+    }
     Ok(())
 }
 
 #[cfg(not(feature = "library"))]
-fn open_in(_memory: &Table, _want: &crate::reading::Outcome) -> Verdict<()> {
+pub fn soundness(_table: &Table) -> Verdict<()> {
     Ok(())
 }
 
 #[cfg(not(feature = "library"))]
-fn read_of(_format: Format, _bytes: &[u8], _rooms: [usize; 3], _want: &drat::Filled) -> Verdict<()> {
+pub fn open_in(_memory: &Table, _want: &crate::reading::Outcome) -> Verdict<()> {
     Ok(())
 }
 
+#[cfg(not(feature = "library"))]
+pub fn read_of(_format: Format, _bytes: &[u8], _rooms: [usize; 3], _want: &drat::Filled) -> Verdict<()> {
+    Ok(())
+}
+
+
+#[cfg(not(feature = "library"))]
+fn write_of(_format: Format, _lists: &drat::Filled, _room: usize, _want: &Result<Vec<u8>, u32>) -> Verdict<()> {
+    Ok(())
+}

@@ -160,3 +160,25 @@ pub fn read_call(format: Format, bytes: &[u8], rooms: [usize; 3]) -> Filled {
     }
     filled
 }
+
+/// The bytes of a whole proof given by its three lists: 3, then 2.
+pub fn write_call(format: Format, lists: &Filled, room: usize) -> Result<Vec<u8>, u32> {
+    let (codes, ends, kinds) = (&lists.codes, &lists.ends, &lists.kinds);
+    let starts: Vec<u64> = [0].iter().chain(ends).copied().collect();
+    let listed = ends.len() == kinds.len()
+        && codes.iter().all(|&code| code < 8192)
+        && kinds.iter().all(|&kind| kind < 2)
+        && starts.windows(2).all(|pair| pair[0] <= pair[1])
+        && starts.last() == Some(&(codes.len() as u64));
+    if !listed {
+        return Err(3);
+    }
+    let steps: Vec<Clause> = (0..ends.len())
+        .map(|i| Clause { delete: kinds[i] == 1, lits: codes[starts[i] as usize..ends[i] as usize].to_vec() })
+        .collect();
+    let bytes = encode(format, &steps);
+    if room < bytes.len() {
+        return Err(2);
+    }
+    Ok(bytes)
+}

@@ -21,6 +21,8 @@ use crate::{
     },
 };
 
+pub mod measure;
+
 /// The state, coded as document 01 codes it, each list up to its watermark.
 #[derive(Clone, PartialEq, Eq, Debug)]
 pub struct State {
@@ -101,7 +103,7 @@ fn var(index: u32) -> Var {
     Var::from_index(index as usize)
 }
 
-fn lit(code: u32) -> Lit {
+pub fn lit(code: u32) -> Lit {
     Lit::from_code(code as usize)
 }
 

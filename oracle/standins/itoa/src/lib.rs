@@ -1,5 +1,10 @@
-//! Stand-in: `itoa::write`, with two digits from a table at a time and one `write_all`, as that crate does it.
-use std::io::{self, Write};
+//! Stand-in: `itoa::write` in the shape of itoa 0.4: a buffer that is not cleared, two digits from a table at a time by pointers without
+//! bound checks, the last two numbers of digits by cases, and one `write_all`.
+use std::{
+    io::{self, Write},
+    mem::MaybeUninit,
+    ptr, slice,
+};
 
 const PAIRS: &[u8; 200] = b"\
     0001020304050607080910111213141516171819\
@@ -8,36 +13,55 @@ const PAIRS: &[u8; 200] = b"\
     6061626364656667686970717273747576777879\
     8081828384858687888990919293949596979899";
 
+const MOST: usize = 20;
+
+#[inline]
 pub fn write<W: Write>(mut w: W, value: isize) -> io::Result<usize> {
-    let mut buf = [0u8; 20];
-    let mut at = buf.len();
+    let mut buf = MaybeUninit::<[u8; MOST]>::uninit();
+    let digits = unsafe { format(value, buf.as_mut_ptr() as *mut u8) };
+    w.write_all(digits)?;
+    Ok(digits.len())
+}
+
+/// # Safety
+/// `buf` points to `MOST` bytes. The longest number, with its minus, takes that many.
+#[inline]
+unsafe fn format<'a>(value: isize, buf: *mut u8) -> &'a [u8] {
+    let pairs = PAIRS.as_ptr();
     let mut n = value.unsigned_abs();
-    while n >= 100 {
-        let pair = n % 100 * 2;
-        n /= 100;
-        at -= 2;
-        buf[at..at + 2].copy_from_slice(&PAIRS[pair..pair + 2]);
+    let mut at = MOST;
+    while n >= 10000 {
+        let four = n % 10000;
+        n /= 10000;
+        at -= 4;
+        ptr::copy_nonoverlapping(pairs.add(four / 100 * 2), buf.add(at), 2);
+        ptr::copy_nonoverlapping(pairs.add(four % 100 * 2), buf.add(at + 2), 2);
     }
-    if n >= 10 {
+    if n >= 100 {
         at -= 2;
-        buf[at..at + 2].copy_from_slice(&PAIRS[2 * n..2 * n + 2]);
-    } else {
+        ptr::copy_nonoverlapping(pairs.add(n % 100 * 2), buf.add(at), 2);
+        n /= 100;
+    }
+    if n < 10 {
         at -= 1;
-        buf[at] = b'0' + n as u8;
+        *buf.add(at) = n as u8 + b'0';
+    } else {
+        at -= 2;
+        ptr::copy_nonoverlapping(pairs.add(n * 2), buf.add(at), 2);
     }
     if value < 0 {
         at -= 1;
-        buf[at] = b'-';
+        *buf.add(at) = b'-';
     }
-    w.write_all(&buf[at..])?;
-    Ok(buf.len() - at)
+    slice::from_raw_parts(buf.add(at), MOST - at)
 }
 
 #[cfg(test)]
 mod tests {
     #[test]
     fn like_to_string() {
-        for n in -20_000isize..20_000 {
+        let all = (-20_000isize..20_000).chain([isize::MIN, isize::MIN + 1, isize::MAX]);
+        for n in all {
             let mut out = vec![];
             super::write(&mut out, n).unwrap();
             assert_eq!(out, n.to_string().as_bytes());
