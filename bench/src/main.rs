@@ -1,0 +1,33 @@
+//! Times the proved library, through the safe crate, against varisat's own functions and plain Rust loops. Both sides of every pair are first
+//! seen to give the same; then they run in turn, and the least time of each is taken.
+mod bulk;
+mod codec;
+mod growth;
+mod lent;
+mod plain;
+mod random;
+mod report;
+mod single;
+mod sound;
+mod tables;
+mod timing;
+
+/// All parts, or those named on the command line.
+fn main() {
+    let report = report::Report::default();
+    let parts: [(&str, fn(&report::Report)); 6] = [
+        ("writers", codec::writers),
+        ("readers", codec::readers),
+        ("sound", sound::tables),
+        ("bulk", bulk::calls),
+        ("single", single::table),
+        ("growth", growth::table),
+    ];
+    let asked: Vec<String> = std::env::args().skip(1).collect();
+    for (name, part) in parts {
+        if asked.is_empty() || asked.iter().any(|word| word == name) {
+            part(&report);
+        }
+    }
+    report.summary();
+}

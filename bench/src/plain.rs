@@ -1,0 +1,4 @@
+//! Plain Rust beside which the library is timed where varisat has no function for it.
+pub mod names;
+pub mod reader;
+pub mod sound;
