@@ -1,6 +1,6 @@
 //! Bad input gives the refusal, never a panic, and changes nothing.
 use hintzobar::{
-    first_step, read, write_clause, Cause, Counts, Format, Global, Lists, Lit, Lits, Mark, Mode, Notes, Refusal, Solver, Step, Table,
+    first_step, read, write_clause, write_proof, Cause, Counts, Format, Global, Lists, Lit, Lits, Mark, Mode, Notes, Refusal, Solver, Step, Table,
     User,
 };
 
@@ -157,4 +157,30 @@ fn refusals_say_what_they_mean() {
     assert_eq!(text, "refusal 10: the capacity is not 1 to 4,096, or a list has another length");
     let text = first_step(Format::Text, b"x").unwrap_err().to_string();
     assert_eq!(text, "refusal 13: a step of the proof is not whole, the one at byte 0");
+}
+
+#[test]
+fn lists_that_are_no_proof() {
+    let lits: Vec<Lit<Global>> = [0, 3, 8191].map(Lit::from_code).to_vec();
+    let mut proof = [7; 32];
+    let bad: [(&[u64], &[u8]); 7] = [
+        (&[2, 3], &[0]),
+        (&[3], &[0, 1]),
+        (&[], &[]),
+        (&[2], &[0]),
+        (&[2, 4], &[0, 1]),
+        (&[3, 2, 3], &[0, 1, 0]),
+        (&[2, 3], &[0, 2]),
+    ];
+    for (ends, kinds) in bad {
+        for format in [Format::Text, Format::Binary] {
+            assert_eq!(write_proof(format, &lits, ends, kinds, &mut proof), Err(Refusal::OutOfRange));
+        }
+    }
+    assert_eq!(write_proof(Format::Text, &[Lit::from_code(8192)], &[1], &[0], &mut proof), Err(Refusal::OutOfRange));
+    assert_eq!(write_proof(Format::Text, &lits, &[2, 3], &[0, 1], &mut proof[..16]), Err(Refusal::Short));
+    assert_eq!(proof, [7; 32]);
+    assert_eq!(write_proof(Format::Text, &lits, &[2, 3], &[0, 1], &mut proof), Ok(17));
+    assert_eq!(&proof[..18], b"1 -2 0\nd -4096 0\n\x07");
+    assert_eq!(write_proof(Format::Binary, &[], &[], &[], &mut []), Ok(0));
 }

@@ -17,7 +17,7 @@ ghost use Rattle.base.specs.Bounded.{allBelow};
 ghost use Rattle.drat.specs.declared.Format.the-variants.{Text, Binary};
 ghost use Rattle.drat.specs.Numeral.{bytesOf, leb128};
 ghost use Rattle.drat.specs.Grammar.{blanked, number, numbers, opens, ends, stepOf, encodeStep, Codes};
-ghost use Rattle.drat.specs.Writing.{codesTest, outside, writeOf, wrote};
+ghost use Rattle.drat.specs.Writing.{outside, writeOf, wrote};
 ghost use Rattle.drat.specs.Listed.{writeAllOf};
 ghost use Rattle.drat.proofs.Shapes.{Short};
 
@@ -291,14 +291,13 @@ fn put_texts(lits: &[u32], out: &mut [u8], at: usize) -> usize
     p
 }
 
-// Whether every code takes one byte.
-fn all_short(lits: &[u32]) -> bool
-    ensures { λ r. ⌜ r ≡ allBelow (length (old lits)) (λ i. ltb (getD (old lits) i 0) 126) ⌝ }
+fn all_below(words: &[u32], bound: u32) -> bool
+    ensures { λ r. ⌜ r ≡ allBelow (length (old words)) (λ i. ltb (getD (old words) i 0) bound) ⌝ }
 {
     let mut ok = true;
     let mut i = 0;
-    while i < lits.len() {
-        ok = ok & (lits[i] < 126);
+    while i < words.len() {
+        ok = ok & (words[i] < bound);
         i += 1;
     }
     ok
@@ -334,14 +333,14 @@ fn put_each(lits: &[u32], out: &mut [u8], at: usize) -> usize
     p
 }
 
-// Where all literals take one byte, they are copied without a test of each.
+// Codes below 126 take one byte: where all are, they are copied without a test of each.
 fn put_binaries(lits: &[u32], out: &mut [u8], at: usize) -> usize
     requires { ⌜ Codes (now lits) ⌝ }
     requires { ⌜ at + length (numbers Binary (now lits)) ≤ length (now out) ⌝ }
     ensures { λ r. ⌜ r ≡ at + length (numbers Binary (old lits)) ⌝ }
     ensures { λ _. ⌜ Fills out at (numbers Binary (old lits)) ⌝ }
 {
-    if all_short(lits) {
+    if all_below(lits, 126) {
         return put_short(lits, out, at);
     }
     put_each(lits, out, at)
@@ -399,18 +398,6 @@ pub fn put_step(f: Format, k: Kind, lits: &[u32], out: &mut [u8], at: usize) -> 
     }
 }
 
-fn codes_ok(lits: &[u32]) -> bool
-    ensures { λ r. ⌜ r ≡ codesTest (old lits) ⌝ }
-{
-    let mut ok = true;
-    let mut i = 0;
-    while i < lits.len() {
-        ok = ok & (lits[i] < 8192);
-        i += 1;
-    }
-    ok
-}
-
 fn no_clause(buf: &[u32], a: usize, b: usize) -> bool
     ensures { λ r. ⌜ r ≡ outside (old buf) a b ⌝ }
 {
@@ -423,7 +410,7 @@ fn no_clause(buf: &[u32], a: usize, b: usize) -> bool
     if 8192 < b - a {
         return true;
     }
-    !codes_ok(&buf[a..b])
+    !all_below(&buf[a..b], 8192)
 }
 
 // Writes the clause that stands from a to b in a buffer of literal codes, as one step, from the place `at` of the output on: 3, 2.

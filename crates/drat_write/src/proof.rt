@@ -1,5 +1,5 @@
 // A whole proof from its three lists: literal codes, each step's end among them, and kinds.
-use crate::codes_ok;
+use crate::all_below;
 use crate::end_len;
 use crate::number_len;
 use crate::open_len;
@@ -50,7 +50,7 @@ fn kinds_ok(kinds: &[u8]) -> bool
 pub(crate) fn no_proof(codes: &[u32], ends: &[u64], kinds: &[u8]) -> bool
     ensures { λ r. ⌜ r ≡ unlisted (old codes) (old ends) (old kinds) ⌝ }
 {
-    if !codes_ok(codes) {
+    if !all_below(codes, 8192) {
         return true;
     }
     if ends.len() != kinds.len() {

@@ -20,22 +20,22 @@ returns-3 c =
     let a = c .before .before .before .before .args in
     sym (outside-long (a .buf .now) (a .a) (a .b) (c .before .before .if1 .left) (c .before .if2 .left) (c .if3 .taken))
 
-mul-codes-ok : tie.Need-mul-codes-ok
-mul-codes-ok c = search needs
+mul-all-below : tie.Need-mul-all-below
+mul-all-below c = search needs
 
-part-codes-ok-start : tie.Need-part-codes-ok-start
-part-codes-ok-start c = search needs
+part-all-below-start : tie.Need-part-all-below-start
+part-all-below-start c = search needs
 
-part-codes-ok-end : tie.Need-part-codes-ok-end
-part-codes-ok-end c = search needs
+part-all-below-end : tie.Need-part-all-below-end
+part-all-below-end c = search needs
 
-codes-ok-requires : tie.Need-codes-ok-requires
-codes-ok-requires c κs = search needs
+all-below-requires : tie.Need-all-below-requires
+all-below-requires c κs = search needs
 
 returns-4 : tie.Need-returns-4
 returns-4 c =
     let a = c .before .before .before .before .before .before .args in
-    ap not (c .codes-ok .ensures) ∙ sym (outside-codes (a .buf .now) (a .a) (a .b) (c .before .before .before .before .if1 .left) (c .before .before .before .if2 .left) (c .before .before .if3 .left))
+    ap not (c .all-below .ensures) ∙ sym (outside-codes (a .buf .now) (a .a) (a .b) (c .before .before .before .before .if1 .left) (c .before .before .before .if2 .left) (c .before .before .if3 .left))
 
 pub no-clause-spec : {M : Type 1} → statement M
 no-clause-spec =
@@ -44,8 +44,8 @@ no-clause-spec =
     returns
     returns-2
     returns-3
-    mul-codes-ok
-    part-codes-ok-start
-    part-codes-ok-end
-    codes-ok-requires
+    mul-all-below
+    part-all-below-start
+    part-all-below-end
+    all-below-requires
     returns-4)

@@ -12,13 +12,13 @@ use Rattle.drat.proofs.Shapes.{Short, short-length}
 use Rattle.drat_write.proofs.put_binaries.Statement.{statement}
 use Rattle.drat_write.proofs.put_binaries.Tie as tie
 
-all-short-requires : tie.Need-all-short-requires
-all-short-requires c κs = search needs
+all-below-requires : tie.Need-all-below-requires
+all-below-requires c κs = search needs
 
 put-short-requires : tie.Need-put-short-requires
 put-short-requires c κs =
     let l = c .before .before .before .before .before .args .lits .now in
-    let h : Short l = λ i k. ltb-true (getD l i 0) 126 (all-at (length l) (λ j. ltb (getD l j 0) 126) (sym (c .before .before .all-short .ensures) ∙ c .before .if1 .taken) i k) in
+    let h : Short l = λ i k. ltb-true (getD l i 0) 126 (all-at (length l) (λ j. ltb (getD l j 0) 126) (sym (c .before .before .all-below .ensures) ∙ c .before .if1 .taken) i k) in
     (h, omega (arith, short-length l h, c .before .before .before .before .before .pre .1))
 
 same-length : tie.Need-same-length
@@ -27,7 +27,7 @@ same-length c = search needs
 returns : tie.Need-returns
 returns c =
     let l = c .before .before .before .before .before .before .before .before .args .lits .now in
-    let h : Short l = λ i k. ltb-true (getD l i 0) 126 (all-at (length l) (λ j. ltb (getD l j 0) 126) (sym (c .before .before .before .before .before .all-short .ensures) ∙ c .before .before .before .before .if1 .taken) i k) in
+    let h : Short l = λ i k. ltb-true (getD l i 0) 126 (all-at (length l) (λ j. ltb (getD l j 0) 126) (sym (c .before .before .before .before .before .all-below .ensures) ∙ c .before .before .before .before .if1 .taken) i k) in
     (omega (arith, short-length l h, c .before .before .put-short .ensures .0), c .before .before .put-short .ensures .1)
 
 put-each-requires : tie.Need-put-each-requires
@@ -43,7 +43,7 @@ pub put-binaries-spec : {M : Type 1} → statement M
 put-binaries-spec =
     tie.close
     (tie.spec
-    all-short-requires
+    all-below-requires
     put-short-requires
     same-length
     returns

@@ -1,4 +1,4 @@
--- The invariant: the flag is the test of the codes passed.
+-- The invariant: the flag is the test of the words passed.
 use Prim.Native.Nat.{ℕ, _-_, _≤_}
 use mathlib.Core.Path.{_≡_, ap, _∙_}
 use native.Mathlib.Omega.{arith}
@@ -7,17 +7,17 @@ use lib.ListN.{length, getD}
 use borrow.Author.Needs.{needs}
 use Rattle.base.specs.Bounded.{allBelow}
 use Rattle.drat.proofs.WritingLaws.{test-none, test-more}
-use Rattle.drat_write.proofs.codes_ok.Statement.{statement}
-use Rattle.drat_write.proofs.codes_ok.Tie as tie
+use Rattle.drat_write.proofs.all_below.Statement.{statement}
+use Rattle.drat_write.proofs.all_below.Tie as tie
 
 abbrev Inv-loop : tie.InvT-loop
-Inv-loop lits ok₀ i₀ ok i = (i ≤ length lits) × (ok ≡ allBelow i (λ j. ltb (getD lits j 0) 8192))
+Inv-loop words bound ok₀ i₀ ok i = (i ≤ length words) × (ok ≡ allBelow i (λ j. ltb (getD words j 0) bound))
 
 abbrev μ-loop : tie.MeasureT-loop
-μ-loop lits ok₀ i₀ ok i = length lits - i
+μ-loop words bound ok₀ i₀ ok i = length words - i
 
 loop-holds : tie.Need-loop-holds Inv-loop μ-loop
-loop-holds c = (omega arith, test-none 8192 (c .args .lits .now))
+loop-holds c = (omega arith, test-none (c .args .bound) (c .args .words .now))
 
 mul-ok : tie.Need-mul-ok Inv-loop μ-loop
 mul-ok c = search needs
@@ -35,16 +35,16 @@ loop-again : tie.Need-loop-again Inv-loop μ-loop
 loop-again c =
     let a = c .before .before .before .args in
     let l = c .before .before .loop in
-    (omega arith, test-more 8192 (a .lits .now) (l .i) (l .ok) (l .inv .1))
+    (omega arith, test-more (a .bound) (a .words .now) (l .i) (l .ok) (l .inv .1))
 
 returns : tie.Need-returns Inv-loop μ-loop
 returns c =
     let l = c .before .loop in
-    let e : l .i ≡ length (c .before .before .args .lits .now) = omega arith in
-    l .inv .1 ∙ ap (λ (n : ℕ). allBelow n (λ j. ltb (getD (c .before .before .args .lits .now) j 0) 8192)) e
+    let e : l .i ≡ length (c .before .before .args .words .now) = omega arith in
+    l .inv .1 ∙ ap (λ (n : ℕ). allBelow n (λ j. ltb (getD (c .before .before .args .words .now) j 0) (c .before .before .args .bound))) e
 
-pub codes-ok-spec : {M : Type 1} → statement M
-codes-ok-spec =
+pub all-below-spec : {M : Type 1} → statement M
+all-below-spec =
     tie.close
     (tie.spec
     Inv-loop
