@@ -2,7 +2,7 @@
 use std::{hint::black_box, time::Duration};
 
 use hintzobar::{
-    first_step, read, write_clause, Format, Global, Lit, Lits, Made, Mark, Mode, Name, Refusal, Solver, Step, Table, User,
+    first_step, read, write_clause, write_proof, Format, Global, Lit, Lits, Made, Mark, Mode, Name, Refusal, Solver, Step, Table, User,
 };
 use varisat_unchanged::drive::{
     self,
@@ -337,6 +337,9 @@ fn without_table(report: &Report) {
     let mut read = || read(Format::Text, black_box(LINE), &mut codes, &mut ends, &mut kinds).unwrap().lits;
     let mut first = || 3 * (first_step(Format::Text, black_box(LINE)).unwrap().len() == LINE.len()) as usize;
     short_row(report, "Write clause", &mut write, &mut write_rust);
+    let mut whole = [0; 64];
+    let mut write_whole = || write_proof(Format::Text, black_box(&all), &[3], &[0], &mut whole).unwrap();
+    short_row(report, "Write proof, of this line", &mut write_whole, &mut write_rust);
     short_row(report, "Read", &mut read, &mut read_rust);
     short_row(report, "First step, beside reading it whole", &mut first, &mut read_rust);
 }

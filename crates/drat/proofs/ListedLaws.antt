@@ -1,21 +1,20 @@
 -- Laws of the call that writes a whole proof from its three lists, and that the reader gives the lists back.
-use Prim.Native.Nat.{ℕ, zero, suc, _+_, _-_, _*_, _≤_, _<_}
-use mathlib.Core.Path.{_≡_, refl, sym, ap, ap₂, _∙_, subst}
+use Prim.Native.Nat.{ℕ, suc, _+_, _-_, _*_, _≤_, _<_}
+use mathlib.Core.Path.{_≡_, refl, sym, ap, ap₂, _∙_}
 use mathlib.Core.List.{List, [], _∷_, _++_, append-assoc}
 use mathlib.Core.Bool.{Bool, true, false, _&&_, _||_, not, true≢false}
 use native.Mathlib.Omega.{arith}
 use lib.Dec.{eqb, leb, ltb}
-use lib.ListN.{length, getD, take, drop, take-append-drop, length-append, length-take, length-drop, drop-of-length-le}
+use lib.ListN.{length, getD, drop, take-append-drop, length-append, length-take, length-drop, drop-of-length-le}
 use lib.Seq.{sets, drop-drop}
-use borrow.Author.Tests.{eqb-true, eqb-false, leb-true, ltb-true, le-ltb, lt-ltb}
+use borrow.Author.Tests.{eqb-true, eqb-false, leb-true, ltb-true, le-ltb, lt-ltb, not-false}
 use Rattle.base.specs.Choice.{pick}
 use Rattle.base.specs.Answer.{accepted, refused}
 use Rattle.base.proofs.BelowLaws.{and-left, and-right, all-at}
 use Rattle.base.proofs.SetsLaws.{sets-append}
 use Rattle.drat.specs.Grammar.{Step, stepOf, opens, ends, number, numbers, encodeStep, encode, Codes, Valid}
 use Rattle.drat.specs.Writing.{part, codesTest}
-use Rattle.drat.specs.Reading.{steps, readProof}
-use Rattle.drat.specs.Filled.{kindNumber, codesOf, endsFrom, kindsOf, filling, answerOf, readOf, Filling}
+use Rattle.drat.specs.Filled.{kindNumber, codesOf, endsFrom, kindsOf, answerOf, readOf}
 use Rattle.drat.specs.Listed.{kindAt, listed, risesTo, kindsTest, unlisted, writeAllOf}
 use Rattle.drat.specs.declared.Kind.{Kind}
 use Rattle.drat.specs.declared.Kind.the-variants.{Add, Delete}
@@ -224,10 +223,6 @@ module _ (codes es ks : List ℕ) where
       let z = or-false (risesTo (length codes) 0 es) _ (y .1) in
       record { coded = codes-true codes (x .0); paired = eqb-true (length es) (length ks) (y .0); rising = z .0; kinded = λ i l. ltb-true (getD ks i 0) 2 (all-at (length ks) (λ j. ltb (getD ks j 0) 2) (not-false (kindsTest ks) (z .1)) i l) }
     where
-      not-false : (t : Bool) → not t ≡ false → t ≡ true
-      not-false true e = refl
-      not-false false e = absurd (true≢false e)
-
       or-false : (s t : Bool) → not s || t ≡ false → (s ≡ true) × (t ≡ false)
       or-false true t e = (refl, e)
       or-false false t e = absurd (true≢false e)
@@ -254,6 +249,5 @@ module _ (codes es ks : List ℕ) where
       let e = listed-ends codes 0 es ks (l .paired) (l .rising) in
       let k = listed-kinds codes 0 es ks (l .paired) (l .kinded) in
       let n = listed-count codes 0 es ks (l .paired) in
-      let m : length ss ≡ length ks = n ∙ l .paired in
       ap (λ p. answerOf p (length codes) (length es) (length ks)) (round-trip f ss (listed-valid codes 0 es ks (l .coded)))
       ∙ rw (c, e, k, n, le-ltb (length codes) (length codes) (omega arith), le-ltb (length es) (length es) (omega arith), le-ltb (length ks) (length es) (omega (arith, l .paired)))

@@ -6,8 +6,8 @@ use mathlib.Core.Bool.{Bool, true, false}
 use mathlib.Core.Logic.{⊎-elim}
 use native.Mathlib.Omega.{arith}
 use lib.Dec.{eqb, leb}
-use lib.ListN.{length, getD, set, drop, length-append, length-drop}
-use lib.Seq.{sets, set-set, getD-drop}
+use lib.ListN.{length, getD, set, drop, length-append}
+use lib.Seq.{sets, set-set}
 use borrow.Author.Tests.{eqb-true, eqb-false, leb-true, leb-false}
 use Rattle.base.specs.Choice.{pick}
 use Rattle.base.proofs.Truth.{split}
@@ -118,9 +118,6 @@ pub short-length : (l : List ℕ) → Short l → length (numbers Binary l) ≡ 
 unfolding numbers
 short-length [] h = refl
 short-length (c ∷ cs) h = omega (arith, length-append (number Binary c) (numbers Binary cs), ap length (code-short c (h 0 (omega arith))), short-length cs (λ i l. h (suc i) (omega arith)))
-
-pub short-drop : (l : List ℕ) (n : ℕ) → Short l → Short (drop n l)
-short-drop l n h i k = rw getD-drop (h (n + i) (omega (arith, length-drop n l)))
 
 -- one of them written, and then those after it
 pub short-sets : (l o : List ℕ) (p i : ℕ) → Short l → i < length l → sets (set o p (getD l i 0 + 2)) (p + 1) (numbers Binary (drop (i + 1) l)) ≡ sets o p (numbers Binary (drop i l))

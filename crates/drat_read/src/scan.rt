@@ -61,7 +61,7 @@ pub(crate) fn scan(f: Format, s: &[u8]) -> Scanned
     }
 }
 
-// The same, for one step alone.
+// The same, for one step alone: a second call of `token_at` would keep it out of the scan's loop.
 fn token_alone(f: Format, s: &[u8], at: usize) -> Token
     ensures { λ r. ⌜ r ≡ token f at (drop at (old s)) ⌝ }
 {
