@@ -9,8 +9,7 @@ use Rattle.scope.specs.declared.SamplingMode.{SamplingMode}
 use Rattle.scope.specs.declared.SamplingMode.the-variants.{Sample, Witness, Hide}
 use Rattle.scope.specs.declared.Mark.{Mark}
 use Rattle.scope.specs.declared.ProofStep.{ProofStep}
-use Rattle.scope.specs.declared.Writes.{Writes}
-use Rattle.scope.specs.declared.Writes.the-variants.{Add as adds, AddEach, Delete as deletes, Nothing, Refused}
+use Rattle.scope.specs.declared.ProofStep.the-variants.{AddClause, AtClause, UnitClauses, DeleteClause, Model, Assumptions, FailedAssumptions, SolverVarName, UserVarName, DeleteVar, ChangeSamplingMode, ChangeHashBits, End}
 use Rattle.scope.specs.Table.{Table}
 use Rattle.scope.specs.Notes.{Note}
 use Rattle.scope.specs.Outcome.{Outcome}
@@ -21,7 +20,6 @@ use Rattle.scope.specs.Pose.{poseOf}
 use Rattle.scope.specs.Modes.{setModeOf, observeOf}
 use Rattle.scope.specs.Marks.{markOf, assignOf}
 use Rattle.scope.specs.Remove.{removeOf, sweepOf}
-use Rattle.scope.specs.Steps.{ruleOf, literalsOf}
 use Rattle.scope.specs.Simplify.{simplifyOf}
 use Rattle.scope.specs.Write.{renameOf, writeOf}
 use Rattle.scope.specs.Models.{modelOf}
@@ -103,36 +101,45 @@ hiddenBy (model globals users) = []
 unfoldable pub entriesOf : Call → List Note → List Entry
 entriesOf call notes = hiddenBy call ++ map noted notes
 
--- Simplify, by the first value of its answer: 0 kept, none; 1 dropped, a delete of the clause given; shortened or binary, an add of the rest
--- answered, then that delete.
-abbrev pub simplifyLines : List ℕ → List ℕ → List ℕ → List Line
-simplifyLines [] lits rest = []
-simplifyLines (zero ∷ vs) lits rest = []
-simplifyLines (suc zero ∷ vs) lits rest = line Delete true lits ∷ []
-simplifyLines (suc (suc k) ∷ vs) lits rest = line Add true rest ∷ line Delete true lits ∷ []
+-- Simplify, by the first value of its answer: 0 kept, none; 1 dropped, a delete of the clause given; 2 shortened or 3 binary, an add of the
+-- rest answered, then that delete.
+abbrev pub simplifyLines : List ℕ → List ℕ → List ℕ → List Note → List Line
+simplifyLines [] lits rest notes = []
+simplifyLines (zero ∷ vs) lits rest notes = []
+simplifyLines (suc zero ∷ vs) lits rest notes = line Delete true lits notes ∷ []
+simplifyLines (suc (suc k) ∷ vs) lits rest notes = line Add true rest notes ∷ line Delete true lits notes ∷ []
 
--- Write: its kind's adds or delete of the literals given.
-abbrev pub writeLines : Writes → Bool → List ℕ → List Line
-writeLines adds solverVars lits = line Add solverVars lits ∷ []
-writeLines AddEach solverVars lits = map (λ c. line Add solverVars (c ∷ [])) lits
-writeLines deletes solverVars lits = line Delete solverVars lits ∷ []
-writeLines Nothing solverVars lits = []
-writeLines Refused solverVars lits = []
+-- Write, by its kind: AtClause an add, UnitClauses one add per unit, DeleteClause a delete, of the literals given; any other none.
+abbrev pub writeLines : ProofStep → Bool → List ℕ → List Note → List Line
+writeLines AddClause solverVars lits notes = []
+writeLines (AtClause redundant) solverVars lits notes = line Add solverVars lits notes ∷ []
+writeLines UnitClauses solverVars lits notes = map (λ c. line Add solverVars (c ∷ []) notes) lits
+writeLines (DeleteClause cause) solverVars lits notes = line Delete solverVars lits notes ∷ []
+writeLines Model solverVars lits notes = []
+writeLines Assumptions solverVars lits notes = []
+writeLines FailedAssumptions solverVars lits notes = []
+writeLines (SolverVarName g s) solverVars lits notes = []
+writeLines (UserVarName g u) solverVars lits notes = []
+writeLines (DeleteVar g) solverVars lits notes = []
+writeLines (ChangeSamplingMode g sample) solverVars lits notes = []
+writeLines (ChangeHashBits bits) solverVars lits notes = []
+writeLines End solverVars lits notes = []
 
--- The clause steps of a call, from its arguments, the values it answered and the words it filled. Any call but these two: none.
-unfoldable pub linesOf : Call → List ℕ → List ℕ → List Line
-linesOf (lookup asked i) vs ws = []
-linesOf (mapUser u sampling room) vs ws = []
-linesOf (newUser room) vs ws = []
-linesOf (pose lits sampling outs room) vs ws = []
-linesOf (grant g room) vs ws = []
-linesOf (setMode g mode room) vs ws = []
-linesOf (observe outs room) vs ws = []
-linesOf (mark m s) vs ws = []
-linesOf (assign c) vs ws = []
-linesOf (remove s room) vs ws = []
-linesOf (sweep room) vs ws = []
-linesOf (simplify lits redundant outs room) vs ws = simplifyLines vs lits ws
-linesOf (rename step solverVars lits hashes outs hashOuts) vs ws = []
-linesOf (write step solverVars lits hashes room) vs ws = writeLines (ruleOf step .writes) solverVars (literalsOf step lits)
-linesOf (model globals users) vs ws = []
+-- The clause steps of a call, from its arguments, the values it answered, the words it filled and the notes so far. Any call but these two:
+-- none.
+unfoldable pub linesOf : Call → List ℕ → List ℕ → List Note → List Line
+linesOf (lookup asked i) vs ws notes = []
+linesOf (mapUser u sampling room) vs ws notes = []
+linesOf (newUser room) vs ws notes = []
+linesOf (pose lits sampling outs room) vs ws notes = []
+linesOf (grant g room) vs ws notes = []
+linesOf (setMode g mode room) vs ws notes = []
+linesOf (observe outs room) vs ws notes = []
+linesOf (mark m s) vs ws notes = []
+linesOf (assign c) vs ws notes = []
+linesOf (remove s room) vs ws notes = []
+linesOf (sweep room) vs ws notes = []
+linesOf (simplify lits redundant outs room) vs ws notes = simplifyLines vs lits ws notes
+linesOf (rename step solverVars lits hashes outs hashOuts) vs ws notes = []
+linesOf (write step solverVars lits hashes room) vs ws notes = writeLines step solverVars lits notes
+linesOf (model globals users) vs ws notes = []
