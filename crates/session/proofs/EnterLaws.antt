@@ -20,7 +20,7 @@ use Rattle.scope.specs.Marks.{notHeld}
 use Rattle.scope.specs.Steps.{literalsOf, clauseSteps}
 use Rattle.scope.specs.Write.{renameLit, renameLits, holders, unheld}
 use Rattle.session.specs.Ledger.{Line, line, EntersLit, plus, minus, given, Pairwise, nil, cons, EntersStep, Enters}
-use Rattle.session.specs.Calls.{writeLines}
+use Rattle.session.specs.Entered.{writeLines}
 use Rattle.session.proofs.HeldLaws.{held-says}
 
 -- the notes tell the holders of the table

@@ -1,3 +1,4 @@
+pub mod Accounts
 pub mod NumberLaws
 pub mod WorkedCases
 pub mod HeldLaws
@@ -10,6 +11,5 @@ pub mod LookupLaws
 pub mod SessionLaws
 pub mod MadeLaws
 pub mod MetLaws
-pub mod OneSession
 pub mod RuledOut
 pub mod RenamedLaws

@@ -20,11 +20,11 @@ use Rattle.scope.proofs.SoundLaws.{sound-to, shown-of, shown-to}
 use Rattle.scope.proofs.MoveLaws.{reach-sound}
 use Rattle.scope.proofs.OpenLaws.{open-opened, open-sound}
 use Rattle.session.specs.Ledger.{notesOf, nil, Enters}
-use Rattle.session.specs.Calls.{Call, perform, entriesOf}
-use Rattle.session.specs.Session.{State, start, enter, after, run, Holds}
+use Rattle.session.specs.Entered.{entriesOf}
+use Rattle.session.specs.Session.{Turn, does, State, start, enter, after, run, Holds}
 use Rattle.session.proofs.HeldLaws.{held-says}
 use Rattle.session.proofs.AgreeLaws.{Agrees, reach-agrees, empty-agrees}
-use Rattle.session.proofs.CallLaws.{Lawful, Owed, refusing, accepting, call-owed}
+use Rattle.session.proofs.CallLaws.{Lawful, Owed, refusing, accepting, turn-owed}
 use Rattle.session.proofs.EnterLaws.{enters-append, enters-once}
 use Rattle.session.proofs.LookupLaws.{says-global, says-user, says-solver, says-holder, has-user, is-shown}
 
@@ -44,11 +44,11 @@ pub record Invariant (f : Format) (σ : State) : Type 0 where
   pub valid : Valid steps
 
 -- an accepted call: the notes, which tell the holders of the table it leaves, enter its lines as the steps that it writes
-accepted-keeps : (f : Format) (σ : State) (call : Call) (vs : List ℕ) (o : Outcome) → Lawful f call (σ .table) vs o → Invariant f σ
-    → Invariant f (enter σ call o (accepted vs))
+accepted-keeps : (f : Format) (σ : State) (x : Turn) (vs : List ℕ) (o : Outcome) → Lawful f x (σ .table) vs o → Invariant f σ
+    → Invariant f (enter σ (x .call) o (accepted vs))
 unfolding enter
-accepted-keeps f σ call vs o l i =
-    let notes = notesOf (σ .log ++ entriesOf call (o .notes)) in
+accepted-keeps f σ x vs o l i =
+    let notes = notesOf (σ .log ++ entriesOf (x .call) (o .notes)) in
     let a = reach-agrees (σ .log) (l .path) (i .sound) (i .agrees) in
     record {
       sound = reach-sound (l .path) (i .sound);
@@ -59,20 +59,20 @@ accepted-keeps f σ call vs o l i =
       valid = valid-append (i .steps) (l .steps) (i .valid) (l .valid);
     }
 
-pub enter-keeps : (f : Format) (σ : State) (call : Call) (o : Outcome) → Owed f call (σ .table) o → Invariant f σ
-    → Invariant f (enter σ call o (o .answer))
+pub enter-keeps : (f : Format) (σ : State) (x : Turn) (o : Outcome) → Owed f x (σ .table) o → Invariant f σ
+    → Invariant f (enter σ (x .call) o (o .answer))
 unfolding enter
-enter-keeps f σ call o refusing i = i
-enter-keeps f σ call o (accepting {vs = vs} e l) i = rw e (accepted-keeps f σ call vs o l i)
+enter-keeps f σ x o refusing i = i
+enter-keeps f σ x o (accepting {vs = vs} e l) i = rw e (accepted-keeps f σ x vs o l i)
 
-pub after-keeps : (f : Format) (σ : State) (call : Call) → Invariant f σ → Invariant f (after f σ call)
+pub after-keeps : (f : Format) (σ : State) (x : Turn) → Invariant f σ → Invariant f (after f σ x)
 unfolding after
-after-keeps f σ call i = enter-keeps f σ call (perform f call (σ .table)) (call-owed f call (σ .table)) i
+after-keeps f σ x i = enter-keeps f σ x (does f x (σ .table)) (turn-owed f x (σ .table)) i
 
-pub run-keeps : (f : Format) (σ : State) (calls : List Call) → Invariant f σ → Invariant f (run f σ calls)
+pub run-keeps : (f : Format) (σ : State) (xs : List Turn) → Invariant f σ → Invariant f (run f σ xs)
 unfolding run
 run-keeps f σ [] i = i
-run-keeps f σ (call ∷ calls) i = run-keeps f (after f σ call) calls (after-keeps f σ call i)
+run-keeps f σ (x ∷ xs) i = run-keeps f (after f σ x) xs (after-keeps f σ x i)
 
 -- what the invariant says of a state
 pub invariant-holds : (f : Format) (σ : State) → Invariant f σ → Holds f σ
@@ -108,9 +108,9 @@ open-start f t vs e =
     }
 
 -- Demand 3: any list of calls after one accepted Open, in one format throughout.
-pub demand3 : (f : Format) (t : Table) (vs : List ℕ) → openOf t .answer ≡ accepted vs → (calls : List Call)
-    → Holds f (run f (start (openOf t .table)) calls)
-demand3 f t vs e calls = invariant-holds f _ (run-keeps f (start (openOf t .table)) calls (open-start f t vs e))
+pub demand3 : (f : Format) (t : Table) (vs : List ℕ) → openOf t .answer ≡ accepted vs → (xs : List Turn)
+    → Holds f (run f (start (openOf t .table)) xs)
+demand3 f t vs e xs = invariant-holds f _ (run-keeps f (start (openOf t .table)) xs (open-start f t vs e))
 
 -- The reading is the ledger's steps: what the bytes spell is what the lines enter as, and nothing else.
 pub session-reading : (f : Format) (σ : State) → Holds f σ → (x : List Step) → Spells f (σ .bytes) x ↔ Enters (σ .lines) x

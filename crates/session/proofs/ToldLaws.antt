@@ -10,16 +10,17 @@ use Rattle.scope.specs.Table.{word}
 use Rattle.scope.specs.Notes.{Note, user+, user-, solver+, solver-, deletes, changes, noteWords, notesWords}
 use Rattle.scope.specs.Outcome.{Outcome}
 use Rattle.scope.proofs.ResultLaws.{word-some}
-use Rattle.session.specs.Calls.{Call, linesOf}
-use Rattle.session.specs.Made.{notesIn, lastOr, roomOf, countsOf}
+use Rattle.session.specs.Entered.{linesOf}
+use Rattle.session.specs.Session.{Turn}
+use Rattle.session.specs.Made.{notesIn, lastOr, countsOf}
 
-pub record Told (call : Call) (vs : List ℕ) (o : Outcome) : Type 0 where
-  pub notes : countsOf call vs .notes ≡ length (o .notes)
-  pub noteRoom : 3 * length (o .notes) ≤ roomOf call .notes
-  pub lines : (out : List ℕ) (notes : List Note) → length out ≡ roomOf call .words
-      → linesOf call vs (take (countsOf call vs .words) (sets out 0 (o .words))) notes ≡ linesOf call vs (o .words) notes
-  pub bytes : countsOf call vs .bytes ≡ length (o .bytes)
-  pub byteRoom : length (o .bytes) ≤ roomOf call .bytes
+pub record Told (x : Turn) (vs : List ℕ) (o : Outcome) : Type 0 where
+  pub notes : countsOf (x .call) vs .notes ≡ length (o .notes)
+  pub noteRoom : 3 * length (o .notes) ≤ x .rooms .notes
+  pub lines : (out : List ℕ) (notes : List Note) → length out ≡ x .rooms .words
+      → linesOf (x .call) vs (take (countsOf (x .call) vs .words) (sets out 0 (o .words))) notes ≡ linesOf (x .call) vs (o .words) notes
+  pub bytes : countsOf (x .call) vs .bytes ≡ length (o .bytes)
+  pub byteRoom : length (o .bytes) ≤ x .rooms .bytes
 
 pub last-snoc : (d n : ℕ) (vs : List ℕ) → lastOr d (vs ++ (n ∷ [])) ≡ n
 last-snoc d n [] = refl

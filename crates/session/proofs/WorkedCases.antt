@@ -19,4 +19,4 @@ use Rattle.session.specs.Worked.{Agree, cases}
 
 pub worked : Agree cases
 unfolding allBelow least count everyOf anyOf keepOf spell further bytesOf number numbers encodeStep encode decimalFrom lebFrom endFrom token blankFrom opening consPart body asStep oneStep consStep stepsFrom readProof answerOf codesOf endsFrom kindsOf word isShown giveUser takeUser giveSolver takeSolver putRecord putValue soundb sizesb marksb atMostb tailb backb namedb deletedb tailsb pairsb choose each unless emptyTable openOf leastFree globalFor mapOne fillGap mapUser nextUser newUser undeleted toMap unsampled mapRefusal mapOf newUserRefusal newUserOf nextSolver grantOne grant grantRefusal grantOf isUnused deleteIfUnused show hide change setMode setModeRefusal setModeOf isHidden observeOne observe observeRefusal observeOf notHeld mark markRefusal markOf removeHeld learn sweepHeld sweepOne sweep sweepRefusal sweepOf renameLits unmatched outside unheld stepRefusal stepBytes writeRefusal writeOf
-worked = (refl, (refl, (refl, (refl, (refl, (refl, (refl, (refl, (refl, (refl, (refl, (refl, (refl, (refl, (refl, (refl, (refl, (refl, (refl, (refl, (refl, (refl, (refl, (refl, (refl, (refl, tt))))))))))))))))))))))))))
+worked = (refl, (refl, (refl, (refl, (refl, (refl, (refl, (refl, (refl, (refl, (refl, (refl, (refl, (refl, (refl, (refl, (refl, (refl, (refl, (refl, (refl, (refl, (refl, (refl, (refl, (refl, (refl, (refl, (refl, (refl, tt))))))))))))))))))))))))))))))

@@ -6,14 +6,15 @@ use mathlib.Core.List.{List, [], _∷_}
 use lib.Dec.{eqb}
 use lib.ListN.{length, take}
 use lib.Seq.{sets}
+use Rattle.base.specs.Lent.{Lent, old, new}
 use Rattle.base.specs.Answer.{valuesOf}
 use Rattle.drat.specs.declared.Format.{Format}
 use Rattle.scope.specs.Table.{Table, word}
 use Rattle.scope.specs.Notes.{Note, user+, user-, solver+, solver-, deletes, changes}
 use Rattle.scope.specs.Outcome.{Outcome}
 use Rattle.scope.specs.Contract.{Said, Memory, Meets}
-use Rattle.session.specs.Calls.{Call, lookup, mapUser, newUser, pose, grant, setMode, observe, mark, assign, remove, sweep, simplify, rename, write, model, perform}
-use Rattle.session.specs.Session.{State, enter}
+use Rattle.scope.specs.Calls.{Call, lookup, mapUser, newUser, pose, grant, setMode, observe, mark, assign, remove, sweep, simplify, rename, write, model, lending}
+use Rattle.session.specs.Session.{Turn, turn, does, State, enter}
 
 -- ---- the notes in memory
 
@@ -31,9 +32,9 @@ notesIn (suc n) (k ∷ []) = []
 notesIn (suc n) (k ∷ g ∷ []) = []
 notesIn (suc n) (k ∷ g ∷ x ∷ ws) = noteIn k g x ∷ notesIn n ws
 
--- ---- how much was lent, and how much was filled
+-- ---- how much was filled
 
--- so many words for notes, words and bytes
+-- so many notes, words and bytes
 pub record Sizes : Type 0 where
   pub notes : ℕ
   pub words : ℕ
@@ -41,24 +42,6 @@ pub record Sizes : Type 0 where
 
 abbrev sizes : ℕ → ℕ → ℕ → Sizes
 sizes n w b = record { notes = n; words = w; bytes = b }
-
--- what is lent
-abbrev pub roomOf : Call → Sizes
-roomOf (lookup asked i) = sizes 0 0 0
-roomOf (mapUser u sampling room) = sizes room 0 0
-roomOf (newUser room) = sizes room 0 0
-roomOf (pose lits sampling outs room) = sizes room outs 0
-roomOf (grant g room) = sizes room 0 0
-roomOf (setMode g mode room) = sizes room 0 0
-roomOf (observe outs room) = sizes room outs 0
-roomOf (mark m s) = sizes 0 0 0
-roomOf (assign c) = sizes 0 0 0
-roomOf (remove s room) = sizes room 0 0
-roomOf (sweep room) = sizes room 0 0
-roomOf (simplify lits redundant outs room) = sizes 0 outs room
-roomOf (rename step solverVars lits hashes outs hashOuts) = sizes 0 outs 0
-roomOf (write step solverVars lits hashes room) = sizes 0 0 room
-roomOf (model globals users) = sizes 0 globals 0
 
 abbrev pub nth : ℕ → List ℕ → ℕ
 nth i [] = 0
@@ -69,55 +52,76 @@ abbrev pub lastOr : ℕ → List ℕ → ℕ
 lastOr d [] = d
 lastOr d (v ∷ vs) = lastOr v vs
 
--- what the values answered say was filled: the count of notes stands last; Simplify answers its number of literals second and of bytes
--- fourth, Write its number of bytes
+-- What the values answered say was filled: the count of notes stands last, the number of words first; Simplify answers its number of
+-- literals second and of bytes fourth, Write its number of bytes.
 abbrev pub countsOf : Call → List ℕ → Sizes
 countsOf (lookup asked i) vs = sizes 0 0 0
-countsOf (mapUser u sampling room) vs = sizes (lastOr 0 vs) 0 0
-countsOf (newUser room) vs = sizes (lastOr 0 vs) 0 0
-countsOf (pose lits sampling outs room) vs = sizes (lastOr 0 vs) (nth 0 vs) 0
-countsOf (grant g room) vs = sizes (lastOr 0 vs) 0 0
-countsOf (setMode g mode room) vs = sizes (lastOr 0 vs) 0 0
-countsOf (observe outs room) vs = sizes (lastOr 0 vs) (nth 0 vs) 0
+countsOf (mapUser u sampling) vs = sizes (lastOr 0 vs) 0 0
+countsOf newUser vs = sizes (lastOr 0 vs) 0 0
+countsOf (pose lits sampling) vs = sizes (lastOr 0 vs) (nth 0 vs) 0
+countsOf (grant g) vs = sizes (lastOr 0 vs) 0 0
+countsOf (setMode g mode) vs = sizes (lastOr 0 vs) 0 0
+countsOf observe vs = sizes (lastOr 0 vs) (nth 0 vs) 0
 countsOf (mark m s) vs = sizes 0 0 0
 countsOf (assign c) vs = sizes 0 0 0
-countsOf (remove s room) vs = sizes (lastOr 0 vs) 0 0
-countsOf (sweep room) vs = sizes (lastOr 0 vs) 0 0
-countsOf (simplify lits redundant outs room) vs = sizes 0 (nth 1 vs) (nth 3 vs)
-countsOf (rename step solverVars lits hashes outs hashOuts) vs = sizes 0 (nth 0 vs) 0
-countsOf (write step solverVars lits hashes room) vs = sizes 0 0 (nth 0 vs)
-countsOf (model globals users) vs = sizes 0 (nth 0 vs) 0
+countsOf (remove s) vs = sizes (lastOr 0 vs) 0 0
+countsOf sweep vs = sizes (lastOr 0 vs) 0 0
+countsOf (simplify lits redundant) vs = sizes 0 (nth 1 vs) (nth 3 vs)
+countsOf (rename step solverVars lits hashes) vs = sizes 0 (nth 0 vs) 0
+countsOf (write step solverVars lits hashes) vs = sizes 0 0 (nth 0 vs)
+countsOf model vs = sizes 0 (nth 0 vs) 0
 
 -- ---- a call made
 
--- The call with its arguments, what it said, the table and the words for notes before and after, and so the further words and the bytes.
+-- A slice that a call may fill, when the call begins and when it ends; none, where none is lent.
+pub record Part : Type 0 where
+  pub lent : List ℕ
+  pub left : List ℕ
+
+abbrev pub part : Lent → Part
+part x = record { lent = old x; left = new x }
+
+abbrev pub none : Part
+none = record { lent = []; left = [] }
+
+-- From its start it has these words, and past them what it had.
+abbrev pub Has : Part → List ℕ → Type 0
+Has p ws = p .left ≡ sets (p .lent) 0 ws
+
+-- The call with its arguments, what it said, the table and the notes in memory, and the other slices that it may fill.
 pub record Made : Type 0 where
   pub call : Call
   pub said : Said
   pub memory : Memory
-  pub words : List ℕ
-  pub filled : List ℕ
-  pub bytes : List ℕ
-  pub written : List ℕ
+  pub words : Part
+  pub more : Part
+  pub bytes : Part
 
+abbrev pub made : Call → Said → Memory → Part → Part → Part → Made
+made call said memory words more bytes =
+    record { call = call; said = said; memory = memory; words = words; more = more; bytes = bytes }
+
+-- the turn of a session that it is: the rooms are what was lent
+abbrev pub turnOf : Made → Turn
+turnOf m = turn (m .call) (lending (length (m .memory .notes)) (length (m .words .lent)) (length (m .more .lent)) (length (m .bytes .lent)))
+
+-- the table that it leaves
 abbrev pub leaves : Made → Table
 leaves m = m .memory .leaves (m .said .counts)
 
--- It met its contract: `Meets`, and `Fills` of each further slice, with the lengths that were lent.
+-- It met its contract: it does what the definition gives of the table and of the rooms lent.
 pub record Met (f : Format) (m : Made) : Type 0 where
-  pub meets : Meets (λ t room. perform f (m .call) t) (m .said) (m .memory)
-  pub filled : m .filled ≡ sets (m .words) 0 (perform f (m .call) (m .memory .table) .words)
-  pub written : m .written ≡ sets (m .bytes) 0 (perform f (m .call) (m .memory .table) .bytes)
-  pub noteRoom : length (m .memory .notes) ≡ roomOf (m .call) .notes
-  pub wordRoom : length (m .words) ≡ roomOf (m .call) .words
-  pub byteRoom : length (m .bytes) ≡ roomOf (m .call) .bytes
+  pub meets : Meets (λ t room. does f (turnOf m) t) (m .said) (m .memory)
+  pub words : Has (m .words) (does f (turnOf m) (m .memory .table) .words)
+  pub more : Has (m .more) (does f (turnOf m) (m .memory .table) .more)
+  pub bytes : Has (m .bytes) (does f (turnOf m) (m .memory .table) .bytes)
 
--- Each call gets the table that the one before left.
+-- Calls that met their contracts, the first on the table t, each other on the table that the one before left.
 pub data Program (f : Format) : Table → List Made → Type 0 where
   ends : {t : Table} → Program f t []
   calls : {m : Made} {ms : List Made} → Met f m → Program f (leaves m) ms → Program f (m .memory .table) (m ∷ ms)
 
--- what is seen of it
+-- What the ledger is fed of a call: its answer, and of the memory as much as the answer says was filled, no word more.
 unfoldable pub seen : Made → Outcome
 seen m =
     let n = countsOf (m .call) (valuesOf (m .said .answer)) in
@@ -125,9 +129,9 @@ seen m =
       answer = m .said .answer;
       table = leaves m;
       notes = notesIn (n .notes) (m .memory .noted);
-      words = take (n .words) (m .filled);
+      words = take (n .words) (m .words .left);
       more = [];
-      bytes = take (n .bytes) (m .written);
+      bytes = take (n .bytes) (m .bytes .left);
     }
 
 -- what the ledger holds after it

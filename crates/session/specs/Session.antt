@@ -13,8 +13,21 @@ use Rattle.scope.specs.Notes.{Held}
 use Rattle.scope.specs.Outcome.{Outcome}
 use Rattle.scope.specs.Lookup.{globalFromUserOf, userFromGlobalOf, solverFromGlobalOf, globalFromSolverOf, recordWordOf}
 use Rattle.scope.specs.Entries.{Entry}
+use Rattle.scope.specs.Calls.{Call, Rooms, perform}
 use Rattle.session.specs.Ledger.{notesOf, shownBy, Line, Enters}
-use Rattle.session.specs.Calls.{Call, perform, entriesOf, linesOf}
+use Rattle.session.specs.Entered.{entriesOf, linesOf}
+
+-- One turn of a session: a call, and the rooms lent to it.
+pub record Turn : Type 0 where
+  pub call : Call
+  pub rooms : Rooms
+
+abbrev pub turn : Call → Rooms → Turn
+turn call rooms = record { call = call; rooms = rooms }
+
+-- what it does, in the session's format
+unfoldable pub does : Format → Turn → Table → Outcome
+does f x t = perform f (x .call) (x .rooms) t
 
 -- The table, which alone goes from call to call; what the ledger holds of names and of clause steps; the joined proof bytes.
 pub record State : Type 0 where
@@ -39,12 +52,12 @@ enter σ call o (accepted vs) =
       bytes = σ .bytes ++ o .bytes;
     }
 
-unfoldable pub after : Format → State → Call → State
-after f σ call = let o = perform f call (σ .table) in enter σ call o (o .answer)
+unfoldable pub after : Format → State → Turn → State
+after f σ x = let o = does f x (σ .table) in enter σ (x .call) o (o .answer)
 
-unfoldable pub run : Format → State → List Call → State
+unfoldable pub run : Format → State → List Turn → State
 run f σ [] = σ
-run f σ (call ∷ calls) = run f (after f σ call) calls
+run f σ (x ∷ xs) = run f (after f σ x) xs
 
 -- a Lookup of the table is accepted and says this
 abbrev pub Says : (Table → ℕ → Outcome) → Table → ℕ → ℕ → Type 0
