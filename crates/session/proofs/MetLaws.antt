@@ -24,8 +24,8 @@ use Rattle.scope.specs.Pose.{poseOf}
 use Rattle.scope.specs.Modes.{setModeOf, observeOf}
 use Rattle.scope.specs.Marks.{markOf, assignOf}
 use Rattle.scope.specs.Remove.{removeOf, sweepOf}
-use Rattle.scope.specs.Simplify.{simplifyOf}
-use Rattle.scope.specs.Write.{renameOf, writeOf}
+use Rattle.scope.specs.Simplify.{simplifyRefusal, simplifyOf}
+use Rattle.scope.specs.Write.{stepRefusal, renameOf, writeRefusal, writeOf}
 use Rattle.scope.specs.Models.{modelOf}
 use Rattle.scope.specs.Calls
 use Rattle.scope.specs.Calls.{Call, lending, perform}
@@ -192,7 +192,7 @@ pub simplify-met : (f : Format) (lits : Lent) (redundant : Bool) (said : Said) (
     → Fills out 0 (simplifyOf f (before c gu ug sg gs assignment records) (old lits) redundant (length (old out)) (length (old bytes)) .words)
     → Fills bytes 0 (simplifyOf f (before c gu ug sg gs assignment records) (old lits) redundant (length (old out)) (length (old bytes)) .bytes)
     → Met f (made (Calls.simplify (old lits) redundant) said (quiet c gu ug sg gs assignment records) (part out) none (part bytes))
-unfolding does perform
+unfolding does perform simplifyOf simplifyRefusal
 simplify-met f lits redundant said c gu ug sg gs assignment records out bytes h k l =
     let o = simplifyOf f (before c gu ug sg gs assignment records) (old lits) redundant (length (old out)) (length (old bytes)) in
     record { meets = h; words = k; more = none-has (o .more); bytes = l }
@@ -216,7 +216,7 @@ pub write-met : (f : Format) (step : ProofStep) (solvervars : Bool) (lits hashes
     → Meets (λ t room. writeOf f t step solvervars (old lits) (old hashes) (length (old out))) said (quiet c gu ug sg gs assignment records)
     → Fills out 0 (writeOf f (before c gu ug sg gs assignment records) step solvervars (old lits) (old hashes) (length (old out)) .bytes)
     → Met f (made (Calls.write step solvervars (old lits) (old hashes)) said (quiet c gu ug sg gs assignment records) none none (part out))
-unfolding does perform
+unfolding does perform writeOf writeRefusal stepRefusal
 write-met f step solvervars lits hashes said c gu ug sg gs assignment records out h k =
     let o = writeOf f (before c gu ug sg gs assignment records) step solvervars (old lits) (old hashes) (length (old out)) in
     record { meets = h; words = none-has (o .words); more = none-has (o .more); bytes = k }
