@@ -77,7 +77,12 @@ pub handed-on :
     ∷ [])
     × (run Text (start (emptyTable 8)) handedOn .lines ≡ handedLines)
     × (run Text (start (emptyTable 8)) handedOn .bytes ≡ 45 ∷ 51 ∷ 32 ∷ 48 ∷ 10 ∷ 45 ∷ 50 ∷ 32 ∷ 48 ∷ 10 ∷ [])
-unfolding allBelow least count anyOf spell further bytesOf number numbers encodeStep encode word isShown giveUser takeUser giveSolver takeSolver putRecord soundb sizesb marksb atMostb tailb backb namedb deletedb tailsb pairsb choose each unless emptyTable M.leastFree M.globalFor M.mapOne M.fillGap M.mapUser M.nextUser M.undeleted M.toMap M.unsampled M.mapRefusal M.mapOf G.nextSolver G.grantOne G.grant G.grantRefusal G.grantOf D.isUnused D.deleteIfUnused D.show D.hide D.change D.setMode D.setModeRefusal D.setModeOf D.isHidden D.observeOne D.observe D.observeRefusal D.observeOf R.removeHeld R.learn R.sweepHeld R.sweepOne R.sweep R.sweepRefusal R.sweepOf notHeld renameLits unmatched outside unheld stepRefusal stepBytes writeRefusal writeOf notesOf perform does entriesOf linesOf enter after run
+unfolding allBelow least count anyOf spell further bytesOf number numbers encodeStep encode word isShown giveUser takeUser giveSolver takeSolver
+    putRecord soundb sizesb marksb atMostb tailb backb namedb deletedb tailsb pairsb choose each unless emptyTable M.leastFree M.globalFor M.mapOne
+    M.fillGap M.mapUser M.nextUser M.undeleted M.toMap M.unsampled M.mapRefusal M.mapOf G.nextSolver G.grantOne G.grant G.grantRefusal G.grantOf
+    D.isUnused D.deleteIfUnused D.show D.hide D.change D.setMode D.setModeRefusal D.setModeOf D.isHidden D.observeOne D.observe D.observeRefusal
+    D.observeOf R.removeHeld R.learn R.sweepHeld R.sweepOne R.sweep R.sweepRefusal R.sweepOf notHeld renameLits unmatched outside unheld stepRefusal
+    stepBytes writeRefusal writeOf notesOf perform does entriesOf linesOf enter after run
 handed-on = (refl, refl, refl)
 
 -- the clause enters under global 2, then under global 1
@@ -116,7 +121,11 @@ pub hidden-log :
     (run Text (start (emptyTable 8)) hiding .log ≡ hiddenLog)
     × (run Text (run Text (start (emptyTable 8)) hiding) (turn observe (lending 6 1 0 0) ∷ []) .log
     ≡ hiddenLog ++ noted (changes 1 false) ∷ noted (user+ 1 1) ∷ [])
-unfolding allBelow least count anyOf word isShown giveUser takeUser giveSolver putRecord soundb sizesb marksb atMostb tailb backb namedb deletedb tailsb pairsb choose each unless emptyTable M.leastFree M.globalFor M.mapOne M.fillGap M.mapUser M.nextUser M.undeleted M.toMap M.unsampled M.mapRefusal M.mapOf G.nextSolver G.grantOne G.grant G.grantRefusal G.grantOf D.isUnused D.deleteIfUnused D.show D.hide D.change D.setMode D.setModeRefusal D.setModeOf D.isHidden D.observeOne D.observe D.observeRefusal D.observeOf notHeld notesOf perform does entriesOf linesOf enter after run
+unfolding allBelow least count anyOf word isShown giveUser takeUser giveSolver putRecord soundb sizesb marksb atMostb tailb backb namedb deletedb
+    tailsb pairsb choose each unless emptyTable M.leastFree M.globalFor M.mapOne M.fillGap M.mapUser M.nextUser M.undeleted M.toMap M.unsampled
+    M.mapRefusal M.mapOf G.nextSolver G.grantOne G.grant G.grantRefusal G.grantOf D.isUnused D.deleteIfUnused D.show D.hide D.change D.setMode
+    D.setModeRefusal D.setModeOf D.isHidden D.observeOne D.observe D.observeRefusal D.observeOf notHeld notesOf perform does entriesOf linesOf enter after
+    run
 hidden-log = (refl, refl)
 
 -- of the globals 0 to 3, only 0 is shown, and then 0 and 1
@@ -178,7 +187,11 @@ pub all-clauses :
     ∷ 100 ∷ 32 ∷ 50 ∷ 32 ∷ 48 ∷ 10
     ∷ 45 ∷ 56 ∷ 32 ∷ 48 ∷ 10
     ∷ [])
-unfolding allBelow least count anyOf keepOf spell further bytesOf number numbers encodeStep encode word isShown giveUser giveSolver putRecord putValue soundb sizesb marksb atMostb tailb backb namedb deletedb tailsb pairsb choose each unless emptyTable M.leastFree M.globalFor M.mapOne M.fillGap M.mapUser M.undeleted M.unsampled G.nextSolver G.grantOne G.grant P.poseOne P.pose P.wanted P.usersToMap P.poseRefusal P.poseOf notHeld assignRefusal assignOf renameLits unmatched outside unheld stepRefusal stepBytes writeRefusal writeOf unfalse simplified simplifyBytes simplifyRefusal simplifyOf notesOf perform does entriesOf linesOf enter after run
+unfolding allBelow least count anyOf keepOf spell further bytesOf number numbers encodeStep encode word isShown giveUser giveSolver putRecord putValue
+    soundb sizesb marksb atMostb tailb backb namedb deletedb tailsb pairsb choose each unless emptyTable M.leastFree M.globalFor M.mapOne M.fillGap
+    M.mapUser M.undeleted M.unsampled G.nextSolver G.grantOne G.grant P.poseOne P.pose P.wanted P.usersToMap P.poseRefusal P.poseOf notHeld assignRefusal
+    assignOf renameLits unmatched outside unheld stepRefusal stepBytes writeRefusal writeOf unfalse simplified simplifyBytes simplifyRefusal simplifyOf
+    notesOf perform does entriesOf linesOf enter after run
 all-clauses = (refl, refl)
 
 held0 : Held 0 3 posed
@@ -258,7 +271,10 @@ abbrev program : List Made
 program = mapping ∷ granting ∷ writing ∷ []
 
 pub program-met : Program Text (emptyTable 1) program
-unfolding allBelow least count anyOf spell further bytesOf number numbers encodeStep encode word isShown giveUser giveSolver soundb sizesb marksb atMostb tailb backb namedb deletedb tailsb pairsb choose each unless emptyTable notesWords M.leastFree M.globalFor M.mapOne M.fillGap M.mapUser M.undeleted M.toMap M.unsampled M.mapRefusal M.mapOf G.nextSolver G.grantOne G.grant G.grantRefusal G.grantOf notHeld renameLits unmatched outside unheld stepRefusal stepBytes writeRefusal writeOf perform does
+unfolding allBelow least count anyOf spell further bytesOf number numbers encodeStep encode word isShown giveUser giveSolver soundb sizesb marksb
+    atMostb tailb backb namedb deletedb tailsb pairsb choose each unless emptyTable notesWords M.leastFree M.globalFor M.mapOne M.fillGap M.mapUser
+    M.undeleted M.toMap M.unsampled M.mapRefusal M.mapOf G.nextSolver G.grantOne G.grant G.grantRefusal G.grantOf notHeld renameLits unmatched outside
+    unheld stepRefusal stepBytes writeRefusal writeOf perform does
 program-met =
     calls {m = mapping} (record { meets = record { answer = refl; table = refl; noted = refl }; words = refl; more = refl; bytes = refl })
     (calls {m = granting} (record { meets = record { answer = refl; table = refl; noted = refl }; words = refl; more = refl; bytes = refl })

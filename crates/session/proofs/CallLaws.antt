@@ -205,7 +205,8 @@ unfolding sweepOf sweepRefusal linesOf
 sweep-owed f t rooms = owed f _ t _ _ (λ e.
     let (p, e1) = first-sound t _ e in
     let (z, _) = past (short (rooms .notes) (Removes.sweep t .notes)) 2 _ (omega arith) e1 in
-    accepting refl (quiet-lawful f _ t _ _ (refl, λ vs ws notes. refl, λ vs. refl) refl refl (roomy (rooms .notes) (Removes.sweep t .notes) z) (sweep-reach t p)))
+    accepting refl (quiet-lawful f _ t _ _ (refl, λ vs ws notes. refl, λ vs. refl) refl refl (roomy (rooms .notes) (Removes.sweep t .notes) z)
+    (sweep-reach t p)))
 
 rename-owed : (f : Format) (t : Table) (step : ProofStep) (solverVars : Bool) (lits hashes : List ℕ) (rooms : Calls.Rooms)
     → Owed f (turn (Calls.rename step solverVars lits hashes) rooms) t (renameOf t step solverVars lits hashes (rooms .words) (rooms .more))

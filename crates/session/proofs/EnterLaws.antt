@@ -12,7 +12,8 @@ use Rattle.base.proofs.MemberLaws.{or-left, or-right}
 use Rattle.drat.specs.Grammar.{Step, stepOf}
 use Rattle.drat.specs.declared.Kind.the-variants.{Add}
 use Rattle.scope.specs.declared.ProofStep.{ProofStep}
-use Rattle.scope.specs.declared.ProofStep.the-variants.{AddClause, AtClause, UnitClauses, DeleteClause, Model, Assumptions, FailedAssumptions, SolverVarName, UserVarName, DeleteVar, ChangeSamplingMode, ChangeHashBits, End}
+use Rattle.scope.specs.declared.ProofStep.the-variants.{AddClause, AtClause, UnitClauses, DeleteClause, Model, Assumptions}
+use Rattle.scope.specs.declared.ProofStep.the-variants.{FailedAssumptions, SolverVarName, UserVarName, DeleteVar, ChangeSamplingMode, ChangeHashBits, End}
 use Rattle.scope.specs.Literals.{indexOf}
 use Rattle.scope.specs.Table.{Table}
 use Rattle.scope.specs.Notes.{Note, Held, heldBy}

@@ -79,7 +79,10 @@ has-user t g p = (
 -- a record from the watermark up is fresh, and not shown
 pub is-shown : (t : Table) (g : ℕ) → Sound t → IsShown t g ↔ Shown (recordOf t g)
 unfolding recordWordOf
-is-shown t g p = (λ h. to (ltb g (t .counts .global)) (h .0) (said t _ (h .0 ∷ []) p .0 (h .1)) (h .2), λ h. (recordOf t g, said t _ (recordOf t g ∷ []) p .1 (from h), h))
+is-shown t g p = (
+  λ h. to (ltb g (t .counts .global)) (h .0) (said t _ (h .0 ∷ []) p .0 (h .1)) (h .2),
+  λ h. (recordOf t g, said t _ (recordOf t g ∷ []) p .1 (from h), h),
+)
   where
     to : (b : Bool) (r : ℕ) → pick b (recordOf t g ∷ []) [] ≡ r ∷ [] → Shown r → Shown (recordOf t g)
     to true r e h = let x : recordOf t g ≡ r = let y : recordOf t g + 1 ≡ r + 1 = ap head-of e in omega arith in subst Shown (sym x) h

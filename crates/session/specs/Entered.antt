@@ -6,7 +6,8 @@ use Rattle.drat.specs.declared.Kind.the-variants.{Add, Delete}
 use Rattle.scope.specs.declared.SamplingMode.{SamplingMode}
 use Rattle.scope.specs.declared.SamplingMode.the-variants.{Sample, Witness, Hide}
 use Rattle.scope.specs.declared.ProofStep.{ProofStep}
-use Rattle.scope.specs.declared.ProofStep.the-variants.{AddClause, AtClause, UnitClauses, DeleteClause, Model, Assumptions, FailedAssumptions, SolverVarName, UserVarName, DeleteVar, ChangeSamplingMode, ChangeHashBits, End}
+use Rattle.scope.specs.declared.ProofStep.the-variants.{AddClause, AtClause, UnitClauses, DeleteClause, Model, Assumptions}
+use Rattle.scope.specs.declared.ProofStep.the-variants.{FailedAssumptions, SolverVarName, UserVarName, DeleteVar, ChangeSamplingMode, ChangeHashBits, End}
 use Rattle.scope.specs.Notes.{Note}
 use Rattle.scope.specs.Entries.{Entry, noted, hides}
 use Rattle.scope.specs.Calls.{Call, lookup, mapUser, newUser, pose, grant, setMode, observe, mark, assign, remove, sweep, simplify, rename, write, model}

@@ -13,7 +13,8 @@ use Rattle.scope.specs.Table.{Table, word}
 use Rattle.scope.specs.Notes.{Note, user+, user-, solver+, solver-, deletes, changes}
 use Rattle.scope.specs.Outcome.{Outcome}
 use Rattle.scope.specs.Contract.{Said, Memory, Meets}
-use Rattle.scope.specs.Calls.{Call, lookup, mapUser, newUser, pose, grant, setMode, observe, mark, assign, remove, sweep, simplify, rename, write, model, lending}
+use Rattle.scope.specs.Calls.{Call, lookup, mapUser, newUser, pose, grant, setMode, observe}
+use Rattle.scope.specs.Calls.{mark, assign, remove, sweep, simplify, rename, write, model, lending}
 use Rattle.session.specs.Session.{Turn, turn, does, State, enter}
 
 -- ---- the notes in memory
