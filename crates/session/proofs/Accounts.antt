@@ -12,7 +12,7 @@ use Rattle.drat.specs.declared.Format.the-variants.{Text}
 use Rattle.drat.specs.declared.Kind.the-variants.{Add, Delete}
 use Rattle.scope.specs.declared.Counts.{Counts}
 use Rattle.scope.specs.declared.SamplingMode.the-variants.{Hide}
-use Rattle.scope.specs.declared.ProofStep.the-variants.{AddClause, AtClause, UnitClauses, DeleteClause, Model}
+use Rattle.scope.specs.declared.ProofStep.the-variants.{AddClause, AtClause, UnitClauses, DeleteClause, Model, SolverVarName}
 use Rattle.scope.specs.declared.DeleteClauseProof.the-variants.{Redundant}
 use Rattle.scope.specs.Table.{Table, tableOf, word, isShown, giveUser, takeUser, giveSolver, takeSolver, putRecord, putValue}
 use Rattle.scope.specs.Sound.{soundb, sizesb, marksb, atMostb, tailb, backb, namedb, deletedb, tailsb, pairsb}
@@ -138,8 +138,9 @@ hidden-shown = (refl, refl)
 -- ---- every clause step
 
 -- Users 3, 0, 1, 2 are posed: their globals hold the solver indices 0, 1, 2, 3. Index 0 becomes false. Simplify shortens a clause, makes one
--- binary, drops one, keeps one; another with index 4, which nobody holds, is refused, though its first literal is true. Then two units, a
--- delete, a global literal; units without their hashes (14) and an AddClause (11) are refused; a Model writes nothing.
+-- binary, drops one, keeps one; another with index 4, which nobody holds, is refused, though its first literal is true. A naming step
+-- that gives index 1 to global 3 is written, which is no note. Then two units, a delete, a global literal; units without their hashes (14) and
+-- an AddClause (11) are refused; a Model writes nothing.
 abbrev clauses : List Turn
 clauses =
     turn (pose (6 ∷ 0 ∷ 2 ∷ 4 ∷ []) false) (lending 24 4 0 0)
@@ -149,6 +150,7 @@ clauses =
     ∷ turn (simplify (1 ∷ 2 ∷ []) false) (lending 0 4 0 40)
     ∷ turn (simplify (2 ∷ 4 ∷ []) false) (lending 0 4 0 40)
     ∷ turn (simplify (1 ∷ 8 ∷ []) false) (lending 0 4 0 40)
+    ∷ turn (write (SolverVarName (record { 0 = 3 }) 2) true [] []) (lending 0 0 0 40)
     ∷ turn (write UnitClauses true (2 ∷ 5 ∷ []) (9 ∷ 9 ∷ [])) (lending 0 0 0 40)
     ∷ turn (write (DeleteClause Redundant) true (4 ∷ []) []) (lending 0 0 0 40)
     ∷ turn (write (AtClause true) false (15 ∷ []) []) (lending 0 0 0 40)
@@ -175,7 +177,8 @@ clauseLines =
 
 -- `1 2 -3 0`, `d 4 1 2 -3 0`, `1 -2 0`, `d 4 1 -2 0`, `d -4 1 0`, `1 0`, `-2 0`, `d 2 0`, `-8 0`
 pub all-clauses :
-    (run Text (start (emptyTable 8)) clauses .lines ≡ clauseLines)
+    (run Text (start (emptyTable 8)) clauses .log ≡ map noted posed)
+    × (run Text (start (emptyTable 8)) clauses .lines ≡ clauseLines)
     × (run Text (start (emptyTable 8)) clauses .bytes
     ≡ 49 ∷ 32 ∷ 50 ∷ 32 ∷ 45 ∷ 51 ∷ 32 ∷ 48 ∷ 10
     ∷ 100 ∷ 32 ∷ 52 ∷ 32 ∷ 49 ∷ 32 ∷ 50 ∷ 32 ∷ 45 ∷ 51 ∷ 32 ∷ 48 ∷ 10
@@ -192,7 +195,7 @@ unfolding allBelow least count anyOf keepOf spell further bytesOf number numbers
     M.mapUser M.undeleted M.unsampled G.nextSolver G.grantOne G.grant P.poseOne P.pose P.wanted P.usersToMap P.poseRefusal P.poseOf notHeld assignRefusal
     assignOf renameLits unmatched outside unheld stepRefusal stepBytes writeRefusal writeOf unfalse simplified simplifyBytes simplifyRefusal simplifyOf
     notesOf perform does entriesOf linesOf enter after run
-all-clauses = (refl, refl)
+all-clauses = (refl, refl, refl)
 
 held0 : Held 0 3 posed
 unfolding anyOf
