@@ -13,7 +13,7 @@ use Rattle.scope.specs.Entries.{Entry, noted, hides}
 use Rattle.scope.specs.Calls.{Call, lookup, mapUser, newUser, pose, grant, setMode, observe, mark, assign, remove, sweep, simplify, rename, write, model}
 use Rattle.session.specs.Ledger.{Line, line}
 
--- the name entries: its notes, and that it hid a global
+-- about names: that a Set mode was to Hide, then the notes
 abbrev pub hidden : SamplingMode → ℕ → List Entry
 hidden Sample g = []
 hidden Witness g = []
@@ -39,15 +39,15 @@ hiddenBy model = []
 unfoldable pub entriesOf : Call → List Note → List Entry
 entriesOf call notes = hiddenBy call ++ map noted notes
 
--- Simplify, by the first value of its answer: 0 kept, none; 1 dropped, a delete of the clause given; 2 shortened or 3 binary, an add of the
--- rest answered, then that delete.
+-- Simplify, told by the first value answered: 0 (kept) has no line, 1 (dropped) a delete of the clause asked about, 2 and 3 (shortened, binary)
+-- an add of what is left and then that delete.
 abbrev pub simplifyLines : List ℕ → List ℕ → List ℕ → List Note → List Line
 simplifyLines [] lits rest notes = []
 simplifyLines (zero ∷ vs) lits rest notes = []
 simplifyLines (suc zero ∷ vs) lits rest notes = line Delete true lits notes ∷ []
 simplifyLines (suc (suc k) ∷ vs) lits rest notes = line Add true rest notes ∷ line Delete true lits notes ∷ []
 
--- Write, by its kind: AtClause an add, UnitClauses one add per unit, DeleteClause a delete, of the literals given; any other none.
+-- Write, told by the kind of step: a clause is added or deleted, units are added one by one, and the ten other kinds have no line.
 abbrev pub writeLines : ProofStep → Bool → List ℕ → List Note → List Line
 writeLines AddClause solverVars lits notes = []
 writeLines (AtClause redundant) solverVars lits notes = line Add solverVars lits notes ∷ []
@@ -63,8 +63,7 @@ writeLines (ChangeSamplingMode g sample) solverVars lits notes = []
 writeLines (ChangeHashBits bits) solverVars lits notes = []
 writeLines End solverVars lits notes = []
 
--- The clause steps of a call, from its arguments, the values it answered, the words it filled and the notes so far. Any call but these two:
--- none.
+-- about clauses: from the arguments, the values answered, the words filled and all notes up to then. Only Simplify and Write have lines.
 unfoldable pub linesOf : Call → List ℕ → List ℕ → List Note → List Line
 linesOf (lookup asked i) vs ws notes = []
 linesOf (mapUser u sampling) vs ws notes = []

@@ -1,4 +1,4 @@
--- The ledger (document 01, "Session"), fed only each call's arguments, answer and notes.
+-- The ledger (document 01, "Session"): entries about names, of which some show a global, and lines about clauses, which enter as steps.
 use Prim.Native.Nat.{ℕ, _+_, _*_}
 use mathlib.Core.Path.{_≡_}
 use mathlib.Core.Bool.{Bool, true, false, _&&_, _||_, not}
@@ -44,12 +44,12 @@ abbrev pub isEnd : ℕ → Entry → Bool
 isEnd g (noted n) = drops g n
 isEnd g (hides h) = eqb h g
 
--- A U grant to g was noted, and neither D nor an accepted Set mode to Hide came for it later.
+-- Some entry gives g a user, and no entry after it ends that.
 unfoldable pub shownBy : List Entry → ℕ → Bool
 shownBy [] g = false
 shownBy (e ∷ es) g = (isShow g e && not (anyOf (isEnd g) es)) || shownBy es g
 
--- A clause step as the ledger is fed it: its kind, its literals, which are solver literals or global ones, and the notes so far.
+-- A clause as the ledger is told of it: added or deleted, its literals, whether these are solver literals, and all notes up to then.
 pub record Line : Type 0 where
   pub kind : Kind
   pub solverVars : Bool
@@ -59,8 +59,8 @@ pub record Line : Type 0 where
 abbrev pub line : Kind → Bool → List ℕ → List Note → Line
 line kind solverVars lits notes = record { kind = kind; solverVars = solverVars; lits = lits; notes = notes }
 
--- A solver literal enters, sign kept, under the global that holds its index by the notes so far; a global literal as given. Where nobody
--- holds the index there is no entry.
+-- What a literal of a line becomes. A solver literal becomes the literal of its holder by the line's notes, positive or negative as it was,
+-- and where no global is its holder, nothing at all. A global literal stays.
 pub data EntersLit (notes : List Note) : Bool → ℕ → ℕ → Type 0 where
   plus : {s g : ℕ} → Held s g notes → EntersLit notes true (2 * s) (2 * g)
   minus : {s g : ℕ} → Held s g notes → EntersLit notes true (2 * s + 1) (2 * g + 1)

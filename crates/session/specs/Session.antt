@@ -29,18 +29,19 @@ turn call rooms = record { call = call; rooms = rooms }
 unfoldable pub does : Format → Turn → Table → Outcome
 does f x t = perform f (x .call) (x .rooms) t
 
--- The table, which alone goes from call to call; what the ledger holds of names and of clause steps; the joined proof bytes.
+-- The table as the last call left it, the ledger with its entries and its lines, and the proof bytes joined up to then.
 pub record State : Type 0 where
   pub table : Table
   pub log : List Entry
   pub lines : List Line
   pub bytes : List ℕ
 
--- It starts with no notes and no steps.
+-- before the first call
 abbrev pub start : Table → State
 start t = record { table = t; log = []; lines = []; bytes = [] }
 
--- A refused call enters nothing. An accepted one enters its notes and its clause steps, and its bytes are joined to those before.
+-- One call more, with its outcome and its answer. Refused, it changes neither ledger nor bytes. Accepted, it adds its entries, its lines, with
+-- all notes up to and with its own, and its bytes.
 unfoldable pub enter : State → Call → Outcome → Answer → State
 enter σ call o (refused n vs) = record { table = o .table; log = σ .log; lines = σ .lines; bytes = σ .bytes }
 enter σ call o (accepted vs) =
@@ -74,15 +75,15 @@ IsShown t g = (r : ℕ) × Says recordWordOf t g r × Shown r
 pub record Holds (f : Format) (σ : State) : Type 0 where
   -- no Lookup is refused
   pub sound : soundb (σ .table) ≡ true
-  -- every map agrees with its inverse: one takes i to j exactly where the other takes j to i
+  -- both pairs of maps agree: what one says of an index, the other says back
   pub users : (u g : ℕ) → Says globalFromUserOf (σ .table) u g ↔ Says userFromGlobalOf (σ .table) g u
   pub solvers : (s g : ℕ) → Says globalFromSolverOf (σ .table) s g ↔ Says solverFromGlobalOf (σ .table) g s
-  -- a global has a user name exactly when it is undeleted and not hidden, by its record and by the entries alike
+  -- the globals with a user name are those that their record shows, and those are the ones that the entries show
   pub named : (g : ℕ) → HasUser (σ .table) g ↔ IsShown (σ .table) g
   pub shown : (g : ℕ) → (shownBy (σ .log) g ≡ true) ↔ IsShown (σ .table) g
-  -- the notes alone say who holds each solver index
+  -- the notes suffice to tell the holder of every solver index
   pub holder : (s g : ℕ) → Held s g (notesOf (σ .log)) ↔ Says globalFromSolverOf (σ .table) s g
-  -- the ledger's steps; the joined bytes have one reading, these, and only one
+  -- the ledger's lines enter as these steps, the bytes spell them, and the bytes spell no others
   pub steps : List Step
   pub entered : Enters (σ .lines) steps
   pub reading : Spells f (σ .bytes) steps

@@ -1,4 +1,4 @@
--- The worked cases of document 01 ("Worked at the counter"), as a table. K is capacity 8 with user 2 mapped.
+-- The worked cases of document 01 ("Worked at the counter"), as a table. K has eight places, and user 2 is mapped in it.
 use Prim.Native.Nat.{ℕ, _+_, _-_, _*_}
 use mathlib.Core.Path.{_≡_}
 use mathlib.Core.Bool.{false, true}
