@@ -237,40 +237,40 @@ all-enter =
 
 -- ---- a program, as it stands in memory
 
-abbrev marks : ℕ → ℕ → Counts
+abbrev pub marks : ℕ → ℕ → Counts
 marks names solvers = record { capacity = 1; user = names; global = names; solver = solvers }
 
-abbrev saying : List ℕ → Counts → Said
+abbrev pub saying : List ℕ → Counts → Said
 saying values c = record { answer = accepted values; counts = c }
 
 -- the table given and the lists left; the words for notes before and after
-abbrev keeping : Table → (Counts → Table) → List ℕ → List ℕ → Memory
+abbrev pub keeping : Table → (Counts → Table) → List ℕ → List ℕ → Memory
 keeping t leaves was is = record { table = t; leaves = leaves; notes = was; noted = is }
 
-abbrev named : Counts → Table
+abbrev pub named : Counts → Table
 named c = tableOf c (1 ∷ []) (1 ∷ []) (0 ∷ []) (0 ∷ []) (0 ∷ []) (9 ∷ [])
 
-abbrev granted : Counts → Table
+abbrev pub granted : Counts → Table
 granted c = tableOf c (1 ∷ []) (1 ∷ []) (1 ∷ []) (1 ∷ []) (0 ∷ []) (9 ∷ [])
 
 -- Capacity 1: Map 0, Grant 0, and Write of solver code 1. The words for notes held S(2,0) past the third, and hold it still. The bytes are
 -- `-1 0`, with one more as it was.
-abbrev mapping : Made
+abbrev pub mapping : Made
 mapping =
     made (mapUser 0 false) (saying (0 ∷ 1 ∷ []) (marks 1 0))
     (keeping (emptyTable 1) named (7 ∷ 7 ∷ 7 ∷ 1 ∷ 2 ∷ 1 ∷ []) (0 ∷ 0 ∷ 1 ∷ 1 ∷ 2 ∷ 1 ∷ [])) none none none
 
-abbrev granting : Made
+abbrev pub granting : Made
 granting =
     made (grant 0) (saying (0 ∷ 1 ∷ []) (marks 1 1))
     (keeping (named (marks 1 0)) granted (0 ∷ 0 ∷ 1 ∷ 1 ∷ 2 ∷ 1 ∷ []) (1 ∷ 0 ∷ 1 ∷ 1 ∷ 2 ∷ 1 ∷ [])) none none none
 
-abbrev writing : Made
+abbrev pub writing : Made
 writing =
     made (write (AtClause false) true (1 ∷ []) []) (saying (5 ∷ []) (marks 1 1)) (keeping (granted (marks 1 1)) granted [] []) none none
     (record { lent = 7 ∷ 7 ∷ 7 ∷ 7 ∷ 7 ∷ 7 ∷ []; left = 45 ∷ 49 ∷ 32 ∷ 48 ∷ 10 ∷ 7 ∷ [] })
 
-abbrev program : List Made
+abbrev pub program : List Made
 program = mapping ∷ granting ∷ writing ∷ []
 
 pub program-met : Program Text (emptyTable 1) program

@@ -11,5 +11,6 @@ pub mod LookupLaws
 pub mod SessionLaws
 pub mod MadeLaws
 pub mod MetLaws
+pub mod OneProgram
 pub mod RuledOut
 pub mod RenamedLaws
