@@ -1,10 +1,10 @@
--- Sessions computed from the definitions, with what the ledger of demand 3 then holds: its entries, which globals these show, its lines, how
--- the lines enter, and the joined bytes. A wrong definition shows here in numbers.
+-- Sessions computed from the definitions, with their answers and what the ledger of demand 3 then holds: its entries, which globals these
+-- show, its lines, how the lines enter, and the joined bytes. A wrong definition shows here in numbers.
 use mathlib.Core.Path.{_≡_, refl}
 use mathlib.Core.Bool.{false, true}
 use mathlib.Core.List.{List, [], _∷_, _++_, map}
 use Prim.Native.Nat.{ℕ}
-use Rattle.base.specs.Answer.{Answer, accepted}
+use Rattle.base.specs.Answer.{Answer, accepted, refused}
 use Rattle.base.specs.Bounded.{allBelow, least, count, anyOf, keepOf}
 use Rattle.drat.specs.Numeral.{spell, further, bytesOf}
 use Rattle.drat.specs.Grammar.{Step, stepOf, number, numbers, encodeStep, encode}
@@ -35,6 +35,11 @@ use Rattle.session.specs.Entered.{entriesOf, linesOf}
 use Rattle.session.specs.Session.{Turn, turn, does, State, start, enter, after, run}
 use Rattle.session.specs.Made.{notesIn, Part, none, Made, made, Program, ends, calls, seen, ledger}
 
+-- the answers, call by call
+abbrev answers : State → List Turn → List Answer
+answers σ [] = []
+answers σ (x ∷ xs) = does Text x (σ .table) .answer ∷ answers (after Text σ x) xs
+
 -- ---- an index that goes from one global to another
 
 -- User 2 is mapped and global 2 granted solver index 0; a clause is written, global 2 hidden and observed, all swept, global 1 granted, which
@@ -61,9 +66,24 @@ handedLines =
     (user+ 0 0 ∷ user+ 1 1 ∷ user+ 2 2 ∷ solver+ 2 0 ∷ user- 2 ∷ changes 2 false ∷ user+ 2 2 ∷ solver- 2 ∷ solver+ 1 0 ∷ [])
     ∷ []
 
+abbrev handedAnswers : List Answer
+handedAnswers =
+    accepted (2 ∷ 3 ∷ [])
+    ∷ refused 3 []
+    ∷ accepted (0 ∷ 1 ∷ [])
+    ∷ accepted (5 ∷ [])
+    ∷ refused 8 []
+    ∷ accepted (1 ∷ [])
+    ∷ accepted (1 ∷ 2 ∷ [])
+    ∷ accepted (1 ∷ [])
+    ∷ accepted (0 ∷ 1 ∷ [])
+    ∷ accepted (5 ∷ [])
+    ∷ []
+
 -- `-3 0` and then `-2 0`
 pub handed-on :
-    (run Text (start (emptyTable 8)) handedOn .log
+    (answers (start (emptyTable 8)) handedOn ≡ handedAnswers)
+    × (run Text (start (emptyTable 8)) handedOn .log
     ≡ noted (user+ 0 0)
     ∷ noted (user+ 1 1)
     ∷ noted (user+ 2 2)
@@ -83,7 +103,7 @@ unfolding allBelow least count anyOf spell further bytesOf number numbers encode
     D.isUnused D.deleteIfUnused D.show D.hide D.change D.setMode D.setModeRefusal D.setModeOf D.isHidden D.observeOne D.observe D.observeRefusal
     D.observeOf R.removeHeld R.learn R.sweepHeld R.sweepOne R.sweep R.sweepRefusal R.sweepOf notHeld renameLits unmatched outside unheld stepRefusal
     stepBytes writeRefusal writeOf notesOf perform does entriesOf linesOf enter after run
-handed-on = (refl, refl, refl)
+handed-on = (refl, refl, refl, refl)
 
 -- the clause enters under global 2, then under global 1
 pub handed-enters : Enters handedLines (stepOf Add (5 ∷ []) ∷ stepOf Add (3 ∷ []) ∷ [])
@@ -145,8 +165,8 @@ abbrev clauses : List Turn
 clauses =
     turn (pose (6 ∷ 0 ∷ 2 ∷ 4 ∷ []) false) (lending 24 4 0 0)
     ∷ turn (assign 1) (lending 0 0 0 0)
-    ∷ turn (simplify (0 ∷ 2 ∷ 4 ∷ 7 ∷ []) false) (lending 0 4 0 40)
-    ∷ turn (simplify (0 ∷ 2 ∷ 5 ∷ []) false) (lending 0 4 0 40)
+    ∷ turn (simplify (0 ∷ 2 ∷ 4 ∷ 7 ∷ []) true) (lending 0 4 0 40)
+    ∷ turn (simplify (0 ∷ 2 ∷ 5 ∷ []) true) (lending 0 4 0 40)
     ∷ turn (simplify (1 ∷ 2 ∷ []) false) (lending 0 4 0 40)
     ∷ turn (simplify (2 ∷ 4 ∷ []) false) (lending 0 4 0 40)
     ∷ turn (simplify (1 ∷ 8 ∷ []) false) (lending 0 4 0 40)
@@ -175,9 +195,29 @@ clauseLines =
     ∷ line Add false (15 ∷ []) posed
     ∷ []
 
+-- Simplify says what came of the clause, how many literals, the add's redundant flag, how many bytes.
+abbrev clauseAnswers : List Answer
+clauseAnswers =
+    accepted (4 ∷ 8 ∷ [])
+    ∷ accepted []
+    ∷ accepted (2 ∷ 3 ∷ 1 ∷ 22 ∷ [])
+    ∷ accepted (3 ∷ 2 ∷ 0 ∷ 18 ∷ [])
+    ∷ accepted (1 ∷ 0 ∷ 0 ∷ 9 ∷ [])
+    ∷ accepted (0 ∷ 2 ∷ 0 ∷ 0 ∷ [])
+    ∷ refused 8 []
+    ∷ accepted (0 ∷ [])
+    ∷ accepted (9 ∷ [])
+    ∷ accepted (6 ∷ [])
+    ∷ accepted (5 ∷ [])
+    ∷ refused 14 []
+    ∷ refused 11 []
+    ∷ accepted (0 ∷ [])
+    ∷ []
+
 -- `1 2 -3 0`, `d 4 1 2 -3 0`, `1 -2 0`, `d 4 1 -2 0`, `d -4 1 0`, `1 0`, `-2 0`, `d 2 0`, `-8 0`
 pub all-clauses :
-    (run Text (start (emptyTable 8)) clauses .log ≡ map noted posed)
+    (answers (start (emptyTable 8)) clauses ≡ clauseAnswers)
+    × (run Text (start (emptyTable 8)) clauses .log ≡ map noted posed)
     × (run Text (start (emptyTable 8)) clauses .lines ≡ clauseLines)
     × (run Text (start (emptyTable 8)) clauses .bytes
     ≡ 49 ∷ 32 ∷ 50 ∷ 32 ∷ 45 ∷ 51 ∷ 32 ∷ 48 ∷ 10
@@ -195,7 +235,7 @@ unfolding allBelow least count anyOf keepOf spell further bytesOf number numbers
     M.mapUser M.undeleted M.unsampled G.nextSolver G.grantOne G.grant P.poseOne P.pose P.wanted P.usersToMap P.poseRefusal P.poseOf notHeld assignRefusal
     assignOf renameLits unmatched outside unheld stepRefusal stepBytes writeRefusal writeOf unfalse simplified simplifyBytes simplifyRefusal simplifyOf
     notesOf perform does entriesOf linesOf enter after run
-all-clauses = (refl, refl, refl)
+all-clauses = (refl, refl, refl, refl)
 
 held0 : Held 0 3 posed
 unfolding anyOf
