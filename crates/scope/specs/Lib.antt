@@ -17,4 +17,5 @@ pub mod Steps
 pub mod Write
 pub mod Simplify
 pub mod Models
+pub mod Calls
 pub mod Contract

@@ -19,7 +19,8 @@ use Rattle.scope.specs.Entries.{Entry}
 use Rattle.scope.specs.Open.{emptyTable}
 use Rattle.scope.proofs.SoundLaws.{shown-to, hidden-to}
 use Rattle.scope.proofs.PairLaws.{below-mark, pair-flip}
-use Rattle.scope.proofs.MoveLaws.{Move, apply, entries, Legal, gives-user, takes-user, gives-solver, takes-solver, puts-record, deletes-global, puts-value, tells-mode, hides-again, undeleted-below, move-sound, Reach, stop, move}
+use Rattle.scope.proofs.MoveLaws.{Move, apply, entries, Legal, gives-user, takes-user, gives-solver, takes-solver, puts-record}
+use Rattle.scope.proofs.MoveLaws.{deletes-global, puts-value, tells-mode, hides-again, undeleted-below, move-sound, Reach, stop, move}
 use Rattle.scope.proofs.OpenLaws.{blank-at}
 use Rattle.session.specs.Ledger.{notesOf, shownBy}
 use Rattle.session.proofs.LedgerLaws.{lost, holdAll, showAll, held-append, shown-append, notes-append, hold-append, show-append}
@@ -75,7 +76,8 @@ show-move (puts-record g r) t p l k =
     ∙ pick-at g k (λ x. isShown (recordOf t x)))
 show-move (deletes-global g) t p l k =
     and-pick (eqb g k) (isShown (recordOf t k))
-    ∙ sym (put-shown (t .records) g (recordOf t g + 36) k false (in-records t g p (undeleted-below t g p (l .undeleted))) (hidden-to (recordOf t g + 36) (λ q. omega arith)))
+    ∙ sym (put-shown (t .records) g (recordOf t g + 36) k false (in-records t g p (undeleted-below t g p (l .undeleted)))
+    (hidden-to (recordOf t g + 36) (λ q. omega arith)))
 show-move (puts-value s v) t p l k = refl
 show-move (tells-mode g sample) t p l k = refl
 show-move (hides-again g) t p l k =

@@ -1,33 +1,35 @@
 -- What every call owes a session: if it is refused, the table as it was; if it is accepted, a path of allowed moves of which the ledger
 -- enters what it does, and the bytes of the ledger's clause steps.
-use Prim.Native.Nat.{ℕ, zero, suc, _+_, _<_}
-use mathlib.Core.Path.{_≡_, refl, ap}
-use mathlib.Core.Bool.{Bool, true, _&&_, _||_, not}
+use Prim.Native.Nat.{ℕ, zero, suc, _+_, _*_, _<_, _≤_}
+use mathlib.Core.Path.{_≡_, refl, sym, ap, _∙_, subst}
+use mathlib.Core.Bool.{Bool, true, false, _&&_, _||_, not}
 use mathlib.Core.List.{List, [], _∷_, map}
 use native.Mathlib.Omega.{arith}
-use lib.Dec.{ltb, leb}
-use lib.ListN.{length, getD}
+use lib.Dec.{eqb, ltb, leb}
+use lib.ListN.{length, getD, take}
 use borrow.Author.Tests.{eqb-false, leb-false, ltb-false, not-false}
-use Rattle.base.specs.Bounded.{anyOf}
+use Rattle.base.specs.Bounded.{allBelow, anyOf}
 use Rattle.base.specs.Answer.{accepted}
-use Rattle.base.proofs.MemberLaws.{or-right}
-use Rattle.drat.specs.Grammar.{Step, stepOf, Codes, Valid, encode}
+use Rattle.base.proofs.MemberLaws.{or-left, or-right}
+use Rattle.drat.specs.Grammar.{Step, Codes, Valid, encode}
 use Rattle.drat.specs.declared.Format.{Format}
-use Rattle.drat.specs.declared.Kind.the-variants.{Add}
 use Rattle.scope.specs.declared.SamplingMode.{SamplingMode}
 use Rattle.scope.specs.declared.SamplingMode.the-variants.{Sample, Witness, Hide}
 use Rattle.scope.specs.declared.Mark.{Mark}
 use Rattle.scope.specs.declared.ProofStep.{ProofStep}
-use Rattle.scope.specs.declared.Writes.{Writes}
-use Rattle.scope.specs.declared.Writes.the-variants.{Add as adds, AddEach, Delete as deletes, Nothing, Refused}
 use Rattle.scope.specs.declared.Simplified.{Simplified}
 use Rattle.scope.specs.declared.Simplified.the-variants.{Kept, Dropped, Shortened, Binary}
 use Rattle.scope.specs.Literals.{indexOf}
-use Rattle.scope.specs.Table.{Table, recordOf, isDeleted}
+use Rattle.scope.specs.Table.{Table, recordOf, assumedOf, isDeleted}
 use Rattle.scope.specs.Sound.{soundb, Sound}
+use Rattle.scope.specs.Notes.{Note}
 use Rattle.scope.specs.Entries.{noted, hides}
-use Rattle.scope.specs.Outcome.{Outcome, orElse, unless, noting, refusal}
+use Rattle.scope.specs.Outcome.{Outcome, orElse, unless, short, noting, refusal}
 use Rattle.scope.specs.Lookup.{lookupOf, globalFromUserOf, userFromGlobalOf, solverFromGlobalOf, globalFromSolverOf, recordWordOf, assignmentWordOf}
+use Rattle.scope.specs.Map as Maps
+use Rattle.scope.specs.Grant as Grants
+use Rattle.scope.specs.Pose as Poses
+use Rattle.scope.specs.Remove as Removes
 use Rattle.scope.specs.Map.{undeleted, toMap, unsampled, mapRefusal, mapOf, newUserRefusal, newUserOf}
 use Rattle.scope.specs.Grant.{grantRefusal, grantOf}
 use Rattle.scope.specs.Pose.{usersToMap, poseRefusal, poseOf}
@@ -35,10 +37,11 @@ use Rattle.scope.specs.Modes
 use Rattle.scope.specs.Modes.{modeNumber, setModeRefusal, setModeOf, observeRefusal, observeOf}
 use Rattle.scope.specs.Marks.{notHeld, markRefusal, markOf, assignRefusal, assignOf}
 use Rattle.scope.specs.Remove.{removeRefusal, removeOf, sweepRefusal, sweepOf}
-use Rattle.scope.specs.Steps.{ruleOf, literalsOf, written}
-use Rattle.scope.specs.Write.{renameLit, renameLits, holders, unmatched, outside, unheld, stepRefusal, renameOf, stepBytes, writeRefusal, writeOf}
-use Rattle.scope.specs.Simplify.{unfalse, simplified, restOf, simplifySteps, simplifyBytes, simplifyRefusal, simplifiedNumber, simplifyOf}
+use Rattle.scope.specs.Steps.{ruleOf, literalsOf, clauseSteps}
+use Rattle.scope.specs.Write.{renameLits, holders, unmatched, outside, unheld, stepRefusal, renameOf, lacked, stepBytes, writeRefusal, writeOf}
+use Rattle.scope.specs.Simplify.{isTrue, isFalse, unfalse, simplified, restOf, simplifySteps, simplifyBytes, simplifyRefusal, simplifiedNumber, simplifyOf}
 use Rattle.scope.specs.Models.{modelOf}
+use Rattle.scope.specs.Calls
 use Rattle.scope.proofs.SoundLaws.{sound-of}
 use Rattle.scope.proofs.MoveLaws.{Reach, stop}
 use Rattle.scope.proofs.ResultLaws.{past}
@@ -49,236 +52,344 @@ use Rattle.scope.proofs.ModeLaws.{set-mode-reach, observe-reach}
 use Rattle.scope.proofs.MarkLaws.{mark-reach, assign-reach}
 use Rattle.scope.proofs.RemoveLaws.{remove-reach, sweep-reach}
 use Rattle.scope.proofs.WriteLaws.{solver-codes, rename-codes, keep-none, written-valid}
-use Rattle.session.specs.Ledger.{entered}
-use Rattle.session.specs.Calls
+use Rattle.session.specs.Ledger.{EntersLit, Pairwise, nil, cons, Enters}
+use Rattle.session.specs.Entered.{hiddenBy, entriesOf, simplifyLines, linesOf}
+use Rattle.session.specs.Session.{Turn, turn, does}
+use Rattle.session.specs.Made.{countsOf}
+use Rattle.session.proofs.ToldLaws.{Told, last-snoc, take-filled}
+use Rattle.session.proofs.EnterLaws.{Tell, solver-lits, lits-enter, write-enters}
 
 -- ---- what is owed
 
--- the clause steps of an accepted call under the holders of the table that it leaves
-abbrev pub stepsOf : Calls.Call → List ℕ → Outcome → List Step
-stepsOf call vs o = map (entered (holders (o .table))) (Calls.linesOf call vs (o .words))
+-- the clause steps written are how the ledger's lines enter, by notes that tell the holders of the table left
+pub record Lawful (f : Format) (x : Turn) (t : Table) (vs : List ℕ) (o : Outcome) : Type 0 where
+  pub path : Reach t (entriesOf (x .call) (o .notes)) (o .table)
+  pub steps : List Step
+  pub enters : (notes : List Note) → Tell notes (o .table) → Enters (linesOf (x .call) vs (o .words) notes) steps
+  pub bytes : o .bytes ≡ encode f steps
+  pub valid : Valid steps
+  pub told : Told x vs o
 
-pub record Lawful (f : Format) (call : Calls.Call) (t : Table) (vs : List ℕ) (o : Outcome) : Type 0 where
-  pub path : Reach t (Calls.entriesOf call (o .notes)) (o .table)
-  pub bytes : o .bytes ≡ encode f (stepsOf call vs o)
-  pub valid : Valid (stepsOf call vs o)
+pub data Owed (f : Format) (x : Turn) (t : Table) : Outcome → Type 0 where
+  refusing : {n : ℕ} → Owed f x t (refusal n t)
+  accepting : {o : Outcome} {vs : List ℕ} → o .answer ≡ accepted vs → Lawful f x t vs o → Owed f x t o
 
-pub data Owed (f : Format) (call : Calls.Call) (t : Table) : Outcome → Type 0 where
-  refusing : {n : ℕ} → Owed f call t (refusal n t)
-  accepting : {o : Outcome} {vs : List ℕ} → o .answer ≡ accepted vs → Lawful f call t vs o → Owed f call t o
-
-owed : (f : Format) (call : Calls.Call) (t : Table) (n : ℕ) (o : Outcome) → (n ≡ 0 → Owed f call t o) → Owed f call t (unless n t o)
+owed : (f : Format) (x : Turn) (t : Table) (n : ℕ) (o : Outcome) → (n ≡ 0 → Owed f x t o) → Owed f x t (unless n t o)
 unfolding unless
-owed f call t zero o h = h refl
-owed f call t (suc n) o h = refusing
+owed f x t zero o h = h refl
+owed f x t (suc n) o h = refusing
 
 -- a call that is judged for soundness first
 first-sound : (t : Table) (rest : ℕ) → orElse (not (soundb t)) 1 rest ≡ 0 → Sound t × (rest ≡ 0)
 first-sound t rest e = let x = past (not (soundb t)) 1 rest (omega arith) e in (sound-of t (not-false (soundb t) (x .0)), x .1)
 
+-- refusal 2 left room for the notes
+roomy : (room : ℕ) (notes : List Note) → short room notes ≡ false → 3 * length notes ≤ room
+roomy room notes z = ltb-false room (3 * length notes) z
+
 -- ---- calls that write no clause step
 
--- a call of which the ledger enters its notes alone
-record Quiet (call : Calls.Call) : Type 0 where
-  hides : Calls.hiddenBy call ≡ []
-  lines : (vs ws : List ℕ) → Calls.linesOf call vs ws ≡ []
+-- a call of which the ledger enters its notes alone: it hides nothing, has no line, and answers no count of bytes
+abbrev Quiet : Calls.Call → Type 0
+Quiet call =
+    (hiddenBy call ≡ []) × ((vs ws : List ℕ) (notes : List Note) → linesOf call vs ws notes ≡ []) × ((vs : List ℕ) → countsOf call vs .bytes ≡ 0)
 
-quiet-lawful : (f : Format) (call : Calls.Call) (t : Table) (vs : List ℕ) (o : Outcome) → Quiet call → o .bytes ≡ []
-    → Reach t (map noted (o .notes)) (o .table) → Lawful f call t vs o
-unfolding Calls.entriesOf encode Valid
-quiet-lawful f call t vs o q b r =
+quiet-lawful : (f : Format) (x : Turn) (t : Table) (vs : List ℕ) (o : Outcome) → Quiet (x .call) → o .bytes ≡ []
+    → countsOf (x .call) vs .notes ≡ length (o .notes) → 3 * length (o .notes) ≤ x .rooms .notes → Reach t (map noted (o .notes)) (o .table)
+    → Lawful f x t vs o
+unfolding entriesOf encode Valid
+quiet-lawful f x t vs o (hidden, lines, counted) b n m r =
     record {
-      path = rw (q .hides) r;
-      bytes = rw (q .lines vs (o .words)) b;
-      valid = rw (q .lines vs (o .words)) tt;
+      path = rw hidden r;
+      steps = [];
+      enters = λ notes h. rw (lines vs (o .words) notes) nil;
+      bytes = b;
+      valid = tt;
+      told =
+          record {
+            notes = n;
+            noteRoom = m;
+            lines = λ out notes h. lines vs _ notes ∙ sym (lines vs (o .words) notes);
+            bytes = rw b (counted vs);
+            byteRoom = rw b (omega arith);
+          };
     }
 
-lookup-owed : (f : Format) (call : Calls.Call) (t : Table) (values : List ℕ) → Quiet call → Owed f call t (lookupOf t values)
+lookup-owed : (f : Format) (x : Turn) (t : Table) (values : List ℕ) → Quiet (x .call) → ((vs : List ℕ) → countsOf (x .call) vs .notes ≡ 0)
+    → Owed f x t (lookupOf t values)
 unfolding lookupOf
-lookup-owed f call t values q = owed f call t _ _ (λ e. accepting refl (quiet-lawful f call t values _ q refl stop))
+lookup-owed f x t values q n = owed f x t _ _ (λ e. accepting refl (quiet-lawful f x t values _ q refl (n values) (omega arith) stop))
 
-map-owed : (f : Format) (t : Table) (u : ℕ) (sampling : Bool) (room : ℕ) → Owed f (Calls.mapUser u sampling room) t (mapOf t u sampling room)
-unfolding mapOf mapRefusal Calls.linesOf
-map-owed f t u sampling room = owed f _ t _ _ (λ e.
+map-owed : (f : Format) (t : Table) (u : ℕ) (sampling : Bool) (rooms : Calls.Rooms)
+    → Owed f (turn (Calls.mapUser u sampling) rooms) t (mapOf t u sampling (rooms .notes))
+unfolding mapOf mapRefusal linesOf
+map-owed f t u sampling rooms = owed f _ t _ _ (λ e.
     let (p, e1) = first-sound t _ e in
     let (a, e2) = past (leb (t .counts .capacity) u) 3 _ (omega arith) e1 in
     let (b, e3) = past (sampling && unsampled t u) 4 _ (omega arith) e2 in
     let (c, e4) = past (ltb (t .counts .capacity) (undeleted t + toMap t u)) 5 _ (omega arith) e3 in
-    accepting refl (quiet-lawful f _ t _ _ (record { hides = refl; lines = λ vs ws. refl }) refl (map-user-reach t u (map-room-of t u p a c))))
+    let (z, _) = past (short (rooms .notes) (Maps.mapUser u t .notes)) 2 _ (omega arith) e4 in
+    accepting refl (quiet-lawful f _ t _ _ (refl, λ vs ws notes. refl, λ vs. refl) refl refl (roomy (rooms .notes) (Maps.mapUser u t .notes) z)
+    (map-user-reach t u (map-room-of t u p a c))))
 
-new-user-owed : (f : Format) (t : Table) (room : ℕ) → Owed f (Calls.newUser room) t (newUserOf t room)
-unfolding newUserOf newUserRefusal Calls.linesOf
-new-user-owed f t room = owed f _ t _ _ (λ e.
+new-user-owed : (f : Format) (t : Table) (rooms : Calls.Rooms) → Owed f (turn Calls.newUser rooms) t (newUserOf t (rooms .notes))
+unfolding newUserOf newUserRefusal linesOf
+new-user-owed f t rooms = owed f _ t _ _ (λ e.
     let (p, e1) = first-sound t _ e in
     let (a, e2) = past (ltb (t .counts .capacity) (undeleted t + 1)) 5 _ (omega arith) e1 in
-    accepting refl (quiet-lawful f _ t _ _ (record { hides = refl; lines = λ vs ws. refl }) refl (new-user-reach t p (ltb-false (t .counts .capacity) (undeleted t + 1) a))))
+    let (z, _) = past (short (rooms .notes) (Maps.newUser t .notes)) 2 _ (omega arith) e2 in
+    accepting refl (quiet-lawful f _ t _ _ (refl, λ vs ws notes. refl, λ vs. refl) refl (last-snoc 0 _ (Maps.newUser t .value))
+    (roomy (rooms .notes) (Maps.newUser t .notes) z) (new-user-reach t p (ltb-false (t .counts .capacity) (undeleted t + 1) a))))
 
-pose-owed : (f : Format) (t : Table) (lits : List ℕ) (sampling : Bool) (outs room : ℕ)
-    → Owed f (Calls.pose lits sampling outs room) t (poseOf t lits sampling outs room)
-unfolding poseOf poseRefusal Calls.linesOf
-pose-owed f t lits sampling outs room = owed f _ t _ _ (λ e.
+pose-owed : (f : Format) (t : Table) (lits : List ℕ) (sampling : Bool) (rooms : Calls.Rooms)
+    → Owed f (turn (Calls.pose lits sampling) rooms) t (poseOf t lits sampling (rooms .words) (rooms .notes))
+unfolding poseOf poseRefusal linesOf
+pose-owed f t lits sampling rooms = owed f _ t _ _ (λ e.
     let (p, e1) = first-sound t _ e in
     let (a, e2) = past (ltb 8192 (length lits) || anyOf (λ c. leb (t .counts .capacity) (indexOf c)) lits) 3 _ (omega arith) e1 in
     let (b, e3) = past (sampling && anyOf (λ c. unsampled t (indexOf c)) lits) 4 _ (omega arith) e2 in
     let (c, e4) = past (ltb (t .counts .capacity) (undeleted t + usersToMap t lits)) 5 _ (omega arith) e3 in
-    accepting refl (quiet-lawful f _ t _ _ (record { hides = refl; lines = λ vs ws. refl }) refl
+    let (z, _) = past (ltb (rooms .words) (length lits) || short (rooms .notes) (Poses.pose lits t .notes)) 2 _ (omega arith) e4 in
+    accepting refl (quiet-lawful f _ t _ _ (refl, λ vs ws notes. refl, λ vs. refl) refl refl
+    (roomy (rooms .notes) (Poses.pose lits t .notes) (or-right (ltb (rooms .words) (length lits)) _ z))
     (pose-reach t lits (pose-room-of t lits p (or-right (ltb 8192 (length lits)) _ a) c))))
 
-grant-owed : (f : Format) (t : Table) (g room : ℕ) → Owed f (Calls.grant g room) t (grantOf t g room)
-unfolding grantOf grantRefusal Calls.linesOf
-grant-owed f t g room = owed f _ t _ _ (λ e.
+grant-owed : (f : Format) (t : Table) (g : ℕ) (rooms : Calls.Rooms) → Owed f (turn (Calls.grant g) rooms) t (grantOf t g (rooms .notes))
+unfolding grantOf grantRefusal linesOf
+grant-owed f t g rooms = owed f _ t _ _ (λ e.
     let (p, e1) = first-sound t _ e in
     let (a, e2) = past (leb (t .counts .global) g) 3 _ (omega arith) e1 in
     let (b, e3) = past (isDeleted (recordOf t g)) 6 _ (omega arith) e2 in
-    accepting refl (quiet-lawful f _ t _ _ (record { hides = refl; lines = λ vs ws. refl }) refl (grant-reach t g p (leb-false 36 (recordOf t g) b))))
+    let (z, _) = past (short (rooms .notes) (Grants.grant g t .notes)) 2 _ (omega arith) e3 in
+    accepting refl (quiet-lawful f _ t _ _ (refl, λ vs ws notes. refl, λ vs. refl) refl refl (roomy (rooms .notes) (Grants.grant g t .notes) z)
+    (grant-reach t g p (leb-false 36 (recordOf t g) b))))
 
-observe-owed : (f : Format) (t : Table) (outs room : ℕ) → Owed f (Calls.observe outs room) t (observeOf t outs room)
-unfolding observeOf observeRefusal Calls.linesOf
-observe-owed f t outs room = owed f _ t _ _ (λ e.
+observe-owed : (f : Format) (t : Table) (rooms : Calls.Rooms)
+    → Owed f (turn Calls.observe rooms) t (observeOf t (rooms .words) (rooms .notes))
+unfolding observeOf observeRefusal linesOf
+observe-owed f t rooms = owed f _ t _ _ (λ e.
+    let shown : ℕ → Bool = λ g. not (Modes.isHidden (recordOf t g) && eqb (assumedOf (recordOf t g)) 1) in
     let (p, e1) = first-sound t _ e in
-    accepting refl (quiet-lawful f _ t _ _ (record { hides = refl; lines = λ vs ws. refl }) refl (observe-reach t p)))
+    let (y, e2) = past (not (allBelow (t .counts .global) shown)) 7 _ (omega arith) e1 in
+    let (z, _) = past (ltb (rooms .words) (length (Modes.observe t .value)) || short (rooms .notes) (Modes.observe t .notes)) 2 _ (omega arith) e2 in
+    accepting refl (quiet-lawful f _ t _ _ (refl, λ vs ws notes. refl, λ vs. refl) refl refl
+    (roomy (rooms .notes) (Modes.observe t .notes) (or-right (ltb (rooms .words) (length (Modes.observe t .value))) _ z)) (observe-reach t p)))
 
-mark-owed : (f : Format) (t : Table) (m : Mark) (s : ℕ) → Owed f (Calls.mark m s) t (markOf t m s)
-unfolding markOf markRefusal notHeld Calls.linesOf
-mark-owed f t m s = owed f _ t _ _ (λ e.
+mark-owed : (f : Format) (t : Table) (m : Mark) (s : ℕ) (rooms : Calls.Rooms) → Owed f (turn (Calls.mark m s) rooms) t (markOf t m s)
+unfolding markOf markRefusal notHeld linesOf
+mark-owed f t m s rooms = owed f _ t _ _ (λ e.
     let (p, e1) = first-sound t _ e in
     let (a, e2) = past (notHeld t s) 8 _ (omega arith) e1 in
-    accepting refl (quiet-lawful f _ t _ _ (record { hides = refl; lines = λ vs ws. refl }) refl (mark-reach t m s p (eqb-false (getD (t .globalFromSolver) s 0) 0 a))))
+    accepting refl (quiet-lawful f _ t _ _ (refl, λ vs ws notes. refl, λ vs. refl) refl refl (omega arith)
+    (mark-reach t m s p (eqb-false (getD (t .globalFromSolver) s 0) 0 a))))
 
-assign-owed : (f : Format) (t : Table) (c : ℕ) → Owed f (Calls.assign c) t (assignOf t c)
-unfolding assignOf assignRefusal notHeld Calls.linesOf
-assign-owed f t c = owed f _ t _ _ (λ e.
+assign-owed : (f : Format) (t : Table) (c : ℕ) (rooms : Calls.Rooms) → Owed f (turn (Calls.assign c) rooms) t (assignOf t c)
+unfolding assignOf assignRefusal notHeld linesOf
+assign-owed f t c rooms = owed f _ t _ _ (λ e.
     let (p, e1) = first-sound t _ e in
     let (a, e2) = past (notHeld t (indexOf c)) 8 _ (omega arith) e1 in
-    accepting refl (quiet-lawful f _ t _ _ (record { hides = refl; lines = λ vs ws. refl }) refl
+    accepting refl (quiet-lawful f _ t _ _ (refl, λ vs ws notes. refl, λ vs. refl) refl refl (omega arith)
     (assign-reach t c p (eqb-false (getD (t .globalFromSolver) (indexOf c) 0) 0 a))))
 
-remove-owed : (f : Format) (t : Table) (s room : ℕ) → Owed f (Calls.remove s room) t (removeOf t s room)
-unfolding removeOf removeRefusal notHeld Calls.linesOf
-remove-owed f t s room = owed f _ t _ _ (λ e.
+remove-owed : (f : Format) (t : Table) (s : ℕ) (rooms : Calls.Rooms) → Owed f (turn (Calls.remove s) rooms) t (removeOf t s (rooms .notes))
+unfolding removeOf removeRefusal notHeld linesOf
+remove-owed f t s rooms = owed f _ t _ _ (λ e.
     let (p, e1) = first-sound t _ e in
     let (a, e2) = past (notHeld t s) 8 _ (omega arith) e1 in
-    accepting refl (quiet-lawful f _ t _ _ (record { hides = refl; lines = λ vs ws. refl }) refl (remove-reach t s p (eqb-false (getD (t .globalFromSolver) s 0) 0 a))))
+    let (z, _) = past (short (rooms .notes) (Removes.remove s t .notes)) 2 _ (omega arith) e2 in
+    accepting refl (quiet-lawful f _ t _ _ (refl, λ vs ws notes. refl, λ vs. refl) refl refl (roomy (rooms .notes) (Removes.remove s t .notes) z)
+    (remove-reach t s p (eqb-false (getD (t .globalFromSolver) s 0) 0 a))))
 
-sweep-owed : (f : Format) (t : Table) (room : ℕ) → Owed f (Calls.sweep room) t (sweepOf t room)
-unfolding sweepOf sweepRefusal Calls.linesOf
-sweep-owed f t room = owed f _ t _ _ (λ e.
+sweep-owed : (f : Format) (t : Table) (rooms : Calls.Rooms) → Owed f (turn Calls.sweep rooms) t (sweepOf t (rooms .notes))
+unfolding sweepOf sweepRefusal linesOf
+sweep-owed f t rooms = owed f _ t _ _ (λ e.
     let (p, e1) = first-sound t _ e in
-    accepting refl (quiet-lawful f _ t _ _ (record { hides = refl; lines = λ vs ws. refl }) refl (sweep-reach t p)))
+    let (z, _) = past (short (rooms .notes) (Removes.sweep t .notes)) 2 _ (omega arith) e1 in
+    accepting refl (quiet-lawful f _ t _ _ (refl, λ vs ws notes. refl, λ vs. refl) refl refl (roomy (rooms .notes) (Removes.sweep t .notes) z)
+    (sweep-reach t p)))
 
-rename-owed : (f : Format) (t : Table) (step : ProofStep) (solverVars : Bool) (lits hashes : List ℕ) (outs hashOuts : ℕ)
-    → Owed f (Calls.rename step solverVars lits hashes outs hashOuts) t (renameOf t step solverVars lits hashes outs hashOuts)
-unfolding renameOf Calls.linesOf
-rename-owed f t step solverVars lits hashes outs hashOuts = owed f _ t _ _ (λ e.
-    accepting refl (quiet-lawful f _ t _ _ (record { hides = refl; lines = λ vs ws. refl }) refl stop))
+rename-owed : (f : Format) (t : Table) (step : ProofStep) (solverVars : Bool) (lits hashes : List ℕ) (rooms : Calls.Rooms)
+    → Owed f (turn (Calls.rename step solverVars lits hashes) rooms) t (renameOf t step solverVars lits hashes (rooms .words) (rooms .more))
+unfolding renameOf linesOf
+rename-owed f t step solverVars lits hashes rooms = owed f _ t _ _ (λ e.
+    accepting refl (quiet-lawful f _ t _ _ (refl, λ vs ws notes. refl, λ vs. refl) refl refl (omega arith) stop))
 
-model-owed : (f : Format) (t : Table) (globals users : ℕ) → Owed f (Calls.model globals users) t (modelOf t globals users)
-unfolding modelOf Calls.linesOf
-model-owed f t globals users = owed f _ t _ _ (λ e.
-    accepting refl (quiet-lawful f _ t _ _ (record { hides = refl; lines = λ vs ws. refl }) refl stop))
+model-owed : (f : Format) (t : Table) (rooms : Calls.Rooms) → Owed f (turn Calls.model rooms) t (modelOf t (rooms .words) (rooms .more))
+unfolding modelOf linesOf
+model-owed f t rooms = owed f _ t _ _ (λ e.
+    accepting refl (quiet-lawful f _ t _ _ (refl, λ vs ws notes. refl, λ vs. refl) refl refl (omega arith) stop))
 
 -- ---- Set mode, of which the ledger enters also that it hides
 
-set-mode-owed : (f : Format) (t : Table) (g : ℕ) (m : SamplingMode) (room : ℕ) → Owed f (Calls.setMode g m room) t (setModeOf t g m room)
-unfolding setModeOf setModeRefusal Calls.linesOf Calls.entriesOf encode Valid
-set-mode-owed f t g m room = owed f _ t _ _ (λ e.
+set-mode-owed : (f : Format) (t : Table) (g : ℕ) (m : SamplingMode) (rooms : Calls.Rooms)
+    → Owed f (turn (Calls.setMode g m) rooms) t (setModeOf t g m (rooms .notes))
+unfolding setModeOf setModeRefusal linesOf entriesOf encode Valid
+set-mode-owed f t g m rooms = owed f _ t _ _ (λ e.
     let (p, e1) = first-sound t _ e in
     let (a, e2) = past (leb (t .counts .global) g) 3 _ (omega arith) e1 in
     let (b, e3) = past (isDeleted (recordOf t g)) 6 _ (omega arith) e2 in
-    accepting refl (record { path = by-mode m p (leb-false 36 (recordOf t g) b); bytes = refl; valid = tt }))
+    let (c, e4) = past (eqb (assumedOf (recordOf t g)) 1) 7 _ (omega arith) e3 in
+    let (z, _) = past (short (rooms .notes) (Modes.setMode g (modeNumber m) t .notes)) 2 _ (omega arith) e4 in
+    accepting refl (record {
+      path = by-mode m p (leb-false 36 (recordOf t g) b);
+      steps = [];
+      enters = λ notes h. nil;
+      bytes = refl;
+      valid = tt;
+      told =
+          record {
+            notes = last-snoc 0 _ (Modes.setMode g (modeNumber m) t .value);
+            noteRoom = roomy (rooms .notes) (Modes.setMode g (modeNumber m) t .notes) z;
+            lines = λ out notes h. refl;
+            bytes = refl;
+            byteRoom = omega arith;
+          };
+    }))
   where
     by-mode : (m : SamplingMode) → Sound t → recordOf t g < 36
-        → Reach t (Calls.entriesOf (Calls.setMode g m room) (noting (λ us. us) (Modes.setMode g (modeNumber m) t) .notes)) (Modes.setMode g (modeNumber m) t .table)
+        → Reach t (entriesOf (Calls.setMode g m) (noting (λ us. us) (Modes.setMode g (modeNumber m) t) .notes)) (Modes.setMode g (modeNumber m) t .table)
     by-mode Sample p h = set-mode-reach t g 0 p h (omega arith)
     by-mode Witness p h = set-mode-reach t g 1 p h (omega arith)
     by-mode Hide p h = set-mode-reach t g 2 p h (omega arith)
 
 -- ---- the writing calls
 
--- the lines of a step kind, renamed, are the steps that are written
-lines-written : (h : ℕ → ℕ) (solverVars : Bool) (w : Writes) (lits : List ℕ)
-    → map (entered h) (Calls.writeLines w solverVars lits) ≡ written w (renameLits h solverVars lits)
-unfolding renameLits
-lines-written h solverVars adds lits = refl
-lines-written h solverVars AddEach [] = refl
-lines-written h solverVars AddEach (c ∷ lits) = ap (λ (ss : List Step). stepOf Add (renameLit h solverVars c ∷ []) ∷ ss) (lines-written h solverVars AddEach lits)
-lines-written h solverVars deletes lits = refl
-lines-written h solverVars Nothing lits = refl
-lines-written h solverVars Refused lits = refl
+-- The table stays, there are no notes, nothing is hidden, and the answer tells what was filled, for which there was room. The two facts that
+-- a writing call owes: its lines enter as the steps whose encoding it fills, and the steps' codes are valid.
+record Writes (f : Format) (x : Turn) (t : Table) (vs : List ℕ) (o : Outcome) (steps : List Step) : Type 0 where
+  table : o .table ≡ t
+  notes : o .notes ≡ []
+  hidden : hiddenBy (x .call) ≡ []
+  bytes : o .bytes ≡ encode f steps
+  noteCount : countsOf (x .call) vs .notes ≡ 0
+  wordCount : countsOf (x .call) vs .words ≡ length (o .words)
+  byteCount : countsOf (x .call) vs .bytes ≡ length (o .bytes)
+  wordRoom : length (o .words) ≤ x .rooms .words
+  byteRoom : length (o .bytes) ≤ x .rooms .bytes
+  enters : (notes : List Note) → Tell notes t → Enters (linesOf (x .call) vs (o .words) notes) steps
+  valid : Valid steps
 
-write-owed : (f : Format) (t : Table) (step : ProofStep) (solverVars : Bool) (lits hashes : List ℕ) (room : ℕ)
-    → Owed f (Calls.write step solverVars lits hashes room) t (writeOf f t step solverVars lits hashes room)
-unfolding writeOf writeRefusal stepRefusal stepBytes Calls.linesOf Calls.entriesOf
-write-owed f t step solverVars lits hashes room = owed f _ t _ _ (λ e.
+writing-lawful : (f : Format) (x : Turn) (t : Table) (vs : List ℕ) (o : Outcome) (steps : List Step) → Writes f x t vs o steps → Lawful f x t vs o
+unfolding entriesOf
+writing-lawful f x t vs o steps w =
+    record {
+      path = rw (w .notes, w .hidden, w .table) stop;
+      steps = steps;
+      enters = λ notes h. w .enters notes (subst (Tell notes) (w .table) h);
+      bytes = w .bytes;
+      valid = w .valid;
+      told =
+          record {
+            notes = rw (w .notes) (w .noteCount);
+            noteRoom = rw (w .notes) (omega arith);
+            lines = λ out notes e.
+                ap (λ (ws : List ℕ). linesOf (x .call) vs ws notes)
+                (take-filled out (o .words) (countsOf (x .call) vs .words) (w .wordCount) (let r = w .wordRoom in omega arith));
+            bytes = w .byteCount;
+            byteRoom = w .byteRoom;
+          };
+    }
+
+write-owed : (f : Format) (t : Table) (step : ProofStep) (solverVars : Bool) (lits hashes : List ℕ) (rooms : Calls.Rooms)
+    → Owed f (turn (Calls.write step solverVars lits hashes) rooms) t (does f (turn (Calls.write step solverVars lits hashes) rooms) t)
+unfolding does Calls.perform writeOf writeRefusal stepRefusal stepBytes linesOf
+write-owed f t step solverVars lits hashes rooms = owed f _ t _ _ (λ e.
     let ls = literalsOf step lits in
     let (p, e1) = first-sound t _ e in
     let (a, e2) = past (unmatched step lits hashes) 14 _ (omega arith) e1 in
-    let (b, e3) = past (outside t solverVars ls) 3 _ (omega arith) e2 in
-    let (c, e4) = past (unheld t solverVars ls) 8 _ (omega arith) e3 in
-    let q = lines-written (holders t) solverVars (ruleOf step .writes) ls in
-    accepting refl (record {
-      path = stop;
-      bytes = rw q;
-      valid = rw q (written-valid (ruleOf step .writes) (renameLits (holders t) solverVars ls) (rename-codes t solverVars ls p b c));
-    }))
+    let (inside, e3) = past (outside t solverVars ls) 3 _ (omega arith) e2 in
+    let (held, e4) = past (unheld t solverVars ls) 8 _ (omega arith) e3 in
+    let (d, e5) = past (lacked (ruleOf step .writes)) 11 _ (omega arith) e4 in
+    let (z, _) = past (ltb (rooms .bytes) (length (stepBytes f t step solverVars lits))) 2 _ (omega arith) e5 in
+    accepting refl (writing-lawful f _ t _ _ (clauseSteps step (renameLits (holders t) solverVars ls)) (record {
+      table = refl;
+      notes = refl;
+      hidden = refl;
+      bytes = refl;
+      noteCount = refl;
+      wordCount = refl;
+      byteCount = refl;
+      wordRoom = omega arith;
+      byteRoom = ltb-false (rooms .bytes) _ z;
+      enters = λ notes h. write-enters notes step solverVars lits _ (lits-enter t notes h solverVars ls held);
+      valid = written-valid (ruleOf step .writes) (renameLits (holders t) solverVars ls) (rename-codes t solverVars ls p inside held);
+    })))
 
-simplify-owed : (f : Format) (t : Table) (lits : List ℕ) (redundant : Bool) (outs room : ℕ)
-    → Owed f (Calls.simplify lits redundant outs room) t (simplifyOf f t lits redundant outs room)
-unfolding simplifyOf simplifyRefusal simplifyBytes unheld unfalse Valid Calls.linesOf Calls.entriesOf
-simplify-owed f t lits redundant outs room = owed f _ t _ _ (λ e.
+simplify-owed : (f : Format) (t : Table) (lits : List ℕ) (redundant : Bool) (rooms : Calls.Rooms)
+    → Owed f (turn (Calls.simplify lits redundant) rooms) t (does f (turn (Calls.simplify lits redundant) rooms) t)
+unfolding does Calls.perform simplifyOf simplifyRefusal simplifyBytes unheld unfalse Valid linesOf
+simplify-owed f t lits redundant rooms = owed f _ t _ _ (λ e.
+    let rest = restOf (simplified t lits) t lits in
     let (p, e1) = first-sound t _ e in
     let (a, e2) = past (ltb 8192 (length lits)) 3 _ (omega arith) e1 in
-    let (b, e3) = past (unheld t true lits) 8 _ (omega arith) e2 in
-    let all = solver-codes t lits p b in
-    let some = solver-codes t (unfalse t lits) p (keep-none (λ c. notHeld t (indexOf c)) _ lits b) in
-    accepting refl (record {
-      path = stop;
-      bytes = ap (encode f) (by-kind (simplified t lits) []);
-      valid = valid-kind (simplified t lits) [] all some;
-    }))
+    let (held, e3) = past (unheld t true lits) 8 _ (omega arith) e2 in
+    let kept = keep-none (λ c. notHeld t (indexOf c)) _ lits held in
+    let (d, e4) = past (not (anyOf (isTrue t) lits) && (anyOf (isFalse t) lits && ltb (length (unfalse t lits)) 2)) 12 _ (omega arith) e3 in
+    let (z, _) = past (ltb (rooms .words) (length rest) || ltb (rooms .bytes) (length (simplifyBytes f t lits redundant))) 2 _ (omega arith) e4 in
+    let steps = simplifySteps (simplified t lits) redundant (renameLits (holders t) true rest) (renameLits (holders t) true lits) in
+    accepting refl (writing-lawful f _ t _ _ steps (record {
+      table = refl;
+      notes = refl;
+      hidden = refl;
+      bytes = refl;
+      noteCount = refl;
+      wordCount = refl;
+      byteCount = refl;
+      wordRoom = ltb-false (rooms .words) (length rest) (or-left _ _ z);
+      byteRoom = ltb-false (rooms .bytes) _ (or-right (ltb (rooms .words) (length rest)) _ z);
+      enters = λ notes h. by-kind (simplified t lits) [] notes (solver-lits t notes h lits held) (solver-lits t notes h (unfalse t lits) kept);
+      valid = valid-kind (simplified t lits) (solver-codes t lits p held) (solver-codes t (unfalse t lits) p kept);
+    })))
   where
-    by-kind : (k : Simplified) (vs : List ℕ)
-        → simplifySteps k redundant (renameLits (holders t) true (restOf k t lits)) (renameLits (holders t) true lits)
-        ≡ map (entered (holders t)) (Calls.simplifyLines (simplifiedNumber k ∷ vs) lits (restOf k t lits))
-    by-kind Kept vs = refl
-    by-kind Dropped vs = refl
-    by-kind Shortened vs = refl
-    by-kind Binary vs = refl
+    by-kind : (k : Simplified) (vs : List ℕ) (notes : List Note) → Pairwise (EntersLit notes true) lits (renameLits (holders t) true lits)
+        → Pairwise (EntersLit notes true) (unfalse t lits) (renameLits (holders t) true (unfalse t lits))
+        → Enters (simplifyLines (simplifiedNumber k ∷ vs) lits (restOf k t lits) notes)
+        (simplifySteps k redundant (renameLits (holders t) true (restOf k t lits)) (renameLits (holders t) true lits))
+    by-kind Kept vs notes all some = nil
+    by-kind Dropped vs notes all some = cons (record { kind = refl; lits = all }) nil
+    by-kind Shortened vs notes all some = cons (record { kind = refl; lits = some }) (cons (record { kind = refl; lits = all }) nil)
+    by-kind Binary vs notes all some = cons (record { kind = refl; lits = some }) (cons (record { kind = refl; lits = all }) nil)
 
-    valid-kind : (k : Simplified) (vs : List ℕ) → Codes (renameLits (holders t) true lits) → Codes (renameLits (holders t) true (unfalse t lits))
-        → Valid (map (entered (holders t)) (Calls.simplifyLines (simplifiedNumber k ∷ vs) lits (restOf k t lits)))
-    valid-kind Kept vs all some = tt
-    valid-kind Dropped vs all some = (all, tt)
-    valid-kind Shortened vs all some = (some, (all, tt))
-    valid-kind Binary vs all some = (some, (all, tt))
+    valid-kind : (k : Simplified) → Codes (renameLits (holders t) true lits) → Codes (renameLits (holders t) true (unfalse t lits))
+        → Valid (simplifySteps k redundant (renameLits (holders t) true (restOf k t lits)) (renameLits (holders t) true lits))
+    valid-kind Kept all some = tt
+    valid-kind Dropped all some = (all, tt)
+    valid-kind Shortened all some = (some, (all, tt))
+    valid-kind Binary all some = (some, (all, tt))
 
 -- ---- every call
 
-pub call-owed : (f : Format) (call : Calls.Call) (t : Table) → Owed f call t (Calls.perform f call t)
-unfolding Calls.perform Calls.linesOf globalFromUserOf userFromGlobalOf solverFromGlobalOf globalFromSolverOf recordWordOf assignmentWordOf
-call-owed f (Calls.lookup asked i) t = by-asked asked
+abbrev CallOwed : Format → Calls.Call → Calls.Rooms → Table → Type 0
+CallOwed f call rooms t = Owed f (turn call rooms) t (does f (turn call rooms) t)
+
+call-owed : (f : Format) (call : Calls.Call) (rooms : Calls.Rooms) (t : Table) → CallOwed f call rooms t
+unfolding does Calls.perform linesOf globalFromUserOf userFromGlobalOf solverFromGlobalOf globalFromSolverOf recordWordOf assignmentWordOf
+call-owed f (Calls.lookup asked i) rooms t = by-asked asked
   where
     quiet : (asked : Calls.Asked) → Quiet (Calls.lookup asked i)
-    quiet asked = record { hides = refl; lines = λ vs ws. refl }
+    quiet asked = (refl, λ vs ws notes. refl, λ vs. refl)
 
-    by-asked : (asked : Calls.Asked) → Owed f (Calls.lookup asked i) t (Calls.lookUp asked t i)
-    by-asked Calls.globalFromUser = lookup-owed f _ t _ (quiet Calls.globalFromUser)
-    by-asked Calls.userFromGlobal = lookup-owed f _ t _ (quiet Calls.userFromGlobal)
-    by-asked Calls.solverFromGlobal = lookup-owed f _ t _ (quiet Calls.solverFromGlobal)
-    by-asked Calls.globalFromSolver = lookup-owed f _ t _ (quiet Calls.globalFromSolver)
-    by-asked Calls.recordWord = lookup-owed f _ t _ (quiet Calls.recordWord)
-    by-asked Calls.assignmentWord = lookup-owed f _ t _ (quiet Calls.assignmentWord)
-call-owed f (Calls.mapUser u sampling room) t = map-owed f t u sampling room
-call-owed f (Calls.newUser room) t = new-user-owed f t room
-call-owed f (Calls.pose lits sampling outs room) t = pose-owed f t lits sampling outs room
-call-owed f (Calls.grant g room) t = grant-owed f t g room
-call-owed f (Calls.setMode g m room) t = set-mode-owed f t g m room
-call-owed f (Calls.observe outs room) t = observe-owed f t outs room
-call-owed f (Calls.mark m s) t = mark-owed f t m s
-call-owed f (Calls.assign c) t = assign-owed f t c
-call-owed f (Calls.remove s room) t = remove-owed f t s room
-call-owed f (Calls.sweep room) t = sweep-owed f t room
-call-owed f (Calls.simplify lits redundant outs room) t = simplify-owed f t lits redundant outs room
-call-owed f (Calls.rename step solverVars lits hashes outs hashOuts) t = rename-owed f t step solverVars lits hashes outs hashOuts
-call-owed f (Calls.write step solverVars lits hashes room) t = write-owed f t step solverVars lits hashes room
-call-owed f (Calls.model globals users) t = model-owed f t globals users
+    by-asked : (asked : Calls.Asked) → CallOwed f (Calls.lookup asked i) rooms t
+    by-asked Calls.globalFromUser = lookup-owed f _ t _ (quiet Calls.globalFromUser) (λ vs. refl)
+    by-asked Calls.userFromGlobal = lookup-owed f _ t _ (quiet Calls.userFromGlobal) (λ vs. refl)
+    by-asked Calls.solverFromGlobal = lookup-owed f _ t _ (quiet Calls.solverFromGlobal) (λ vs. refl)
+    by-asked Calls.globalFromSolver = lookup-owed f _ t _ (quiet Calls.globalFromSolver) (λ vs. refl)
+    by-asked Calls.recordWord = lookup-owed f _ t _ (quiet Calls.recordWord) (λ vs. refl)
+    by-asked Calls.assignmentWord = lookup-owed f _ t _ (quiet Calls.assignmentWord) (λ vs. refl)
+call-owed f (Calls.mapUser u sampling) rooms t = map-owed f t u sampling rooms
+call-owed f Calls.newUser rooms t = new-user-owed f t rooms
+call-owed f (Calls.pose lits sampling) rooms t = pose-owed f t lits sampling rooms
+call-owed f (Calls.grant g) rooms t = grant-owed f t g rooms
+call-owed f (Calls.setMode g m) rooms t = set-mode-owed f t g m rooms
+call-owed f Calls.observe rooms t = observe-owed f t rooms
+call-owed f (Calls.mark m s) rooms t = mark-owed f t m s rooms
+call-owed f (Calls.assign c) rooms t = assign-owed f t c rooms
+call-owed f (Calls.remove s) rooms t = remove-owed f t s rooms
+call-owed f Calls.sweep rooms t = sweep-owed f t rooms
+call-owed f (Calls.simplify lits redundant) rooms t = simplify-owed f t lits redundant rooms
+call-owed f (Calls.rename step solverVars lits hashes) rooms t = rename-owed f t step solverVars lits hashes rooms
+call-owed f (Calls.write step solverVars lits hashes) rooms t = write-owed f t step solverVars lits hashes rooms
+call-owed f Calls.model rooms t = model-owed f t rooms
+
+pub turn-owed : (f : Format) (x : Turn) (t : Table) → Owed f x t (does f x t)
+turn-owed f x t = call-owed f (x .call) (x .rooms) t

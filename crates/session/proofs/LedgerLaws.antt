@@ -81,8 +81,8 @@ unfolding heldBy anyOf word
 held-snoc [] n s = held-one (grants s n) (globalOf n + 1)
 held-snoc (x ∷ ns) n s =
     rw (any-snoc (grants s) ns n, any-snoc (withdraws (globalOf x)) ns n)
-    (held-core (grants s x) (anyOf (grants s) ns) (anyOf (withdraws (globalOf x)) ns) (grants s n) (λ g. withdraws g n) (globalOf x) (globalOf n + 1) (heldBy ns s)
-    (heldBy (ns ++ n ∷ []) s) (λ q. no-grant ns s q) (held-snoc ns n s))
+    (held-core (grants s x) (anyOf (grants s) ns) (anyOf (withdraws (globalOf x)) ns) (grants s n) (λ g. withdraws g n)
+    (globalOf x) (globalOf n + 1) (heldBy ns s) (heldBy (ns ++ n ∷ []) s) (λ q. no-grant ns s q) (held-snoc ns n s))
 
 shown-core : (a e sn en b b′ : Bool) → b′ ≡ sn || (not en && b) → (a && not (e || en)) || b′ ≡ sn || (not en && ((a && not e) || b))
 shown-core true true true en b b′ h = h

@@ -1,7 +1,16 @@
+pub mod Accounts
+pub mod NumberLaws
 pub mod WorkedCases
 pub mod HeldLaws
 pub mod LedgerLaws
+pub mod EnterLaws
 pub mod AgreeLaws
+pub mod ToldLaws
 pub mod CallLaws
+pub mod LookupLaws
 pub mod SessionLaws
-pub mod OneSession
+pub mod MadeLaws
+pub mod MetLaws
+pub mod OneProgram
+pub mod RuledOut
+pub mod RenamedLaws

@@ -1,13 +1,13 @@
--- The ledger (document 01, "Session"), fed only each call's arguments, answer and notes.
-use Prim.Native.Nat.{ℕ}
+-- The ledger (document 01, "Session"): entries about names, of which some show a global, and lines about clauses, which enter as steps.
+use Prim.Native.Nat.{ℕ, _+_, _*_}
+use mathlib.Core.Path.{_≡_}
 use mathlib.Core.Bool.{Bool, true, false, _&&_, _||_, not}
-use mathlib.Core.List.{List, [], _∷_, _++_, map}
+use mathlib.Core.List.{List, [], _∷_}
 use lib.Dec.{eqb}
 use Rattle.base.specs.Bounded.{anyOf}
-use Rattle.drat.specs.Grammar.{Step, stepOf}
+use Rattle.drat.specs.Grammar.{Step}
 use Rattle.drat.specs.declared.Kind.{Kind}
-use Rattle.scope.specs.Notes.{Note, user+, user-, solver+, solver-, deletes, changes}
-use Rattle.scope.specs.Write.{renameLits}
+use Rattle.scope.specs.Notes.{Note, user+, user-, solver+, solver-, deletes, changes, Held}
 use Rattle.scope.specs.Entries.{Entry, noted, hides}
 
 -- the notes alone
@@ -44,20 +44,37 @@ abbrev pub isEnd : ℕ → Entry → Bool
 isEnd g (noted n) = drops g n
 isEnd g (hides h) = eqb h g
 
--- A U grant to g was noted, and neither D nor an accepted Set mode to Hide came for it later.
+-- Some entry gives g a user, and no entry after it ends that.
 unfoldable pub shownBy : List Entry → ℕ → Bool
 shownBy [] g = false
 shownBy (e ∷ es) g = (isShow g e && not (anyOf (isEnd g) es)) || shownBy es g
 
--- A clause step before its literals are renamed: they are solver literals, or global ones.
+-- A clause as the ledger is told of it: added or deleted, its literals, whether these are solver literals, and all notes up to then.
 pub record Line : Type 0 where
   pub kind : Kind
   pub solverVars : Bool
   pub lits : List ℕ
+  pub notes : List Note
 
-abbrev pub line : Kind → Bool → List ℕ → Line
-line kind solverVars lits = record { kind = kind; solverVars = solverVars; lits = lits }
+abbrev pub line : Kind → Bool → List ℕ → List Note → Line
+line kind solverVars lits notes = record { kind = kind; solverVars = solverVars; lits = lits; notes = notes }
 
--- A solver literal enters, sign kept, under the global that holds its index; a global literal as given.
-abbrev pub entered : (ℕ → ℕ) → Line → Step
-entered holder l = stepOf (l .kind) (renameLits holder (l .solverVars) (l .lits))
+-- What a literal of a line becomes. A solver literal becomes the literal of its holder by the line's notes, positive or negative as it was,
+-- and where no global is its holder, nothing at all. A global literal stays.
+pub data EntersLit (notes : List Note) : Bool → ℕ → ℕ → Type 0 where
+  plus : {s g : ℕ} → Held s g notes → EntersLit notes true (2 * s) (2 * g)
+  minus : {s g : ℕ} → Held s g notes → EntersLit notes true (2 * s + 1) (2 * g + 1)
+  given : {c : ℕ} → EntersLit notes false c c
+
+-- two lists of one length, related one by one
+pub data Pairwise {A B : Type 0} (R : A → B → Type 0) : List A → List B → Type 0 where
+  nil : Pairwise R [] []
+  cons : {x : A} {y : B} {xs : List A} {ys : List B} → R x y → Pairwise R xs ys → Pairwise R (x ∷ xs) (y ∷ ys)
+
+pub record EntersStep (l : Line) (s : Step) : Type 0 where
+  pub kind : s .kind ≡ l .kind
+  pub lits : Pairwise (EntersLit (l .notes) (l .solverVars)) (l .lits) (s .lits)
+
+-- The lines enter as these clause steps.
+abbrev pub Enters : List Line → List Step → Type 0
+Enters ls ss = Pairwise EntersStep ls ss

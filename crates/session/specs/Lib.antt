@@ -1,4 +1,5 @@
 pub mod Ledger
-pub mod Calls
+pub mod Entered
 pub mod Session
+pub mod Made
 pub mod Worked

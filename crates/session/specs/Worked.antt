@@ -1,17 +1,21 @@
--- The worked cases of document 01 ("Worked at the counter"), as a table. K is capacity 8 with user 2 mapped.
-use Prim.Native.Nat.{ℕ}
+-- The worked cases of document 01 ("Worked at the counter"), as a table. K has eight places, and user 2 is mapped in it.
+use Prim.Native.Nat.{ℕ, _+_, _-_, _*_}
 use mathlib.Core.Path.{_≡_}
 use mathlib.Core.Bool.{false, true}
-use mathlib.Core.List.{List, [], _∷_}
+use mathlib.Core.List.{List, [], _∷_, _++_}
 use lib.ListN.{replicate}
+use Rattle.base.specs.Choice.{pick}
 use Rattle.base.specs.Answer.{Answer, accepted, refused}
+use Rattle.drat.specs.Numeral.{decimal, leb128, bytesOf}
 use Rattle.drat.specs.Grammar.{number}
 use Rattle.drat.specs.Filled.{readOf}
+use Rattle.drat.specs.declared.Format.{Format}
 use Rattle.drat.specs.declared.Format.the-variants.{Text, Binary}
 use Rattle.scope.specs.declared.SamplingMode.the-variants.{Sample, Hide}
 use Rattle.scope.specs.declared.Mark.the-variants.{Assumed}
 use Rattle.scope.specs.declared.ProofStep.the-variants.{AtClause, DeleteClause}
 use Rattle.scope.specs.declared.DeleteClauseProof.the-variants.{Redundant}
+use Rattle.scope.specs.Literals.{codeOf, Dimacs}
 use Rattle.scope.specs.Table.{Table, tableOf}
 use Rattle.scope.specs.Notes.{Note, user+, user-, solver-, deletes, changes}
 use Rattle.scope.specs.Open.{openCounts, emptyTable, openOf}
@@ -41,6 +45,21 @@ case n x y = record { number = n; gives = x; says = y }
 abbrev pub Agree : List Case → Type 0
 Agree [] = Unit {0}
 Agree (c ∷ cs) = (c .gives ≡ c .says) × Agree cs
+
+-- A DIMACS number, the literal code that it is the number of, and its bytes: its decimal digits, after a minus if it is negative, with a
+-- blank after them; twice its magnitude, plus 1 if it is negative, in LEB128. `number-bytes` ties them to the writer's.
+abbrev pub plus : ℕ → Dimacs
+plus n = record { negative = false; magnitude = n }
+
+abbrev pub minus : ℕ → Dimacs
+minus n = record { negative = true; magnitude = n }
+
+abbrev pub literalOf : Dimacs → ℕ
+literalOf d = codeOf (d .magnitude - 1) (pick (d .negative) 1 0)
+
+abbrev pub dimacsBytes : Format → Dimacs → List ℕ
+dimacsBytes Text d = pick (d .negative) (45 ∷ []) [] ++ (bytesOf decimal (d .magnitude) ++ 32 ∷ [])
+dimacsBytes Binary d = bytesOf leb128 (2 * d .magnitude + pick (d .negative) 1 0)
 
 -- the tables of the cases
 abbrev pub K : Table
@@ -83,10 +102,14 @@ cases =
     ∷ case 6 (bytes (writeOf Binary granted2 (AtClause false) true (1 ∷ []) [] 3 .bytes)) (bytes (0x61 ∷ 0x07 ∷ 0x00 ∷ []))
     ∷ case 7 (bytes (writeOf Text K (DeleteClause Redundant) true [] [] 4 .bytes)) (bytes (100 ∷ 32 ∷ 48 ∷ 10 ∷ []))
     ∷ case 7 (bytes (writeOf Binary K (DeleteClause Redundant) true [] [] 2 .bytes)) (bytes (0x64 ∷ 0x00 ∷ []))
-    ∷ case 8 (bytes (number Binary 124)) (bytes (0x7e ∷ []))
-    ∷ case 8 (bytes (number Binary 126)) (bytes (0x80 ∷ 0x01 ∷ []))
-    ∷ case 8 (bytes (number Binary 8190)) (bytes (0x80 ∷ 0x40 ∷ []))
-    ∷ case 8 (bytes (number Binary 8191)) (bytes (0x81 ∷ 0x40 ∷ []))
+    ∷ case 8 (bytes (number Binary (literalOf (plus 63)))) (bytes (0x7e ∷ []))
+    ∷ case 8 (bytes (number Binary (literalOf (plus 64)))) (bytes (0x80 ∷ 0x01 ∷ []))
+    ∷ case 8 (bytes (number Binary (literalOf (plus 4096)))) (bytes (0x80 ∷ 0x40 ∷ []))
+    ∷ case 8 (bytes (number Binary (literalOf (minus 4096)))) (bytes (0x81 ∷ 0x40 ∷ []))
+    ∷ case 8 (bytes (number Text (literalOf (plus 63)))) (bytes (54 ∷ 51 ∷ 32 ∷ []))
+    ∷ case 8 (bytes (number Text (literalOf (plus 64)))) (bytes (54 ∷ 52 ∷ 32 ∷ []))
+    ∷ case 8 (bytes (number Text (literalOf (plus 4096)))) (bytes (52 ∷ 48 ∷ 57 ∷ 54 ∷ 32 ∷ []))
+    ∷ case 8 (bytes (number Text (literalOf (minus 4096)))) (bytes (45 ∷ 52 ∷ 48 ∷ 57 ∷ 54 ∷ 32 ∷ []))
     ∷ case 9 (answer (openOf (lists 0 0) .answer)) (answer (refused 10 []))
     ∷ case 9 (answer (openOf (lists 4097 4097) .answer)) (answer (refused 10 []))
     ∷ case 9 (answer (openOf (lists 1 1) .answer)) (answer (accepted []))
@@ -95,6 +118,6 @@ cases =
     ∷ case 10 (answer (newUserOf full 3 .answer)) (answer (refused 5 []))
     ∷ case 11 (answer (readOf Text (49 ∷ 32 ∷ 48 ∷ 10 ∷ 50 ∷ 32 ∷ 48 ∷ []) 9 9 9 .answer)) (answer (refused 13 (4 ∷ [])))
     ∷ case 11 (answer (readOf Text (48 ∷ 49 ∷ 32 ∷ 48 ∷ 10 ∷ []) 9 9 9 .answer)) (answer (refused 13 (0 ∷ [])))
-    ∷ case 12 (notes (setModeOf granted2 2 Sample 0 .notes)) (notes [])
+    ∷ case 12 (answer (setModeOf granted2 2 Sample 0 .answer)) (answer (accepted (0 ∷ [])))
     ∷ case 12 (answer (setModeOf assumed2 2 Sample 0 .answer)) (answer (refused 7 []))
     ∷ []
