@@ -2,7 +2,8 @@
 use std::{hint::black_box, time::Duration};
 
 use hintzobar::{
-    first_step, read, write_clause, write_proof, Format, Global, Lit, Lits, Made, Mark, Mode, Name, Refusal, Solver, Step, Table, User,
+    first_step, read, write_clause, write_proof, Format, Global, Lit, Lits, Made, Mark, Mode, Name, Refusal, Solver, Step, Table,
+    User,
 };
 use varisat_unchanged::drive::{
     self,

@@ -68,7 +68,10 @@ fn main() {
     };
     tally.print();
     println!("{} sessions, {} clause steps read back", tally.sessions, tally.steps_read);
-    println!("{} calls, {} of them answered by varisat too, {} panics of varisat on refused calls", tally.calls, tally.compared, tally.panics);
+    println!(
+        "{} calls, {} of them answered by varisat too, {} panics of varisat on refused calls",
+        tally.calls, tally.compared, tally.panics
+    );
     let sides = if cfg!(feature = "library") { "document 01, varisat and the library" } else { "document 01 and varisat" };
     match verdict {
         Ok(()) => println!("{} agree: 0 disagreements ({:.0} s)", sides, began.elapsed().as_secs_f64()),

@@ -154,7 +154,11 @@ fn solver_lits(rng: &mut Rng, t: &Table, wild: u64, longest: usize) -> Vec<u32> 
     let held: Vec<u32> = (0..t.counts.solver).filter(|&s| !t.not_held(s)).collect();
     (0..n)
         .map(|_| {
-            let s = if held.is_empty() || rng.one_in(wild) { index(rng, wild, t.counts.solver, t.counts.capacity) } else { rng.of(&held) };
+            let s = if held.is_empty() || rng.one_in(wild) {
+                index(rng, wild, t.counts.solver, t.counts.capacity)
+            } else {
+                rng.of(&held)
+            };
             signed(rng, s)
         })
         .collect()
@@ -213,11 +217,8 @@ fn proof_step(rng: &mut Rng, t: &Table) -> ProofStep {
 fn step_parts(rng: &mut Rng, t: &Table, style: &Style) -> (ProofStep, bool, Vec<u32>, Vec<u64>) {
     let step = proof_step(rng, t);
     let solver_vars = !rng.one_in(3);
-    let lits = if solver_vars {
-        solver_lits(rng, t, style.wild, style.longest)
-    } else {
-        global_lits(rng, t, style.wild, style.longest)
-    };
+    let lits =
+        if solver_vars { solver_lits(rng, t, style.wild, style.longest) } else { global_lits(rng, t, style.wild, style.longest) };
     let matched = step == ProofStep::UnitClauses && !rng.one_in(6);
     let count = if matched { lits.len() } else { rng.index(5) };
     let hashes = (0..count).map(|_| rng.next()).collect();

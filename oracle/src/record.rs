@@ -16,8 +16,8 @@ const MOST_LIST: usize = 4_100;
 const MOST_SLICE: usize = 8_200;
 
 const NAMES: [&str; 15] = [
-    "lookup", "map", "newuser", "pose", "grant", "setmode", "observe", "mark", "assign", "remove", "sweep", "simplify", "rename", "write",
-    "model",
+    "lookup", "map", "newuser", "pose", "grant", "setmode", "observe", "mark", "assign", "remove", "sweep", "simplify", "rename",
+    "write", "model",
 ];
 
 #[derive(Default)]
