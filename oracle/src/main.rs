@@ -1,7 +1,21 @@
 //! Compares document 01's calls: varisat's own functions, a plain reading of the document, and the proved library.
+#![deny(missing_docs)]
+
+mod call;
+mod compare;
+mod ledger;
+#[cfg(feature = "library")]
+mod library;
+mod random;
+mod reachable;
+mod reading;
+mod record;
+mod run;
+
 use std::{env, panic, process, time::Instant};
 
-use oracle::{compare::Tally, random::Rng, reachable, record, run};
+use compare::Tally;
+use random::Rng;
 
 const USAGE: &str = "usage: oracle sample [SEED]        about a minute of everything
        oracle calls N [SEED]       N calls in random sessions

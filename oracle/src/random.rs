@@ -1,6 +1,6 @@
 //! Random calls, random sound tables and damaged ones, all from a seed.
 use crate::call::{Call, Format, Mark, ProofStep, ASKED, CAUSES, MARKS};
-use crate::reading::{get, named, Table, FRESH, MOST_LITERALS};
+use crate::reading::{Table, FRESH, MOST_LITERALS};
 
 /// xorshift64*
 pub struct Rng(u64);
@@ -359,9 +359,4 @@ pub fn damaged(rng: &mut Rng, t: &Table) -> Table {
 
 fn damaged_mark(rng: &mut Rng, mark: u32, capacity: u32) -> u32 {
     [mark.wrapping_sub(1), mark + 1, capacity, capacity + 1, 0, u32::MAX][rng.index(6)]
-}
-
-/// The held solver indices with their globals, by the table.
-pub fn held(t: &Table) -> Vec<(u32, u32)> {
-    (0..t.counts.solver).filter_map(|s| named(get(&t.global_from_solver, s)).map(|g| (s, g))).collect()
 }
