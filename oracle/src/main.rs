@@ -6,6 +6,7 @@ mod compare;
 mod ledger;
 #[cfg(feature = "library")]
 mod library;
+mod pinned;
 mod random;
 mod reachable;
 mod reading;
