@@ -12,7 +12,7 @@ use crate::{
 };
 
 const BUDGET: Duration = Duration::from_millis(900);
-pub const MEGABYTE: usize = 1 << 20;
+const MEGABYTE: usize = 1 << 20;
 
 /// The formats with their names and what the writer's goal is in each.
 pub const FORMATS: [(Format, &str, f64); 2] = [(Format::Text, "text", 0.8), (Format::Binary, "binary", 0.5)];
@@ -27,11 +27,18 @@ pub struct Clauses {
     /// The same as the reader fills it.
     ends: Vec<u64>,
     kinds: Vec<u8>,
+    /// How many bytes they take.
+    length: usize,
 }
 
 impl Clauses {
     pub fn none(format: Format) -> Clauses {
-        Clauses { format, lits: vec![], rust_lits: vec![], parts: vec![], ends: vec![], kinds: vec![] }
+        Clauses { format, lits: vec![], rust_lits: vec![], parts: vec![], ends: vec![], kinds: vec![], length: 0 }
+    }
+
+    /// Whether there is 1 MB of them.
+    pub fn full(&self) -> bool {
+        self.length >= MEGABYTE
     }
 
     pub fn push(&mut self, lits: &[Lit<Global>], delete: bool) {
@@ -40,6 +47,8 @@ impl Clauses {
         self.parts.push((start, self.lits.len(), delete));
         self.ends.push(self.lits.len() as u64);
         self.kinds.push(delete.into());
+        let mut room = vec![0; self.format.room_for(lits.len())];
+        self.length += hintzobar::write_clause(self.format, delete, lits, 0, lits.len(), &mut room, 0).unwrap();
     }
 
     /// When there are no more to come.
@@ -48,15 +57,9 @@ impl Clauses {
         self
     }
 
-    /// Room for all of them.
-    fn room(&self) -> Vec<u8> {
-        vec![0; self.format.room_for(self.lits.len()) + 8 * self.parts.len()]
-    }
-
     pub fn bytes(&self) -> Vec<u8> {
-        let mut bytes = self.room();
-        let end = library_whole(self, &mut bytes);
-        bytes.truncate(end);
+        let mut bytes = vec![0; self.length];
+        assert_eq!(library_whole(self, &mut bytes), self.length);
         bytes
     }
 }
@@ -65,13 +68,10 @@ impl Clauses {
 fn clauses(format: Format, length: usize, names: u32) -> Clauses {
     let mut random = Random::new(length as u64);
     let mut all = Clauses::none(format);
-    let mut room = vec![0; format.room_for(length)];
-    let mut bytes = 0;
-    while bytes < MEGABYTE {
+    while !all.full() {
         let lits: Vec<_> = (0..length).map(|_| Lit::from_code(random.below(2 * names))).collect();
         let delete = random.below(3) == 0;
         all.push(&lits, delete);
-        bytes += hintzobar::write_clause(format, delete, &lits, 0, length, &mut room, 0).unwrap();
     }
     all.finish()
 }
@@ -137,7 +137,7 @@ pub type Rust = fn(&Clauses, &mut Target);
 
 /// Nanoseconds of the library, the Rust's writer to its own target, and to a `Vec` in one loop. All write the same bytes.
 pub fn time_writers(all: &Clauses, library: Library, rust: Rust) -> [f64; 3] {
-    let mut out = all.room();
+    let mut out = vec![0; all.format.room_for(all.lits.len()) + 8 * all.parts.len()];
     let kept = Kept::default();
     let mut target: Target = io::BufWriter::new(Box::new(kept.clone()));
     let mut vec = vec![];
