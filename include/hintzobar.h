@@ -10,6 +10,8 @@
  * A list is a pointer and its length in elements. A pointer is aligned and not null, also where the length is 0, and a list that a call may
  * change overlaps no other list lent to it.
  * An index, a literal code (2 * index, plus 1 if negative) and a length may be any number, and a list may hold any words.
+ * Stack: hz_simplify takes 64 KB beside the caller's own and hz_write 32 KB, whatever the clause, the others a few. A thread of 64 KB is too
+ * small for hz_simplify; one of 128 KB is enough for any call.
  *
  * Every answer begins with `refusal`: 0 if the call was accepted, else one of the numbers below. A refused call changes no memory, its
  * counts are those given, and its other fields are 0 unless said otherwise. After an accepted call the table is the same six lists with
@@ -44,7 +46,7 @@ enum hz_refusal {
     HZ_UNMATCHED = 14        /* units and hashes differ in number */
 };
 
-/* A number for a mode, a mark, a format, a step kind or a cause that stands for none. Nothing is done. */
+/* A number for a mode, a mark, a format, a step kind, a cause or the kind of one clause that stands for none. Nothing is done. */
 #define HZ_UNKNOWN UINT32_C(0xFFFFFFFF)
 
 enum hz_mode { HZ_SAMPLE = 0, HZ_WITNESS = 1, HZ_HIDE = 2 };
@@ -52,6 +54,10 @@ enum hz_mark { HZ_USED = 0, HZ_ASSUME = 1, HZ_RELEASE = 2 };
 enum hz_format { HZ_TEXT = 0, HZ_BINARY = 1 };
 enum hz_cause { HZ_REDUNDANT = 0, HZ_SATISFIED = 1, HZ_SIMPLIFIED = 2 };
 enum hz_made { HZ_KEPT = 0, HZ_DROPPED = 1, HZ_SHORTENED = 2, HZ_MADE_BINARY = 3 };
+
+/* What a line of a proof does with its clause: the `kind` of hz_write_clause, and the kinds that hz_read fills and hz_write_proof takes. These
+ * are no step kinds (hz_kind). */
+enum hz_clause { HZ_ADD = 0, HZ_DELETE = 1 };
 
 /* The kinds of step, with what each carries of its own. A name is its index + 1, or 0 where it is withdrawn. */
 enum hz_kind {
@@ -239,18 +245,18 @@ hz_renamed hz_rename(hz_counts c, HZ_TABLE_CONST, hz_step step, bool solver_vars
 hz_written hz_write(hz_counts c, HZ_TABLE_CONST, uint32_t format, hz_step step, bool solver_vars, const uint32_t *lits,
                     size_t lits_len, const uint64_t *hashes, size_t hashes_len, uint8_t *proof, size_t proof_len);
 
-/* Write one clause of global literals from lits[a..b] at proof[at..], an add or with `kind` 1 a delete, with no table: 3, 2. The answer's
- * `bytes` is the place after it. */
+/* Write one clause of global literals from lits[a..b] at proof[at..], with no table; `kind` is an enum hz_clause: 3, 2. The answer's `bytes` is
+ * the place after it. */
 hz_written hz_write_clause(uint32_t format, uint32_t kind, const uint32_t *lits, size_t lits_len, size_t a, size_t b, uint8_t *proof,
                            size_t proof_len, size_t at);
 
 /* Write a whole proof of global literals from the lists that `hz_read` fills, from the start of `proof` on, with no table: 3, 2. 3 where the lists
  * are no proof: a code of 8,192 or more, not as many ends as kinds, an end below the one before it, a last end that is not the number of
- * codes, a kind above 1. */
+ * codes, a kind that is no enum hz_clause. */
 hz_written hz_write_proof(uint32_t format, const uint32_t *codes, size_t codes_len, const uint64_t *ends, size_t ends_len,
                           const uint8_t *kinds, size_t kinds_len, uint8_t *proof, size_t proof_len);
 
-/* Read a proof: literal codes, each step's end among them, and kinds (0 add, 1 delete): 13, 2. The first step alone: 13. */
+/* Read a proof: literal codes, each step's end among them, and kinds (enum hz_clause): 13, 2. The first step alone: 13. */
 hz_reading hz_read(uint32_t format, const uint8_t *bytes, size_t bytes_len, uint32_t *codes, size_t codes_len, uint64_t *ends,
                    size_t ends_len, uint8_t *kinds, size_t kinds_len);
 hz_first hz_first_step(uint32_t format, const uint8_t *bytes, size_t bytes_len);

@@ -14,35 +14,66 @@ use crate::{
 const BUDGET: Duration = Duration::from_millis(900);
 const MEGABYTE: usize = 1 << 20;
 
+/// The formats with their names and what the writer's goal is in each.
+pub const FORMATS: [(Format, &str, f64); 2] = [(Format::Text, "text", 0.8), (Format::Binary, "binary", 0.5)];
+
 /// Clauses one after another, as both sides take them.
-struct Clauses {
+pub struct Clauses {
     format: Format,
-    lits: Vec<Lit<Global>>,
+    pub lits: Vec<Lit<Global>>,
     rust_lits: Vec<measure::Lit>,
     /// Start and end of each clause among the literals, and whether it is deleted.
     parts: Vec<(usize, usize, bool)>,
     /// The same as the reader fills it.
     ends: Vec<u64>,
     kinds: Vec<u8>,
+    /// How many bytes they take.
+    length: usize,
+}
+
+impl Clauses {
+    pub fn none(format: Format) -> Clauses {
+        Clauses { format, lits: vec![], rust_lits: vec![], parts: vec![], ends: vec![], kinds: vec![], length: 0 }
+    }
+
+    /// Whether there is 1 MB of them.
+    pub fn full(&self) -> bool {
+        self.length >= MEGABYTE
+    }
+
+    pub fn push(&mut self, lits: &[Lit<Global>], delete: bool) {
+        let start = self.lits.len();
+        self.lits.extend(lits);
+        self.parts.push((start, self.lits.len(), delete));
+        self.ends.push(self.lits.len() as u64);
+        self.kinds.push(delete.into());
+        let mut room = vec![0; self.format.room_for(lits.len())];
+        self.length += hintzobar::write_clause(self.format, delete, lits, 0, lits.len(), &mut room, 0).unwrap();
+    }
+
+    /// When there are no more to come.
+    pub fn finish(mut self) -> Clauses {
+        self.rust_lits = measure::lits(self.lits.iter().map(|lit| lit.code()));
+        self
+    }
+
+    pub fn bytes(&self) -> Vec<u8> {
+        let mut bytes = vec![0; self.length];
+        assert_eq!(library_whole(self, &mut bytes), self.length);
+        bytes
+    }
 }
 
 /// Clauses of this many literals under random names until they fill 1 MB; every third is a delete.
 fn clauses(format: Format, length: usize, names: u32) -> Clauses {
     let mut random = Random::new(length as u64);
-    let mut all = Clauses { format, lits: vec![], rust_lits: vec![], parts: vec![], ends: vec![], kinds: vec![] };
-    let mut room = vec![0; format.room_for(length)];
-    let mut bytes = 0;
-    while bytes < MEGABYTE {
-        let start = all.lits.len();
-        all.lits.extend((0..length).map(|_| Lit::from_code(random.below(2 * names))));
+    let mut all = Clauses::none(format);
+    while !all.full() {
+        let lits: Vec<_> = (0..length).map(|_| Lit::from_code(random.below(2 * names))).collect();
         let delete = random.below(3) == 0;
-        all.parts.push((start, all.lits.len(), delete));
-        all.ends.push(all.lits.len() as u64);
-        all.kinds.push(delete.into());
-        bytes += hintzobar::write_clause(format, delete, &all.lits, start, all.lits.len(), &mut room, 0).unwrap();
+        all.push(&lits, delete);
     }
-    all.rust_lits = measure::lits(all.lits.iter().map(|lit| lit.code()));
-    all
+    all.finish()
 }
 
 /// A sink that keeps the bytes.
@@ -64,7 +95,7 @@ impl io::Write for Kept {
 
 /// A whole proof in one call.
 #[inline(never)]
-fn library_whole(all: &Clauses, out: &mut [u8]) -> usize {
+pub fn library_whole(all: &Clauses, out: &mut [u8]) -> usize {
     hintzobar::write_proof(all.format, &all.lits, &all.ends, &all.kinds, out).unwrap()
 }
 
@@ -78,7 +109,7 @@ fn library_clauses(all: &Clauses, out: &mut [u8]) -> usize {
     at
 }
 
-fn rust_whole(all: &Clauses, target: &mut Target) {
+pub fn rust_whole(all: &Clauses, target: &mut Target) {
     measure::proof(rust_format(all.format), target, &all.rust_lits, &all.parts);
 }
 
@@ -101,11 +132,11 @@ fn rust_format(format: Format) -> measure::Format {
     }
 }
 
-type Library = fn(&Clauses, &mut [u8]) -> usize;
-type Rust = fn(&Clauses, &mut Target);
+pub type Library = fn(&Clauses, &mut [u8]) -> usize;
+pub type Rust = fn(&Clauses, &mut Target);
 
 /// Nanoseconds of the library, the Rust's writer to its own target, and to a `Vec` in one loop. All write the same bytes.
-fn time_writers(all: &Clauses, library: Library, rust: Rust) -> [f64; 3] {
+pub fn time_writers(all: &Clauses, library: Library, rust: Rust) -> [f64; 3] {
     let mut out = vec![0; all.format.room_for(all.lits.len()) + 8 * all.parts.len()];
     let kept = Kept::default();
     let mut target: Target = io::BufWriter::new(Box::new(kept.clone()));
@@ -136,7 +167,7 @@ fn time_writers(all: &Clauses, library: Library, rust: Rust) -> [f64; 3] {
 fn writer_table(report: &Report, title: &str, library: Library, rust: Rust, goals: bool) {
     let columns = ["format", "literals", "names", "library, ns a literal", "Rust", "ratio", "goal", "Rust to a `Vec`", "ratio"];
     report.table(title, &columns);
-    for (format, name, most) in [(Format::Text, "text", 0.8), (Format::Binary, "binary", 0.5)] {
+    for (format, name, most) in FORMATS {
         for length in [3, 30, 1000] {
             for names in [4096, 60] {
                 let all = clauses(format, length, names);
@@ -196,7 +227,7 @@ fn same_reading(format: Format, bytes: &[u8], lent: &mut Lent, proof: &mut Proof
     }
 }
 
-fn time_readers(format: Format, bytes: &[u8]) -> [f64; 2] {
+pub fn time_readers(format: Format, bytes: &[u8]) -> [f64; 2] {
     let mut lent = lent(bytes);
     let mut proof = Proof::default();
     same_reading(format, bytes, &mut lent, &mut proof);
@@ -215,13 +246,10 @@ fn spoilt(format: Format, bytes: &[u8], at: usize) -> Vec<u8> {
 
 pub fn readers(report: &Report) {
     report.table("Reader, 1 MB", &["format", "literals", "names", "input", "library", "plain reader", "ratio", "goal"]);
-    for (format, name) in [(Format::Text, "text"), (Format::Binary, "binary")] {
+    for (format, name, _) in FORMATS {
         for length in [3, 30, 1000] {
             for names in [4096, 60] {
-                let all = clauses(format, length, names);
-                let mut bytes = vec![0; format.room_for(all.lits.len()) + 8 * all.parts.len()];
-                let end = library_whole(&all, &mut bytes);
-                bytes.truncate(end);
+                let bytes = clauses(format, length, names).bytes();
                 let case = [name.to_string(), length.to_string(), names.to_string()];
                 read_rows(report, format, &case, &bytes, length == 30 && names == 4096);
             }

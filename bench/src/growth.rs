@@ -35,11 +35,14 @@ fn time_growth(call: fn(u32) -> Option<Call>, start: fn(u32) -> Table) -> [f64; 
     race(BUDGET, sides).map(|ns| ns / 4096.0)
 }
 
+/// A row's name, its call at each capacity, and the table that it starts from.
+type Row = (&'static str, fn(u32) -> Option<Call>, fn(u32) -> Table);
+
 pub fn table(report: &Report) {
     let mut columns = vec!["call", "64", "128", "256", "512", "1,024", "2,048", "4,096"];
     columns.extend(["4,096 to 64", "goal"]);
     report.table("Growth, nanoseconds for each index of the capacity", &columns);
-    let rows: [(&str, fn(u32) -> Option<Call>, fn(u32) -> Table); 8] = [
+    let rows: [Row; 8] = [
         ("Soundness, full", |_| None, tables::full),
         ("Soundness, shuffled", |_| None, tables::shuffled),
         ("Map with a gap to the capacity", |n| Some(Call::Map(n - 1)), tables::open),

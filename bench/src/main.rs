@@ -1,23 +1,30 @@
 //! Times the proved library, through the safe crate, against varisat's own functions and plain Rust loops. Both sides of every pair are first
 //! seen to give the same; then they run in turn, and the least time of each is taken.
+#![deny(missing_docs)]
+
 mod bulk;
 mod codec;
 mod growth;
 mod lent;
 mod plain;
 mod random;
+mod real;
 mod report;
 mod single;
 mod sound;
 mod tables;
 mod timing;
 
+/// A part of the run, and its name on the command line.
+type Part = (&'static str, fn(&report::Report));
+
 /// All parts, or those named on the command line.
 fn main() {
     let report = report::Report::default();
-    let parts: [(&str, fn(&report::Report)); 6] = [
+    let parts: [Part; 7] = [
         ("writers", codec::writers),
         ("readers", codec::readers),
+        ("real", real::proofs),
         ("sound", sound::tables),
         ("bulk", bulk::calls),
         ("single", single::table),

@@ -2,7 +2,8 @@
 use std::{hint::black_box, time::Duration};
 
 use hintzobar::{
-    first_step, read, write_clause, write_proof, Format, Global, Lit, Lits, Made, Mark, Mode, Name, Refusal, Solver, Step, Table, User,
+    first_step, read, write_clause, write_proof, Format, Global, Lit, Lits, Made, Mark, Mode, Name, Refusal, Solver, Step, Table,
+    User,
 };
 use varisat_unchanged::drive::{
     self,
@@ -93,8 +94,12 @@ fn done(answer: Result<(), Refusal>) -> u32 {
     0
 }
 
-fn none(_: ()) -> u32 {
-    0
+/// The same of varisat's functions.
+macro_rules! none {
+    ($call:expr) => {{
+        $call;
+        0
+    }};
 }
 
 fn write(table: &Table, lent: &mut Lent, format: Format, i: u32) -> u32 {
@@ -179,14 +184,14 @@ fn model(table: &mut Table, lent: &mut Lent, _: u32) -> u32 {
 }
 
 fn modes_and_marks() -> Vec<Row> {
-    let sweep = change("Sweep, nothing to do", busy, |t, l, _| done(t.sweep(&mut l.notes)), |r, _| none(r.unit_simplify()));
+    let sweep = change("Sweep, nothing to do", busy, |t, l, _| done(t.sweep(&mut l.notes)), |r, _| none!(r.unit_simplify()));
     vec![
         change("Set mode, to Witness", tables::half, |t, l, i| set_mode(t, l, i, Mode::Witness), |r, i| word(r.set_mode(i, 1))),
         change("Set mode, to Hide", tables::half, |t, l, i| set_mode(t, l, i, Mode::Hide), |r, i| word(r.set_mode(i, 2))),
         ask("Observe, nothing hidden", observe, Some(|r, _| r.observe().len() as u32)),
-        change("Mark, used", tables::half, |t, _, i| done(t.mark(Mark::Used, Solver(i))), |r, i| none(r.used(i))),
-        change("Assign", tables::half, |t, _, i| done(t.assign(Lit::from_code(6 * i))), |r, i| none(r.assign(6 * i))),
-        change("Remove", tables::half, |t, l, i| done(t.remove(Solver(3 * i), &mut l.notes)), |r, i| none(r.remove(3 * i))),
+        change("Mark, used", tables::half, |t, _, i| done(t.mark(Mark::Used, Solver(i))), |r, i| none!(r.used(i))),
+        change("Assign", tables::half, |t, _, i| done(t.assign(Lit::from_code(6 * i))), |r, i| none!(r.assign(6 * i))),
+        change("Remove", tables::half, |t, l, i| done(t.remove(Solver(3 * i), &mut l.notes)), |r, i| none!(r.remove(3 * i))),
         Row { repeats: 20, ..sweep },
         ask("Model", model, Some(|r, _| r.model().len() as u32)),
     ]
@@ -202,7 +207,7 @@ fn lines() -> Vec<Row> {
         ask(
             "Write, 3 literals, text",
             |t, l, i| write(t, l, Format::Text, i),
-            Some(|r, i| none(r.write(&codes(i).map(measure::lit)))),
+            Some(|r, i| none!(r.write(&codes(i).map(measure::lit)))),
         ),
         ask(SIMPLIFY, |t, l, i| simplify(t, l, i), None),
         ask("Soundness", |t, _, _| t.is_sound() as u32, None),

@@ -52,12 +52,15 @@ fn same_answers(table: &Table) {
     }
 }
 
+/// A table of each capacity, and what it is called.
+type Shape = (&'static str, fn(u32) -> Table);
+
 pub fn tables(report: &Report) {
     same_answers(&tables::half(64));
     same_answers(&tables::shuffled(64));
     let columns = ["table", "capacity", "library", "plain loop by index", "ratio", "by iterators", "ratio", "goal"];
     report.table("Soundness, one call", &columns);
-    let shapes: [(&str, fn(u32) -> Table); 4] =
+    let shapes: [Shape; 4] =
         [("open", tables::open), ("half", tables::half), ("full", tables::full), ("shuffled", tables::shuffled)];
     for (name, shape) in shapes {
         for capacity in [64, 512, 4096] {

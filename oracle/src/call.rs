@@ -81,8 +81,8 @@ pub enum Call {
 }
 
 pub const KINDS: [&str; 15] = [
-    "Lookup", "Map", "New user", "Pose", "Grant", "Set mode", "Observe", "Mark", "Assign", "Remove", "Sweep", "Simplify", "Rename",
-    "Write", "Model",
+    "Lookup", "Map", "New user", "Pose", "Grant", "Set mode", "Observe", "Mark", "Assign", "Remove", "Sweep", "Simplify",
+    "Rename", "Write", "Model",
 ];
 
 impl Call {

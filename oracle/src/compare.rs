@@ -24,10 +24,13 @@ pub struct Tally {
 
 impl Tally {
     pub fn print(&self) {
-        println!("{:<10}{}", "", (0..15).map(|n| format!("{:>9}", if n == 0 { "accepted".into() } else { n.to_string() })).collect::<String>());
+        println!(
+            "{:<10}{}",
+            "",
+            (0..15).map(|n| format!("{:>9}", if n == 0 { "accepted".into() } else { n.to_string() })).collect::<String>()
+        );
         for (kind, row) in KINDS.iter().zip(&self.by) {
-            let cells: String =
-                row.iter().map(|&n| if n == 0 { format!("{:>9}", "") } else { format!("{:>9}", n) }).collect();
+            let cells: String = row.iter().map(|&n| if n == 0 { format!("{:>9}", "") } else { format!("{:>9}", n) }).collect();
             println!("{:<10}{}", kind, cells.trim_end());
         }
     }
@@ -210,7 +213,13 @@ impl std::fmt::Display for Disagreement {
 }
 
 /// A random session from the given table, or from a freshly opened one; at its end the ledger is closed.
-pub fn random_session(rng: &mut Rng, from: Option<&Table>, capacity: u32, calls: u64, tally: &mut Tally) -> Result<(), Box<Disagreement>> {
+pub fn random_session(
+    rng: &mut Rng,
+    from: Option<&Table>,
+    capacity: u32,
+    calls: u64,
+    tally: &mut Tally,
+) -> Result<(), Box<Disagreement>> {
     let format = if rng.flag() { Format::Text } else { Format::Binary };
     let mut session = match from {
         Some(table) => Session::load(format, table),

@@ -1,9 +1,7 @@
 //! The proved library, through the safe crate.
 use crate::call::{Asked, Call, Cause, Format, Mark, ProofStep};
 use crate::reading::{drat::Filled, Counts, Outcome, Table};
-use hintzobar::{
-    Global, Lit, Lits, Lists, Made, Mode, Name, Notes, Refusal, Solver, Step, User,
-};
+use hintzobar::{Global, Lists, Lit, Lits, Made, Mode, Name, Notes, Refusal, Solver, Step, User};
 
 /// What lent memory holds before a call, so that words past what was filled are seen to stay.
 const BEFORE: u32 = 0xa5a5_a5a5;

@@ -1,7 +1,22 @@
 //! Compares document 01's calls: varisat's own functions, a plain reading of the document, and the proved library.
+#![deny(missing_docs)]
+
+mod call;
+mod compare;
+mod ledger;
+#[cfg(feature = "library")]
+mod library;
+mod pinned;
+mod random;
+mod reachable;
+mod reading;
+mod record;
+mod run;
+
 use std::{env, panic, process, time::Instant};
 
-use oracle::{compare::Tally, random::Rng, reachable, record, run};
+use compare::Tally;
+use random::Rng;
 
 const USAGE: &str = "usage: oracle sample [SEED]        about a minute of everything
        oracle calls N [SEED]       N calls in random sessions
@@ -68,7 +83,10 @@ fn main() {
     };
     tally.print();
     println!("{} sessions, {} clause steps read back", tally.sessions, tally.steps_read);
-    println!("{} calls, {} of them answered by varisat too, {} panics of varisat on refused calls", tally.calls, tally.compared, tally.panics);
+    println!(
+        "{} calls, {} of them answered by varisat too, {} panics of varisat on refused calls",
+        tally.calls, tally.compared, tally.panics
+    );
     let sides = if cfg!(feature = "library") { "document 01, varisat and the library" } else { "document 01 and varisat" };
     match verdict {
         Ok(()) => println!("{} agree: 0 disagreements ({:.0} s)", sides, began.elapsed().as_secs_f64()),

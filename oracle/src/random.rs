@@ -1,6 +1,6 @@
 //! Random calls, random sound tables and damaged ones, all from a seed.
 use crate::call::{Call, Format, Mark, ProofStep, ASKED, CAUSES, MARKS};
-use crate::reading::{get, named, Table, FRESH, MOST_LITERALS};
+use crate::reading::{Table, FRESH, MOST_LITERALS};
 
 /// xorshift64*
 pub struct Rng(u64);
@@ -154,7 +154,11 @@ fn solver_lits(rng: &mut Rng, t: &Table, wild: u64, longest: usize) -> Vec<u32> 
     let held: Vec<u32> = (0..t.counts.solver).filter(|&s| !t.not_held(s)).collect();
     (0..n)
         .map(|_| {
-            let s = if held.is_empty() || rng.one_in(wild) { index(rng, wild, t.counts.solver, t.counts.capacity) } else { rng.of(&held) };
+            let s = if held.is_empty() || rng.one_in(wild) {
+                index(rng, wild, t.counts.solver, t.counts.capacity)
+            } else {
+                rng.of(&held)
+            };
             signed(rng, s)
         })
         .collect()
@@ -213,11 +217,8 @@ fn proof_step(rng: &mut Rng, t: &Table) -> ProofStep {
 fn step_parts(rng: &mut Rng, t: &Table, style: &Style) -> (ProofStep, bool, Vec<u32>, Vec<u64>) {
     let step = proof_step(rng, t);
     let solver_vars = !rng.one_in(3);
-    let lits = if solver_vars {
-        solver_lits(rng, t, style.wild, style.longest)
-    } else {
-        global_lits(rng, t, style.wild, style.longest)
-    };
+    let lits =
+        if solver_vars { solver_lits(rng, t, style.wild, style.longest) } else { global_lits(rng, t, style.wild, style.longest) };
     let matched = step == ProofStep::UnitClauses && !rng.one_in(6);
     let count = if matched { lits.len() } else { rng.index(5) };
     let hashes = (0..count).map(|_| rng.next()).collect();
@@ -358,9 +359,4 @@ pub fn damaged(rng: &mut Rng, t: &Table) -> Table {
 
 fn damaged_mark(rng: &mut Rng, mark: u32, capacity: u32) -> u32 {
     [mark.wrapping_sub(1), mark + 1, capacity, capacity + 1, 0, u32::MAX][rng.index(6)]
-}
-
-/// The held solver indices with their globals, by the table.
-pub fn held(t: &Table) -> Vec<(u32, u32)> {
-    (0..t.counts.solver).filter_map(|s| named(get(&t.global_from_solver, s)).map(|g| (s, g))).collect()
 }

@@ -58,7 +58,8 @@ fn telling(capacity: u32) -> Vec<Call> {
             calls.push(Call::Simplify { lits: lits.clone(), redundant, outs: ALL, room: ALL });
         }
     }
-    let steps = [ProofStep::AtClause(false), ProofStep::UnitClauses, ProofStep::DeleteClause(Cause::Satisfied), ProofStep::AddClause];
+    let steps =
+        [ProofStep::AtClause(false), ProofStep::UnitClauses, ProofStep::DeleteClause(Cause::Satisfied), ProofStep::AddClause];
     for lits in lists(2, 2 * capacity + 1) {
         for step in steps {
             for solver_vars in [false, true] {

@@ -221,9 +221,7 @@ impl Table {
 
 /// One takes i to j exactly where the other takes j to i.
 fn inverse(a: &[u32], b: &[u32]) -> bool {
-    let back = |a: &[u32], b: &[u32]| {
-        (1..).zip(a).all(|(back, &word)| word == 0 || get(b, word - 1) == back)
-    };
+    let back = |a: &[u32], b: &[u32]| (1..).zip(a).all(|(back, &word)| word == 0 || get(b, word - 1) == back);
     back(a, b) && back(b, a)
 }
 

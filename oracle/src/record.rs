@@ -4,6 +4,7 @@ use std::fmt::Display;
 
 use crate::call::{Call, Cause, Format, ProofStep, KINDS};
 use crate::compare::{Session, Tally};
+use crate::pinned;
 use crate::random::{self, Rng, Style};
 use crate::reading::{drat, names, steps::step_words, Outcome, Table, FRESH, MOST_LITERALS};
 use crate::run::{self, told, Verdict};
@@ -16,8 +17,8 @@ const MOST_LIST: usize = 4_100;
 const MOST_SLICE: usize = 8_200;
 
 const NAMES: [&str; 15] = [
-    "lookup", "map", "newuser", "pose", "grant", "setmode", "observe", "mark", "assign", "remove", "sweep", "simplify", "rename", "write",
-    "model",
+    "lookup", "map", "newuser", "pose", "grant", "setmode", "observe", "mark", "assign", "remove", "sweep", "simplify", "rename",
+    "write", "model",
 ];
 
 #[derive(Default)]
@@ -271,6 +272,26 @@ impl Record {
         Ok(())
     }
 
+    /// The table, whether it is sound, and these calls on it.
+    fn on(&mut self, format: Format, table: &Table, calls: &[Call]) -> Verdict<()> {
+        self.load(table);
+        self.sound(table)?;
+        let mut session = Session::load(format, table);
+        calls.iter().try_for_each(|call| self.call(&mut session, call))
+    }
+
+    /// What random calls meet rarely: each clause of soundness broken by itself, with every Lookup; every outcome of Simplify, redundant and
+    /// not; every kind of step renamed, with hashes.
+    fn pinned(&mut self) -> Verdict<()> {
+        for (n, table) in (0..).zip(pinned::broken().into_iter().chain(pinned::deleted())) {
+            self.on(Format::Text, &table, &pinned::lookups(n))?;
+        }
+        for format in [Format::Text, Format::Binary] {
+            self.on(format, &Table::empty(4), &pinned::simplifications())?;
+        }
+        self.on(Format::Text, &pinned::base(), &pinned::renamings())
+    }
+
     /// Clauses of 8,192 literals, which is the most there may be, and of one more.
     fn long(&mut self) -> Verdict<()> {
         let memory = Table::empty(4);
@@ -357,6 +378,7 @@ pub fn list(seed: u64) -> Verdict<Record> {
     record.opens(&mut rng, 60)?;
     record.proofs(&mut rng, 400)?;
     record.long()?;
+    record.pinned()?;
     let missing = record.missing();
     if !missing.is_empty() {
         return Err(format!("the list lacks {:?}", missing));

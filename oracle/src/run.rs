@@ -223,7 +223,6 @@ pub fn read_of(_format: Format, _bytes: &[u8], _rooms: [usize; 3], _want: &drat:
     Ok(())
 }
 
-
 #[cfg(not(feature = "library"))]
 fn write_of(_format: Format, _lists: &drat::Filled, _room: usize, _want: &Result<Vec<u8>, u32>) -> Verdict<()> {
     Ok(())

@@ -30,20 +30,12 @@ const SUPPLIED: [&str; 21] = [
     "variables/var_map.rs",
 ];
 
-const MISSING: [&str; 6] = [
-    "analyze_conflict.rs",
-    "clause.rs",
-    "config.rs",
-    "load.rs",
-    "prop.rs",
-    "schedule.rs",
-];
+const MISSING: [&str; 6] = ["analyze_conflict.rs", "clause.rs", "config.rs", "load.rs", "prop.rs", "schedule.rs"];
 
 fn lay(from: &Path, to: &Path) {
     println!("cargo:rerun-if-changed={}", from.display());
-    let bytes = fs::read(from).unwrap_or_else(|e| {
-        panic!("{}: {} (set VARISAT_SRC to the folder that holds varisat's src/)", from.display(), e)
-    });
+    let bytes = fs::read(from)
+        .unwrap_or_else(|e| panic!("{}: {} (set VARISAT_SRC to the folder that holds varisat's src/)", from.display(), e));
     fs::create_dir_all(to.parent().unwrap()).unwrap();
     fs::write(to, bytes).unwrap();
 }

@@ -11,7 +11,7 @@ pub struct Counts {
 }
 
 #[repr(C)]
-#[derive(Clone, Copy)]
+#[derive(Clone, Copy, PartialEq, Eq)]
 pub struct Step {
     pub kind: u32,
     pub a: u32,

@@ -21,6 +21,8 @@
 //! assert_eq!(&proof[..n], b"3 -7 0\n");
 //! # Ok::<(), hintzobar::Refusal>(())
 //! ```
+#![deny(missing_docs)]
+
 mod ffi;
 mod names;
 mod proof;

@@ -1,5 +1,5 @@
 //! Indices, literals and notes.
-use std::marker::PhantomData;
+use std::{fmt, marker::PhantomData, ops::Not};
 
 /// A user index: what intake uses.
 #[derive(Clone, Copy, PartialEq, Eq, PartialOrd, Ord, Hash, Debug)]
@@ -46,6 +46,8 @@ names!(User Global Solver);
 /// let lit = Lit::negative(User(2));
 /// assert_eq!((lit.code(), lit.name(), lit.dimacs()), (5, User(2), -3));
 /// assert_eq!(Lit::<Solver>::from_code(4), Lit::positive(Solver(2)));
+/// assert_eq!(Lit::from_dimacs(-3), Some(lit));
+/// assert_eq!((!lit).to_string(), "3");
 /// ```
 ///
 /// A function that takes one sort of literal can't be handed another:
@@ -101,6 +103,29 @@ impl<N: Name> Lit<N> {
             number
         }
     }
+
+    /// The literal with this DIMACS number. There is none for 0, nor beyond 2^31 on either side, where codes end.
+    pub fn from_dimacs(number: i64) -> Option<Lit<N>> {
+        let index = u32::try_from(number.unsigned_abs().checked_sub(1)?).ok()?;
+        let code = index.checked_mul(2)?;
+        Some(Lit::from_code(code + u32::from(number < 0)))
+    }
+}
+
+/// The same name under the other sign.
+impl<N> Not for Lit<N> {
+    type Output = Lit<N>;
+
+    fn not(self) -> Lit<N> {
+        Lit { code: self.code ^ 1, sort: PhantomData }
+    }
+}
+
+/// The DIMACS number.
+impl<N: Name> fmt::Display for Lit<N> {
+    fn fmt(&self, f: &mut fmt::Formatter) -> fmt::Result {
+        self.dimacs().fmt(f)
+    }
 }
 
 /// The codes of literals, in place.
@@ -132,6 +157,24 @@ pub enum Note {
     Mode(Global, bool),
 }
 
+/// As document 01 writes notes: `U(2,0)`, `S(2,-)`, `D(1)`, `C(2,yes)`.
+impl fmt::Display for Note {
+    fn fmt(&self, f: &mut fmt::Formatter) -> fmt::Result {
+        let (kind, global, last) = match *self {
+            Note::User(global, user) => ("U", global, last(user)),
+            Note::Solver(global, solver) => ("S", global, last(solver)),
+            Note::Delete(global) => return write!(f, "D({})", global.0),
+            Note::Mode(global, sample) => ("C", global, if sample { "yes" } else { "no" }.into()),
+        };
+        write!(f, "{}({},{})", kind, global.0, last)
+    }
+}
+
+/// An index, or a dash where it is withdrawn.
+fn last<N: Name>(name: Option<N>) -> String {
+    name.map_or("-".into(), |name| name.index().to_string())
+}
+
 impl Note {
     fn from_words(words: &[u32]) -> Note {
         let global = Global(words[1]);
@@ -147,7 +190,8 @@ impl Note {
 
 /// Memory that calls fill with their notes.
 ///
-/// Each call writes its notes from the start, over those of the call before; a refused call leaves them as they were.
+/// Each call writes its notes from the start, over those of the call before; a refused call leaves them as they were. A note takes three
+/// words. [`Table::notes`](crate::Table::notes) is enough for any call on that table; what a single call needs is said there.
 #[derive(Clone, PartialEq, Eq, Debug)]
 pub struct Notes {
     words: Vec<u32>,
@@ -162,7 +206,7 @@ impl From<Vec<u32>> for Notes {
 }
 
 impl Notes {
-    /// Room for this many words; a note takes three.
+    /// Room for this many words, three for each note.
     pub fn with_words(words: usize) -> Notes {
         Notes { words: vec![0; words], count: 0 }
     }

@@ -18,41 +18,56 @@ impl Format {
         }
     }
 
-    /// Enough bytes for any one Write or Simplify of this many literals.
+    /// Enough bytes for any one Write or Simplify of this many literals, and for one clause. Beyond what memory can hold it is the greatest
+    /// number there is.
     pub fn room_for(self, lits: usize) -> usize {
-        12 * lits + 8
+        lits.saturating_mul(12).saturating_add(8)
     }
 }
 
 /// Why a clause is deleted.
 #[derive(Clone, Copy, PartialEq, Eq, Hash, Debug)]
 pub enum Cause {
+    /// It follows from others, or was only learnt.
     Redundant,
+    /// One of its literals is true.
     Satisfied,
+    /// A shorter one stands in its place.
     Simplified,
 }
 
 /// The kinds of proof step. Literals and hashes stand beside the step.
 #[derive(Clone, Copy, PartialEq, Eq, Hash, Debug)]
 pub enum Step {
+    /// A clause of the formula, which DRAT does not write.
     AddClause,
-    /// Whether the clause is redundant.
+    /// A clause that follows by propagation, written as an add; whether it is redundant. Hashes go with it.
     AtClause(bool),
+    /// Unit clauses, written as an add each; as many hashes as literals go with them.
     UnitClauses,
+    /// A clause goes, for this cause; written as a delete.
     DeleteClause(Cause),
+    /// A model, of which nothing is written.
     Model,
+    /// Assumptions, which DRAT does not write.
     Assumptions,
+    /// Assumptions that cannot all hold, which DRAT does not write. Hashes go with them.
     FailedAssumptions,
+    /// A naming step: the solver index is granted to the global, or withdrawn.
     SolverVarName(Global, Option<Solver>),
+    /// A naming step: the user index is granted to the global, or withdrawn.
     UserVarName(Global, Option<User>),
+    /// A naming step: the global is deleted.
     DeleteVar(Global),
-    /// Whether the global's mode is now Sample.
+    /// A naming step: whether the global's mode is now Sample.
     ChangeSamplingMode(Global, bool),
+    /// So many bits of the hashes count from here on.
     ChangeHashBits(u32),
+    /// The proof ends.
     End,
 }
 
-/// A name's word: index + 1, or 0 for none. The greatest index has no word; the one below stands for it.
+/// A name's word: index + 1, or 0 for none. The greatest index has no word; that of the one below stands for it.
 fn word<N: Name>(name: Option<N>) -> u32 {
     name.map_or(0, |name| name.index().saturating_add(1))
 }
@@ -103,26 +118,35 @@ impl Step {
 /// What Rename answers: the step, and how many literals and hashes were filled.
 #[derive(Clone, Copy, PartialEq, Eq, Hash, Debug)]
 pub struct Renamed {
+    /// As given.
     pub step: Step,
+    /// How many literals were filled.
     pub lits: usize,
+    /// How many hashes were filled.
     pub hashes: usize,
 }
 
 /// The literals of a step: solver literals, which are renamed, or global ones, which go as given.
 #[derive(Clone, Copy, PartialEq, Eq, Debug)]
 pub enum Lits<'a> {
+    /// They go under the globals that hold their indices.
     Solver(&'a [Lit<Solver>]),
+    /// They go as given.
     Global(&'a [Lit<Global>]),
 }
 
 /// What Read filled.
 #[derive(Clone, Copy, PartialEq, Eq, Debug)]
 pub struct Reading {
+    /// How many literals.
     pub lits: usize,
+    /// How many ends, and how many kinds.
     pub steps: usize,
 }
 
-/// Reads a proof: the literals of all steps, each step's end among them, and kinds (0 add, 1 delete).
+/// Reads a proof: the literals of all steps, each step's end among them, and kinds (0 add, 1 delete). Refusals: 13, 2.
+///
+/// To lend: a literal for each one in the proof, an end and a kind for each step. As many of each as there are bytes is enough.
 ///
 /// ```
 /// use hintzobar::{read, Format, Global, Lit, Refusal};
@@ -148,7 +172,7 @@ pub fn read(
     Ok(Reading { lits: answer.lits, steps: answer.steps })
 }
 
-/// The first step's part of the bytes.
+/// The first step's part of the bytes. Nothing is lent. Refusals: 13.
 ///
 /// ```
 /// use hintzobar::{first_step, Format, Refusal};
@@ -161,7 +185,10 @@ pub fn first_step(format: Format, bytes: &[u8]) -> Result<&[u8], Refusal> {
     Ok(&bytes[..answer.length.min(bytes.len())])
 }
 
-/// Writes `lits[a..b]` as one step at `proof[at..]`: an add, or a delete. Answers the place after it.
+/// Writes `lits[a..b]` as one step at `proof[at..]`: an add, or a delete. Answers the place after it. Refusals: 3 where `a..b` is no part of
+/// the literals, has more than 8,192 or an index of 4,096 or more, 2.
+///
+/// To lend: from `at` on the bytes of the step; [`Format::room_for`] `(b - a)` is enough.
 ///
 /// ```
 /// use hintzobar::{write_clause, Format, Global, Lit};
@@ -186,6 +213,8 @@ pub fn write_clause(
 
 /// Writes a whole proof from the lists that [`read`] fills: the literals of all steps, each step's end among them, and kinds (0 add, 1
 /// delete). Answers how many bytes it took. Refusals: 3 where the lists are no proof, 2.
+///
+/// To lend: the bytes of the proof; 6 for each literal and 4 for each step are enough.
 ///
 /// ```
 /// use hintzobar::{write_proof, Format, Global, Lit, Refusal};

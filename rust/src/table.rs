@@ -8,17 +8,24 @@ use crate::{
 /// The capacity and the three watermarks.
 #[derive(Clone, Copy, PartialEq, Eq, Hash, Debug, Default)]
 pub struct Counts {
+    /// How many indices of each sort there may be, 1 to 4,096.
     pub capacity: u32,
+    /// The user watermark: no user index from here on was ever mapped.
     pub user: u32,
+    /// The global watermark.
     pub global: u32,
+    /// The solver watermark.
     pub solver: u32,
 }
 
 /// A global's sampling mode.
 #[derive(Clone, Copy, PartialEq, Eq, Hash, Debug)]
 pub enum Mode {
+    /// It has a user, and models are sampled over it.
     Sample,
+    /// It has a user, and its value is a witness.
     Witness,
+    /// It has no user.
     Hide,
 }
 
@@ -36,28 +43,39 @@ pub enum Mark {
 /// What Simplify made of a clause.
 #[derive(Clone, Copy, PartialEq, Eq, Hash, Debug)]
 pub enum Made {
+    /// No literal has a value: the clause stays.
     Kept,
+    /// A literal is true: the clause goes.
     Dropped,
+    /// False literals went, and more than two are left.
     Shortened,
+    /// False literals went, and two are left.
     Binary,
 }
 
 /// The answer of Simplify: how many literals and bytes were filled, and the add step's redundant flag.
 #[derive(Clone, Copy, PartialEq, Eq, Hash, Debug)]
 pub struct Simplified {
+    /// What became of the clause.
     pub made: Made,
+    /// Whether the clause added is redundant; no where there is none.
     pub redundant: bool,
+    /// How many literals were filled: none if dropped, all if kept.
     pub lits: usize,
+    /// How many bytes were filled.
     pub bytes: usize,
 }
 
 /// The six lists of a table, each of one word per index.
 #[derive(Clone, PartialEq, Eq, Hash, Debug, Default)]
 pub struct Lists {
-    /// Maps hold 0 for none, else index + 1.
+    /// The global of each user. Maps hold 0 for none, else index + 1.
     pub global_from_user: Vec<u32>,
+    /// The user of each global.
     pub user_from_global: Vec<u32>,
+    /// The solver index that each global holds.
     pub solver_from_global: Vec<u32>,
+    /// The global that holds each solver index.
     pub global_from_solver: Vec<u32>,
     /// 0 none, 1 false, 2 true.
     pub assignment: Vec<u32>,
@@ -66,6 +84,9 @@ pub struct Lists {
 }
 
 /// A table of names, which owns its memory.
+///
+/// What a call fills it is lent. Where a slice is shorter than that, the call is refused with 2 and nothing has changed; at each method stands
+/// how much it needs. Notes count three words each.
 ///
 /// ```
 /// use hintzobar::{Global, Lit, Note, Solver, Table, User};
@@ -204,39 +225,39 @@ impl Table {
         ask!(self.is_sound())
     }
 
-    /// Memory for notes that suffices for every call on this table: no call makes more than two notes for each index.
+    /// Memory for notes that suffices for every call on this table: no call makes more than two notes for each index, six words.
     pub fn notes(&self) -> Notes {
         Notes::with_words(6 * self.counts.capacity.min(4096) as usize)
     }
 
-    // ---- lookups: none where nothing is mapped, or the index is at or beyond the watermark. Refusals: 1.
+    // ---- lookups: none where nothing is mapped, or the index is at or beyond the watermark. Nothing is lent. Refusals: 1.
 
-    /// The global of a user.
+    /// The global of a user. Refusals: 1.
     pub fn global_from_user(&self, user: User) -> Result<Option<Global>, Refusal> {
         Ok(found(ask!(self.global_from_user(user.0)))?.map(Global))
     }
 
-    /// The user of a global.
+    /// The user of a global. Refusals: 1.
     pub fn user_from_global(&self, global: Global) -> Result<Option<User>, Refusal> {
         Ok(found(ask!(self.user_from_global(global.0)))?.map(User))
     }
 
-    /// The solver index that a global holds.
+    /// The solver index that a global holds. Refusals: 1.
     pub fn solver_from_global(&self, global: Global) -> Result<Option<Solver>, Refusal> {
         Ok(found(ask!(self.solver_from_global(global.0)))?.map(Solver))
     }
 
-    /// The global that holds a solver index.
+    /// The global that holds a solver index. Refusals: 1.
     pub fn global_from_solver(&self, solver: Solver) -> Result<Option<Global>, Refusal> {
         Ok(found(ask!(self.global_from_solver(solver.0)))?.map(Global))
     }
 
-    /// A global's record.
+    /// A global's record, coded as in [`Lists`]; none from the watermark on. Refusals: 1.
     pub fn record(&self, global: Global) -> Result<Option<u32>, Refusal> {
         found(ask!(self.record(global.0)))
     }
 
-    /// A solver index's assignment word.
+    /// A solver index's assignment word; none from the watermark on. Refusals: 1.
     pub fn assignment(&self, solver: Solver) -> Result<Option<u32>, Refusal> {
         found(ask!(self.assignment(solver.0)))
     }
@@ -244,6 +265,9 @@ impl Table {
     // ---- names
 
     /// Maps a user, and every user below it from the watermark up. Refusals: 1, 3, 4, 5, 2.
+    ///
+    /// To lend: one note for each user that is mapped: none if it is mapped already, one if it is below the watermark, else
+    /// `user + 1 - counts().user`.
     ///
     /// ```
     /// use hintzobar::{Refusal, Table, User};
@@ -263,6 +287,8 @@ impl Table {
     }
 
     /// Maps the least unmapped user; it and its global are answered. Refusals: 1, 5, 2.
+    ///
+    /// To lend: one note.
     pub fn new_user(&mut self, notes: &mut Notes) -> Result<(User, Global), Refusal> {
         let answer = call!(self.new_user(notes.lend()));
         self.took(answer.refusal, answer.counts)?;
@@ -271,6 +297,9 @@ impl Table {
     }
 
     /// Maps and grants for each user literal in turn; the solver literals are filled and their number answered. Refusals: 1, 3, 4, 5, 2.
+    ///
+    /// To lend: a solver literal for each literal given; one note for each user that is mapped, as in [`Table::map`], and one for each solver
+    /// index that is granted. [`Table::notes`] is enough.
     pub fn pose(
         &mut self,
         lits: &[Lit<User>],
@@ -285,6 +314,8 @@ impl Table {
     }
 
     /// The solver index that the global holds, or is given. Refusals: 1, 3, 6, 2.
+    ///
+    /// To lend: one note, none if it holds one already.
     pub fn grant(&mut self, global: Global, notes: &mut Notes) -> Result<Solver, Refusal> {
         let answer = call!(self.grant(global.0, notes.lend()));
         self.took(answer.refusal, answer.counts)?;
@@ -293,6 +324,8 @@ impl Table {
     }
 
     /// Changes a global's mode; a user that it is granted is answered. Refusals: 1, 3, 6, 7, 2.
+    ///
+    /// To lend: two notes; one between Sample and Witness, or to Hide where the global stays; none if the mode is the same.
     ///
     /// ```
     /// use hintzobar::{Global, Mode, Note, Table, User};
@@ -317,6 +350,8 @@ impl Table {
     }
 
     /// Turns hidden globals into witnesses; their users are filled and their number answered. Refusals: 1, 7, 2.
+    ///
+    /// To lend: a user and two notes for each hidden global; `counts().global` users are enough.
     pub fn observe(&mut self, out: &mut [User], notes: &mut Notes) -> Result<usize, Refusal> {
         let answer = call!(self.observe(indices_mut(out), notes.lend()));
         self.took(answer.refusal, answer.counts)?;
@@ -324,7 +359,7 @@ impl Table {
         Ok(answer.filled as usize)
     }
 
-    /// Marks a held solver index. Refusals: 1, 8.
+    /// Marks a held solver index. Nothing is lent. Refusals: 1, 8.
     pub fn mark(&mut self, mark: Mark, solver: Solver) -> Result<(), Refusal> {
         let mark = match mark {
             Mark::Used => 0,
@@ -335,13 +370,15 @@ impl Table {
         self.took(answer.refusal, answer.counts)
     }
 
-    /// Makes a solver literal true, once. Refusals: 1, 8, 9.
+    /// Makes a solver literal true, once. Nothing is lent. Refusals: 1, 8, 9.
     pub fn assign(&mut self, lit: Lit<Solver>) -> Result<(), Refusal> {
         let answer = call!(self.assign(lit.code()));
         self.took(answer.refusal, answer.counts)
     }
 
     /// Takes a solver index from its global. Refusals: 1, 8, 2.
+    ///
+    /// To lend: one note, two if the global is then deleted.
     pub fn remove(&mut self, solver: Solver, notes: &mut Notes) -> Result<(), Refusal> {
         let answer = call!(self.remove(solver.0, notes.lend()));
         self.took(answer.refusal, answer.counts)?;
@@ -350,6 +387,9 @@ impl Table {
     }
 
     /// Learns units from the assignment and takes every isolated solver index that is not assumed. Refusals: 1, 2.
+    ///
+    /// To lend: one note for each solver index that is taken, two if its global is then deleted; two for each index below `counts().solver`
+    /// are enough.
     pub fn sweep(&mut self, notes: &mut Notes) -> Result<(), Refusal> {
         let answer = call!(self.sweep(notes.lend()));
         self.took(answer.refusal, answer.counts)?;
@@ -366,6 +406,10 @@ impl Table {
     // ---- proof lines
 
     /// Simplifies a clause by the assignment; the literals left and the steps' bytes are filled. Refusals: 1, 3, 8, 12, 2.
+    ///
+    /// To lend: as many literals as are given, and [`Format::room_for`] them bytes.
+    ///
+    /// Stack: 64 KB beside the caller's own, whatever the clause. A thread of 64 KB is too small; one of 128 KB is enough.
     pub fn simplify(
         &self,
         format: Format,
@@ -386,6 +430,17 @@ impl Table {
     }
 
     /// A step under global names: its literals and hashes are filled; the step comes back as given. Refusals: 1, 14, 3, 8, 2.
+    ///
+    /// To lend: as many literals and hashes as are given; none for a kind that carries none.
+    ///
+    /// ```
+    /// use hintzobar::{Global, Lits, Solver, Step, Table};
+    /// let table = Table::open(8)?;
+    /// let step = Step::SolverVarName(Global(2), Some(Solver(u32::MAX)));
+    /// let renamed = table.rename(step, Lits::Solver(&[]), &[], &mut [], &mut [])?;
+    /// assert_eq!((renamed.step, renamed.lits, renamed.hashes), (step, 0, 0));
+    /// # Ok::<(), hintzobar::Refusal>(())
+    /// ```
     pub fn rename(
         &self,
         step: Step,
@@ -395,13 +450,19 @@ impl Table {
         hash_out: &mut [u64],
     ) -> Result<Renamed, Refusal> {
         let (solver_vars, lits) = parts(lits);
-        let answer = ask!(self.rename(step.words(), solver_vars, lits, hashes, codes_mut(out), hash_out));
+        let given = step.words();
+        let answer = ask!(self.rename(given, solver_vars, lits, hashes, codes_mut(out), hash_out));
         Refusal::check(answer.refusal, 0)?;
-        let step = Step::from_words(answer.step).unwrap_or(step);
+        // A name of u32::MAX has no word of its own: where the words come back as given, so does the step.
+        let step = if answer.step == given { step } else { Step::from_words(answer.step).unwrap_or(step) };
         Ok(Renamed { step, lits: answer.lits, hashes: answer.hashes })
     }
 
     /// A step's bytes under global names; how many were filled is answered. Refusals: 1, 14, 3, 8, 11, 2.
+    ///
+    /// To lend: [`Format::room_for`] the literals given; none for a kind that writes nothing.
+    ///
+    /// Stack: 32 KB beside the caller's own, whatever the clause. A thread of 128 KB is enough for any call of this crate.
     ///
     /// ```
     /// use hintzobar::{Cause, Format, Global, Lit, Lits, Solver, Step, Table, User};
@@ -428,6 +489,8 @@ impl Table {
     // ---- the model
 
     /// A word for each global below its watermark, and the literals of users that have a value; how many of each. Refusals: 1, 2.
+    ///
+    /// To lend: `counts().global` words, and a literal for each user that has a value; `counts().user` are enough.
     pub fn model(&self, globals: &mut [u32], users: &mut [Lit<User>]) -> Result<(usize, usize), Refusal> {
         let answer = ask!(self.model(globals, codes_mut(users)));
         Refusal::check(answer.refusal, 0)?;

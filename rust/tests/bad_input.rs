@@ -1,7 +1,7 @@
 //! Bad input gives the refusal, never a panic, and changes nothing.
 use hintzobar::{
-    first_step, read, write_clause, write_proof, Cause, Counts, Format, Global, Lists, Lit, Lits, Mark, Mode, Notes, Refusal, Solver, Step, Table,
-    User,
+    first_step, read, write_clause, write_proof, Cause, Counts, Format, Global, Lists, Lit, Lits, Mark, Mode, Notes, Refusal,
+    Solver, Step, Table, User,
 };
 
 const WILD: [u32; 6] = [8, 9, 4096, 1 << 31, u32::MAX - 1, u32::MAX];
@@ -47,10 +47,7 @@ fn indices() {
         assert_eq!(table.write(Format::Text, step, Lits::Global(&lits), &[], &mut [0; 99]), Err(Refusal::OutOfRange));
         let lits = [Lit::negative(Solver(index))];
         assert_eq!(table.write(Format::Binary, step, Lits::Solver(&lits), &[], &mut [0; 99]), Err(Refusal::NotHeld));
-        assert_eq!(
-            table.simplify(Format::Text, &lits, false, &mut [Lit::from_code(0); 4], &mut [0; 99]),
-            Err(Refusal::NotHeld)
-        );
+        assert_eq!(table.simplify(Format::Text, &lits, false, &mut [Lit::from_code(0); 4], &mut [0; 99]), Err(Refusal::NotHeld));
     }
     assert_eq!(table, before);
     assert!(notes.is_empty());

@@ -60,8 +60,7 @@ pub fn observe(t: &Table, outs: usize, room: usize) -> Outcome {
     if !t.is_sound() {
         return refused(1, t);
     }
-    let hidden: Vec<u32> =
-        (0..t.counts.global).filter(|&g| !is_deleted(t.record(g)) && mode_of(t.record(g)) == 2).collect();
+    let hidden: Vec<u32> = (0..t.counts.global).filter(|&g| !is_deleted(t.record(g)) && mode_of(t.record(g)) == 2).collect();
     if hidden.iter().any(|&g| is_assumed(t.record(g))) {
         return refused(7, t);
     }

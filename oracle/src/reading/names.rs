@@ -1,7 +1,6 @@
 //! Open, Lookup, Map, New user, Grant, Pose, marks and Assign.
 use super::{
-    first_of, get, is_assumed, is_deleted, is_isolated, mode_of, named, refused, Outcome, Table, MOST_CAPACITY, MOST_LITERALS,
-    NEW_USER,
+    first_of, get, is_assumed, is_deleted, is_isolated, mode_of, named, refused, Outcome, Table, MOST_LITERALS, NEW_USER,
 };
 use crate::call::{Asked, Mark};
 
@@ -234,9 +233,4 @@ pub fn assign(t: &Table, code: u32) -> Outcome {
     let mut table = t.clone();
     table.assignment[code as usize / 2] = 2 - code % 2;
     Outcome { table, ..Outcome::default() }
-}
-
-/// An Open of every capacity that can be asked for.
-pub fn can_open(capacity: u32) -> bool {
-    (1..=MOST_CAPACITY).contains(&capacity)
 }

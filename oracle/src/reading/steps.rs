@@ -118,7 +118,15 @@ pub fn rename(
 }
 
 /// Bytes are filled; 11, a kind DRAT lacks, then 2.
-pub fn write(t: &Table, format: Format, step: ProofStep, solver_vars: bool, lits: &[u32], hashes: &[u64], room: usize) -> Outcome {
+pub fn write(
+    t: &Table,
+    format: Format,
+    step: ProofStep,
+    solver_vars: bool,
+    lits: &[u32],
+    hashes: &[u64],
+    room: usize,
+) -> Outcome {
     let refusal = step_refusal(t, step, solver_vars, lits, hashes);
     if refusal != 0 {
         return refused(refusal, t);
@@ -136,11 +144,8 @@ pub fn write(t: &Table, format: Format, step: ProofStep, solver_vars: bool, lits
 /// A true literal drops the clause, with one delete step; otherwise false literals go. If any went: an add step of the rest, then a delete
 /// step of the old clause; two left then is binary. 1; 3, over 8,192 literals; 8; 12, none true, some false, fewer than two unknown; 2.
 pub fn simplify(t: &Table, format: Format, lits: &[u32], redundant: bool, outs: usize, room: usize) -> Outcome {
-    let early = first_of(&[
-        (!t.is_sound(), 1),
-        (lits.len() > MOST_LITERALS, 3),
-        (lits.iter().any(|code| t.not_held(code / 2)), 8),
-    ]);
+    let early =
+        first_of(&[(!t.is_sound(), 1), (lits.len() > MOST_LITERALS, 3), (lits.iter().any(|code| t.not_held(code / 2)), 8)]);
     if early != 0 {
         return refused(early, t);
     }

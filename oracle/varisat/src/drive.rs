@@ -26,62 +26,98 @@ pub mod measure;
 /// The state, coded as document 01 codes it, each list up to its watermark.
 #[derive(Clone, PartialEq, Eq, Debug)]
 pub struct State {
+    /// The maps: index + 1, or 0 for none. The global of each user.
     pub global_from_user: Vec<u32>,
+    /// The user of each global.
     pub user_from_global: Vec<u32>,
+    /// The solver index that each global holds.
     pub solver_from_global: Vec<u32>,
+    /// The global that holds each solver index.
     pub global_from_solver: Vec<u32>,
+    /// 0 none, 1 false, 2 true.
     pub assignment: Vec<u32>,
+    /// A record word for each global.
     pub records: Vec<u32>,
 }
 
 /// A step, its literals and hashes, as handed to `add_step`. A name is its index + 1, or 0 where it is withdrawn.
 #[derive(Clone, Copy, Debug)]
 pub enum Step<'a> {
+    /// A clause of the formula.
     AddClause(&'a [u32]),
+    /// A clause that follows, whether it is redundant, its hashes.
     AtClause(bool, &'a [u32], &'a [u64]),
+    /// Units, a hash for each.
     UnitClauses(&'a [u32], &'a [u64]),
+    /// A clause that goes, and why.
     DeleteClause(&'a [u32], Cause),
+    /// A model.
     Model(&'a [u32]),
+    /// Assumptions.
     Assumptions(&'a [u32]),
+    /// Assumptions that cannot all hold, with hashes.
     FailedAssumptions(&'a [u32], &'a [u64]),
+    /// A global, and the word of its solver index.
     SolverVarName(u32, u32),
+    /// A global, and the word of its user.
     UserVarName(u32, u32),
+    /// A global.
     DeleteVar(u32),
+    /// A global, and whether it is now Sample.
     ChangeSamplingMode(u32, bool),
+    /// How many bits.
     ChangeHashBits(u32),
+    /// The end.
     End,
 }
 
 pub use varisat_internal_proof::DeleteClauseProof as Cause;
 
+/// The format of a proof.
 #[derive(Clone, Copy, PartialEq, Eq, Debug)]
 pub enum Format {
+    /// Decimal numbers in lines.
     Text,
+    /// LEB128 codes.
     Binary,
 }
 
+/// What became of a clause.
 #[derive(Clone, Copy, PartialEq, Eq, Debug)]
 pub enum Made {
+    /// It is as it was.
     Kept,
+    /// It went.
     Dropped,
+    /// It lost literals.
     Shortened,
+    /// It lost literals, and two are left.
     Binary,
 }
 
 /// What Simplify did: the rest in solver literals, the add step's redundant flag, the bytes, and the delete step's cause.
 pub struct Simplified {
+    /// What became of the clause.
     pub made: Made,
+    /// Its solver literals: none if dropped, all if kept.
     pub rest: Vec<u32>,
+    /// The add step's flag; no where there is none.
     pub redundant: bool,
+    /// Both steps in DRAT.
     pub bytes: Vec<u8>,
+    /// Why it was deleted, if it was.
     pub cause: Option<Cause>,
 }
 
 /// What became of a step: literals, hashes, the words that it carries of its own, and the bytes written.
 pub struct Renamed {
+    /// Its literals, under global names.
     pub lits: Vec<u32>,
+    /// Its hashes.
     pub hashes: Vec<u64>,
+    /// What the step carries of its own.
     pub own: Vec<u32>,
+    /// Its bytes in DRAT.
     pub bytes: Vec<u8>,
 }
 
@@ -103,6 +139,7 @@ fn var(index: u32) -> Var {
     Var::from_index(index as usize)
 }
 
+/// The literal of a code.
 pub fn lit(code: u32) -> Lit {
     Lit::from_code(code as usize)
 }
@@ -207,6 +244,7 @@ impl Default for Oracle {
 }
 
 impl Oracle {
+    /// A fresh context whose steps are recorded.
     pub fn new() -> Oracle {
         forget();
         let mut oracle = Oracle { ctx: Box::new(Context::default()), sink: Sink::default() };
@@ -221,6 +259,7 @@ impl Oracle {
 
     // ---- the state
 
+    /// What the context holds.
     pub fn state(&self) -> State {
         let vars = &self.ctx.variables;
         let (users, globals, solvers) = self.watermarks();
@@ -351,21 +390,25 @@ impl Oracle {
         name_word(map.get(var(index)))
     }
 
+    /// `global_from_user`: the global and the notes.
     pub fn map(&mut self, user: u32, sampling: bool) -> (u32, Vec<u32>) {
         let global = variables::global_from_user(self.ctx.into_partial_ref_mut(), var(user), sampling);
         (global.index() as u32, take_notes())
     }
 
+    /// `new_user_var`: the user and the notes.
     pub fn new_user(&mut self) -> (u32, Vec<u32>) {
         let user = variables::new_user_var(self.ctx.into_partial_ref_mut());
         (user.index() as u32, take_notes())
     }
 
+    /// `solver_from_global`: the solver index and the notes.
     pub fn grant(&mut self, global: u32) -> (u32, Vec<u32>) {
         let solver = variables::solver_from_global(self.ctx.into_partial_ref_mut(), var(global));
         (solver.index() as u32, take_notes())
     }
 
+    /// `solver_from_user_lits`: the solver literals and the notes.
     pub fn pose(&mut self, user_lits: &[u32], sampling: bool) -> (Vec<u32>, Vec<u32>) {
         let mut solver_lits = vec![];
         let user_lits = lits(user_lits);
@@ -373,28 +416,34 @@ impl Oracle {
         (codes(&solver_lits), take_notes())
     }
 
+    /// `set_sampling_mode`: the user that was granted, if one was, and the notes.
     pub fn set_mode(&mut self, global: u32, mode: u32) -> (Option<u32>, Vec<u32>) {
         let user = variables::set_sampling_mode(self.ctx.into_partial_ref_mut(), var(global), word_mode(mode));
         (user.map(|user| user.index() as u32), take_notes())
     }
 
+    /// `observe_internal_vars`: the users and the notes.
     pub fn observe(&mut self) -> (Vec<u32>, Vec<u32>) {
         let users = variables::observe_internal_vars(self.ctx.into_partial_ref_mut());
         (users.iter().map(|user| user.index() as u32).collect(), take_notes())
     }
 
+    /// Clears isolated, through `var_data_solver_mut`.
     pub fn used(&mut self, solver: u32) {
         self.ctx.variables.var_data_solver_mut(var(solver)).isolated = false;
     }
 
+    /// Sets or clears assumed, through `var_data_solver_mut`.
     pub fn assumed(&mut self, solver: u32, set: bool) {
         self.ctx.variables.var_data_solver_mut(var(solver)).assumed = set;
     }
 
+    /// `assign_lit`.
     pub fn assign(&mut self, code: u32) {
         self.ctx.assignment.assign_lit(lit(code));
     }
 
+    /// `remove_solver_var`: the notes.
     pub fn remove(&mut self, solver: u32) -> Vec<u32> {
         variables::remove_solver_var(self.ctx.into_partial_ref_mut(), var(solver));
         take_notes()

@@ -1,4 +1,6 @@
 //! Stand-in: an error type that the supplied files name.
+#![allow(missing_docs)] // what is public here is named and meant as in the crate itself
+
 use std::fmt;
 
 #[derive(Debug)]

@@ -1,5 +1,7 @@
 //! Stand-in: `itoa::write` in the shape of itoa 0.4: a buffer that is not cleared, two digits from a table at a time by pointers without
 //! bound checks, the last two numbers of digits by cases, and one `write_all`.
+#![allow(missing_docs)] // what is public here is named and meant as in the crate itself
+
 use std::{
     io::{self, Write},
     mem::MaybeUninit,

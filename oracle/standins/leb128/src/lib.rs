@@ -1,4 +1,6 @@
 //! Stand-in: `leb128::write::unsigned`, seven bits at a time.
+#![allow(missing_docs)] // what is public here is named and meant as in the crate itself
+
 pub mod write {
     use std::io::{self, Write};
 

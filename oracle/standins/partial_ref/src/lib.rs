@@ -1,5 +1,7 @@
 //! Stand-in for partial_ref: one unchecked reference type. The crate itself has checked that the parts used together are disjoint; here
 //! every reference reaches every part, through raw pointers to single fields.
+#![allow(missing_docs, clippy::wrong_self_convention)] // what is public here is named and meant as in the crate itself
+
 use std::marker::PhantomData;
 
 pub use partial_ref_derive::PartialRefTarget;

@@ -1,4 +1,6 @@
 //! Stand-in: `#[derive(PartialRefTarget)]` for one struct with one lifetime, read token by token.
+#![allow(missing_docs)] // what is public here is named and meant as in the crate itself
+
 use proc_macro::{TokenStream, TokenTree};
 
 #[proc_macro_derive(PartialRefTarget, attributes(part))]

@@ -1,4 +1,6 @@
 //! Stand-in: `#[derive(Error)]` gives a `Display` that says the type's name.
+#![allow(missing_docs)] // what is public here is named and meant as in the crate itself
+
 use proc_macro::{TokenStream, TokenTree};
 
 #[proc_macro_derive(Error, attributes(error, source, from))]

@@ -1,4 +1,6 @@
 //! Stand-in for varisat-checker: it checks nothing and records every step that it is shown, with literals already renamed.
+#![allow(missing_docs)] // what is public here is named and meant as in the crate itself
+
 use std::{cell::RefCell, fmt};
 
 use varisat_formula::Lit;

@@ -1,4 +1,6 @@
 //! Stand-in for varisat-formula: variables and literals as document 01 gives them.
+#![allow(missing_docs)] // what is public here is named and meant as in the crate itself
+
 pub mod lit {
     pub type LitIdx = u32;
 

@@ -1,4 +1,6 @@
 //! Stand-in for varisat-internal-proof: the step kinds. Hash computation is out of scope, so any function of the literals does.
+#![allow(missing_docs)] // what is public here is named and meant as in the crate itself
+
 use varisat_formula::{Lit, Var};
 
 pub type ClauseHash = u64;

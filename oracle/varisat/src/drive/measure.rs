@@ -23,6 +23,7 @@ use crate::{
 /// What a proof is written to: the type of `target` in the supplied `Proof`.
 pub type Target = BufWriter<Box<dyn Write>>;
 
+/// The literals of codes.
 pub fn lits(codes: impl IntoIterator<Item = u32>) -> Vec<Lit> {
     codes.into_iter().map(lit).collect()
 }
@@ -36,21 +37,25 @@ fn step(delete: bool, clause: &[Lit]) -> ProofStep<'_> {
     }
 }
 
+/// One step in text.
 #[inline(never)]
 pub fn text(target: &mut Target, delete: bool, clause: &[Lit]) {
     write_step(target, &step(delete, clause)).unwrap();
 }
 
+/// One step in binary.
 #[inline(never)]
 pub fn binary(target: &mut Target, delete: bool, clause: &[Lit]) {
     write_binary_step(target, &step(delete, clause)).unwrap();
 }
 
+/// The same, to a `Vec`.
 #[inline(never)]
 pub fn text_to_vec(target: &mut Vec<u8>, delete: bool, clause: &[Lit]) {
     write_step(target, &step(delete, clause)).unwrap();
 }
 
+/// The same, to a `Vec`.
 #[inline(never)]
 pub fn binary_to_vec(target: &mut Vec<u8>, delete: bool, clause: &[Lit]) {
     write_binary_step(target, &step(delete, clause)).unwrap();
@@ -62,6 +67,7 @@ pub fn proof(format: Format, target: &mut Target, lits: &[Lit], parts: &[(usize,
     whole(format, target, lits, parts);
 }
 
+/// The same, to a `Vec`.
 #[inline(never)]
 pub fn proof_to_vec(format: Format, target: &mut Vec<u8>, lits: &[Lit], parts: &[(usize, usize, bool)]) {
     whole(format, target, lits, parts);
@@ -84,6 +90,7 @@ fn whole(format: Format, target: &mut impl Write, lits: &[Lit], parts: &[(usize,
 pub struct Bare(Oracle);
 
 impl Bare {
+    /// This context, with a new proof that goes nowhere.
     pub fn new(mut oracle: Oracle, format: Format) -> Bare {
         forget();
         oracle.ctx.proof = Proof::default();
@@ -95,40 +102,48 @@ impl Bare {
         Bare(oracle)
     }
 
+    /// What the context holds.
     pub fn state(&self) -> State {
         self.0.state()
     }
 
+    /// The global of a user.
     #[inline(never)]
     pub fn global_from_user(&self, user: u32) -> Option<Var> {
         self.0.ctx.variables.global_from_user().get(var(user))
     }
 
+    /// The user of a global.
     #[inline(never)]
     pub fn user_from_global(&self, global: u32) -> Option<Var> {
         self.0.ctx.variables.user_from_global().get(var(global))
     }
 
+    /// The solver index that a global holds.
     #[inline(never)]
     pub fn solver_from_global(&self, global: u32) -> Option<Var> {
         self.0.ctx.variables.solver_from_global().get(var(global))
     }
 
+    /// The global that holds a solver index.
     #[inline(never)]
     pub fn global_from_solver(&self, solver: u32) -> Option<Var> {
         self.0.ctx.variables.global_from_solver().get(var(solver))
     }
 
+    /// Of a global's record.
     #[inline(never)]
     pub fn isolated(&self, global: u32) -> bool {
         self.0.ctx.variables.var_data_global(var(global)).isolated
     }
 
+    /// The value of a solver index.
     #[inline(never)]
     pub fn value(&self, solver: u32) -> Option<bool> {
         self.0.ctx.assignment.var_value(var(solver))
     }
 
+    /// `global_from_user`.
     #[inline(never)]
     pub fn map(&mut self, user: u32) -> Var {
         variables::global_from_user(self.0.ctx.into_partial_ref_mut(), var(user), false)
@@ -141,41 +156,49 @@ impl Bare {
         variables::global_from_user(self.0.ctx.into_partial_ref_mut(), user, false)
     }
 
+    /// `new_user_var`.
     #[inline(never)]
     pub fn new_user(&mut self) -> Var {
         variables::new_user_var(self.0.ctx.into_partial_ref_mut())
     }
 
+    /// `solver_from_user_lits`.
     #[inline(never)]
     pub fn pose(&mut self, solver_lits: &mut Vec<Lit>, user_lits: &[Lit]) {
         variables::solver_from_user_lits(self.0.ctx.into_partial_ref_mut(), solver_lits, user_lits, false)
     }
 
+    /// `solver_from_global`.
     #[inline(never)]
     pub fn grant(&mut self, global: u32) -> Var {
         variables::solver_from_global(self.0.ctx.into_partial_ref_mut(), var(global))
     }
 
+    /// `set_sampling_mode`.
     #[inline(never)]
     pub fn set_mode(&mut self, global: u32, mode: u32) -> Option<Var> {
         variables::set_sampling_mode(self.0.ctx.into_partial_ref_mut(), var(global), word_mode(mode))
     }
 
+    /// `observe_internal_vars`.
     #[inline(never)]
     pub fn observe(&mut self) -> Vec<Var> {
         variables::observe_internal_vars(self.0.ctx.into_partial_ref_mut())
     }
 
+    /// Clears isolated.
     #[inline(never)]
     pub fn used(&mut self, solver: u32) {
         self.0.ctx.variables.var_data_solver_mut(var(solver)).isolated = false;
     }
 
+    /// `assign_lit`.
     #[inline(never)]
     pub fn assign(&mut self, code: u32) {
         self.0.ctx.assignment.assign_lit(lit(code));
     }
 
+    /// `remove_solver_var`.
     #[inline(never)]
     pub fn remove(&mut self, solver: u32) {
         variables::remove_solver_var(self.0.ctx.into_partial_ref_mut(), var(solver))

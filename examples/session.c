@@ -1,0 +1,161 @@
+/*
+ * A session from C, from Open to Model. It prints one line if every answer is as expected.
+ *
+ *     rt staticlib capi
+ *     cc -std=c99 -Wall -Wextra -Werror -Iinclude examples/session.c target/staticlib/libcapi.a -o session
+ */
+#include "hintzobar.h"
+
+#include <stdio.h>
+#include <stdlib.h>
+#include <string.h>
+
+#define CAPACITY 8
+
+/* A table is its counts and six lists, which every call is lent. Two notes for each index are room for any call's notes. */
+static hz_counts c;
+static uint32_t gu[CAPACITY], ug[CAPACITY], sg[CAPACITY], gs[CAPACITY], assignment[CAPACITY], records[CAPACITY];
+static uint32_t notes[6 * CAPACITY];
+
+#define TABLE gu, CAPACITY, ug, CAPACITY, sg, CAPACITY, gs, CAPACITY, assignment, CAPACITY, records, CAPACITY
+#define NOTES notes, 6 * CAPACITY
+
+/* Literal codes: positive and negative. */
+#define POS(index) (2 * (index))
+#define NEG(index) (2 * (index) + 1)
+
+#define expect(holds)                                                     \
+    do {                                                                  \
+        if (!(holds)) {                                                   \
+            fprintf(stderr, "session.c:%d: not so: %s\n", __LINE__, #holds); \
+            exit(1);                                                      \
+        }                                                                 \
+    } while (0)
+
+/* Note i is a kind (0 U, 1 S, 2 D, 3 C), a global, and an index + 1 or 0. */
+static bool note(int i, uint32_t kind, uint32_t global, uint32_t last) {
+    return notes[3 * i] == kind && notes[3 * i + 1] == global && notes[3 * i + 2] == last;
+}
+
+/* Names: intake knows boxes 0 to 3, the search gets an index for three of them. */
+static void naming(uint32_t *clause) {
+    hz_changed opened = hz_open(CAPACITY, TABLE);
+    expect(opened.refusal == HZ_ACCEPTED && opened.counts.capacity == CAPACITY);
+    c = opened.counts;
+
+    hz_mapped mapped = hz_map(c, TABLE, 2, false, NOTES);
+    expect(mapped.refusal == HZ_ACCEPTED && mapped.global == 2 && mapped.notes == 3);
+    expect(note(0, 0, 0, 1) && note(1, 0, 1, 2) && note(2, 0, 2, 3));
+    c = mapped.counts;
+
+    hz_granted granted = hz_grant(c, TABLE, 2, NOTES);
+    expect(granted.refusal == HZ_ACCEPTED && granted.solver == 0 && granted.notes == 1 && note(0, 1, 2, 1));
+    c = granted.counts;
+
+    const uint32_t users[3] = {POS(1), NEG(2), POS(3)};
+    hz_posed posed = hz_pose(c, TABLE, users, 3, false, clause, 3, NOTES);
+    expect(posed.refusal == HZ_ACCEPTED && posed.filled == 3 && posed.notes == 3);
+    expect(clause[0] == POS(1) && clause[1] == NEG(0) && clause[2] == POS(2));
+    expect(note(0, 1, 1, 2) && note(1, 0, 3, 4) && note(2, 1, 3, 3));
+    c = posed.counts;
+}
+
+/* Proof lines: box 2's literal becomes true, the clause loses its false literal, and the unit is written in both formats. */
+static size_t proving(const uint32_t *clause, uint8_t *proof, size_t room) {
+    hz_changed changed = hz_assign(c, TABLE, POS(0));
+    expect(changed.refusal == HZ_ACCEPTED);
+    expect(hz_assign(changed.counts, TABLE, POS(0)).refusal == HZ_HAS_VALUE);
+    c = changed.counts;
+
+    uint32_t rest[3];
+    hz_simplified made = hz_simplify(c, TABLE, HZ_TEXT, clause, 3, false, rest, 3, proof, room);
+    expect(made.refusal == HZ_ACCEPTED && made.made == HZ_MADE_BINARY && !made.redundant);
+    expect(made.lits == 2 && rest[0] == POS(1) && rest[1] == POS(2));
+    size_t length = made.bytes;
+
+    const hz_step step = {HZ_AT_CLAUSE, 0, 0};
+    const uint32_t unit[1] = {POS(0)};
+    const uint64_t no_hashes[1] = {0}; /* a pointer is not null, also where the length is 0 */
+    hz_written text = hz_write(c, TABLE, HZ_TEXT, step, true, unit, 1, no_hashes, 0, proof + length, room - length);
+    expect(text.refusal == HZ_ACCEPTED);
+    length += text.bytes;
+    expect(length == 21 && memcmp(proof, "2 4 0\nd 2 -3 4 0\n3 0\n", 21) == 0);
+
+    uint8_t bytes[8];
+    hz_written binary = hz_write(c, TABLE, HZ_BINARY, step, true, unit, 1, no_hashes, 0, bytes, sizeof bytes);
+    expect(binary.refusal == HZ_ACCEPTED && binary.bytes == 3 && memcmp(bytes, "\x61\x06\x00", 3) == 0);
+    return length;
+}
+
+/* Box 1 is hidden; box 3 is in use and stays through the sweep. A line about the index that box 2 has given back is then refused. */
+static void sweeping(uint8_t *proof, size_t room) {
+    hz_mode_set hidden = hz_set_mode(c, TABLE, 1, HZ_HIDE, NOTES);
+    expect(hidden.refusal == HZ_ACCEPTED && !hidden.granted && hidden.notes == 1 && note(0, 0, 1, 0));
+    c = hidden.counts;
+
+    hz_changed used = hz_mark(c, TABLE, HZ_USED, 2);
+    expect(used.refusal == HZ_ACCEPTED);
+    c = used.counts;
+
+    hz_noted swept = hz_sweep(c, TABLE, NOTES);
+    expect(swept.refusal == HZ_ACCEPTED && swept.notes == 3);
+    expect(note(0, 1, 2, 0) && note(1, 1, 1, 0) && note(2, 2, 1, 0));
+    c = swept.counts;
+
+    const hz_step step = {HZ_DELETE_CLAUSE, HZ_REDUNDANT, 0};
+    const uint32_t gone[1] = {POS(0)};
+    const uint64_t no_hashes[1] = {0};
+    uint8_t before = proof[0];
+    hz_written refused = hz_write(c, TABLE, HZ_TEXT, step, true, gone, 1, no_hashes, 0, proof, room);
+    expect(refused.refusal == HZ_NOT_HELD && refused.bytes == 0 && proof[0] == before);
+    expect(hz_write(c, TABLE, 7, step, true, gone, 1, no_hashes, 0, proof, room).refusal == HZ_UNKNOWN);
+}
+
+/* What was written is read back. */
+static void reading(const uint8_t *proof, size_t length) {
+    const uint32_t codes_want[6] = {POS(1), POS(3), POS(1), NEG(2), POS(3), POS(2)};
+    uint32_t codes[21];
+    uint64_t ends[21];
+    uint8_t kinds[21];
+    hz_reading read = hz_read(HZ_TEXT, proof, length, codes, 21, ends, 21, kinds, 21);
+    expect(read.refusal == HZ_ACCEPTED && read.lits == 6 && read.steps == 3);
+    expect(memcmp(codes, codes_want, sizeof codes_want) == 0 && ends[0] == 2 && ends[1] == 5 && ends[2] == 6);
+    expect(kinds[0] == HZ_ADD && kinds[1] == HZ_DELETE && kinds[2] == HZ_ADD);
+
+    uint8_t again[64];
+    hz_written whole = hz_write_proof(HZ_TEXT, codes, read.lits, ends, read.steps, kinds, read.steps, again, sizeof again);
+    expect(whole.refusal == HZ_ACCEPTED && whole.bytes == length && memcmp(again, proof, length) == 0);
+    hz_written clause = hz_write_clause(HZ_BINARY, HZ_DELETE, codes, read.lits, 2, 5, again, sizeof again, 0);
+    expect(clause.refusal == HZ_ACCEPTED && clause.bytes == 5 && memcmp(again, "\x64\x04\x07\x08\x00", 5) == 0);
+
+    hz_first first = hz_first_step(HZ_TEXT, proof, length);
+    expect(first.refusal == HZ_ACCEPTED && first.length == 6);
+    hz_reading cut = hz_read(HZ_TEXT, proof, length - 1, codes, 21, ends, 21, kinds, 21);
+    expect(cut.refusal == HZ_BROKEN_PROOF && cut.place == 17);
+}
+
+/* The model: box 0 is false, as nothing was said of it, box 1 is deleted, box 2 true, and box 3 has no value yet. */
+static void modelling(void) {
+    uint32_t globals[CAPACITY], users[CAPACITY];
+    hz_modelled model = hz_model(c, TABLE, globals, CAPACITY, users, CAPACITY);
+    expect(model.refusal == HZ_ACCEPTED && model.globals == 4 && model.users == 2);
+    expect(globals[0] == 1 && globals[1] == 0 && globals[2] == 2 && globals[3] == 0);
+    expect(users[0] == NEG(0) && users[1] == POS(2));
+
+    hz_found user = hz_user_from_global(c, TABLE, 2);
+    expect(user.refusal == HZ_ACCEPTED && user.found && user.value == 2);
+    records[0] = 99;
+    expect(!hz_is_sound(c, TABLE) && hz_model(c, TABLE, globals, CAPACITY, users, CAPACITY).refusal == HZ_UNSOUND);
+}
+
+int main(void) {
+    uint32_t clause[3];
+    uint8_t proof[64];
+    naming(clause);
+    size_t length = proving(clause, proof, sizeof proof);
+    sweeping(proof, sizeof proof);
+    reading(proof, length);
+    modelling();
+    printf("session.c: a session from Open to Model, every answer as expected\n");
+    return 0;
+}

@@ -1,0 +1,123 @@
+//! Calls that stand in every recorded list, whatever the seed: each sees a departure from document 01 that random calls meet rarely or not.
+use crate::call::{Call, Cause, ProofStep, ASKED};
+use crate::reading::Table;
+
+/// A sound table of capacity 4: user 0 and solver index 1 at global 0; solver index 0, which is true, at global 1, which is hidden; global 2
+/// deleted; global 3 not used yet.
+pub fn base() -> Table {
+    let mut t = Table::empty(4);
+    t.give_user(0, 0, 9);
+    t.counts.global = 3;
+    t.records[1] = 2;
+    t.give_solver(1, 0);
+    t.give_solver(0, 1);
+    t.assignment[0] = 2;
+    t
+}
+
+/// Each breaks one clause of soundness and keeps all others; a word above the global watermark of a map cannot but break two.
+const BROKEN: [fn(&mut Table); 31] = [
+    // the capacity, and the lists' lengths
+    |t| *t = Table::empty(0),
+    |t| *t = Table::empty(4097),
+    |t| t.global_from_user.push(0),
+    |t| t.user_from_global.push(0),
+    |t| t.solver_from_global.push(0),
+    |t| t.global_from_solver.push(0),
+    |t| t.assignment.push(0),
+    |t| t.records.push(47),
+    // records and assignment words within their bounds
+    |t| t.records[2] = 83,
+    |t| t.assignment[0] = 3,
+    // watermarks
+    |t| t.counts.user = 4,
+    |t| t.counts.solver = 4,
+    |t| t.counts.global = 5,
+    // nothing at or above a watermark
+    |t| t.counts.user = 0,
+    |t| t.counts.solver = 1,
+    |t| t.assignment[2] = 1,
+    |t| t.records[3] = 50,
+    |t| t.user_from_global[3] = 1,
+    |t| t.solver_from_global[3] = 1,
+    // maps mutually inverse: a word of each that the other does not return
+    |t| (t.counts.user, t.global_from_user[1]) = (2, 1),
+    |t| (t.counts.global, t.user_from_global[3], t.records[3]) = (4, 1, 9),
+    |t| (t.global_from_solver[0], t.solver_from_global[1]) = (1, 0),
+    |t| (t.global_from_solver[0], t.solver_from_global[1]) = (0, 2),
+    // a user exactly if undeleted and not Hide
+    |t| t.records[0] = 11,
+    |t| t.records[1] = 0,
+    |t| t.records[1] = 1,
+    // a deleted global is Hide, isolated and without solver index
+    |t| t.records[2] = 45,
+    |t| t.records[2] = 46,
+    |t| t.records[2] = 38,
+    |t| t.records[2] = 62,
+    |t| t.records[1] = 47,
+];
+
+pub fn broken() -> Vec<Table> {
+    let spoilt = |change: &fn(&mut Table)| {
+        let mut t = base();
+        change(&mut t);
+        t
+    };
+    BROKEN.iter().map(spoilt).collect()
+}
+
+/// A deleted global's unit and assumed parts may be anything.
+pub fn deleted() -> Vec<Table> {
+    let with = |record: u32| {
+        let mut t = base();
+        t.records[2] = record;
+        t
+    };
+    [47, 50, 53, 65, 68, 71].map(with).to_vec()
+}
+
+/// Every Lookup, each at another index.
+pub fn lookups(from: u32) -> Vec<Call> {
+    (from..).zip(ASKED).map(|(n, asked)| Call::Lookup { asked, index: n % 4 }).collect()
+}
+
+/// Solver indices 0 to 3 held by globals 3, 0, 2 and 1; 0 false and 1 true. Then a clause kept, dropped, shortened and made binary, redundant and not.
+pub fn simplifications() -> Vec<Call> {
+    let pose = Call::Pose { lits: vec![6, 0, 5, 2], sampling: true, outs: 4, room: 24 };
+    let mut calls = vec![pose, Call::Assign { lit: 1 }, Call::Assign { lit: 2 }];
+    let clauses: [&[u32]; 6] = [&[4, 7, 4], &[4, 2, 0], &[0, 4, 7, 5], &[4, 0, 7], &[0, 4], &[4, 6]];
+    for lits in clauses.map(<[u32]>::to_vec) {
+        for redundant in [false, true] {
+            calls.push(Call::Simplify { lits: lits.clone(), redundant, outs: lits.len(), room: 30 });
+        }
+    }
+    calls
+}
+
+/// Every kind of step with two literals and two hashes, of which some kinds take both, some the literals alone, some neither; those that take
+/// hashes with one word too few for them; and assumptions that failed with more hashes than literals.
+pub fn renamings() -> Vec<Call> {
+    let rename = |step, lits: &[u32], hashes: &[u64], hash_outs| {
+        let (lits, hashes, outs) = (lits.to_vec(), hashes.to_vec(), lits.len());
+        Call::Rename { step, solver_vars: true, lits, hashes, outs, hash_outs }
+    };
+    let hashed = [ProofStep::AtClause(true), ProofStep::UnitClauses, ProofStep::FailedAssumptions];
+    let others = [
+        ProofStep::AddClause,
+        ProofStep::DeleteClause(Cause::Simplified),
+        ProofStep::Model,
+        ProofStep::Assumptions,
+        ProofStep::SolverVarName(1, 2),
+        ProofStep::UserVarName(2, 0),
+        ProofStep::DeleteVar(3),
+        ProofStep::ChangeSamplingMode(0, true),
+        ProofStep::ChangeHashBits(64),
+        ProofStep::End,
+    ];
+    let (lits, hashes) = ([1, 2], [5, 1 << 40]);
+    let mut calls: Vec<Call> = hashed.iter().chain(&others).map(|&step| rename(step, &lits, &hashes, 2)).collect();
+    calls.extend(hashed.map(|step| rename(step, &lits, &hashes, 1)));
+    calls.push(rename(ProofStep::FailedAssumptions, &lits[..1], &[7, 8, 9], 3));
+    calls.push(rename(ProofStep::FailedAssumptions, &[], &[7], 1));
+    calls
+}
