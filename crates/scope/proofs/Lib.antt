@@ -1,3 +1,4 @@
+pub mod Anchored
 pub mod CountsLaws
 pub mod BiMapLaws
 pub mod SoundLaws

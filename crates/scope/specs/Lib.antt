@@ -18,3 +18,7 @@ pub mod Write
 pub mod Simplify
 pub mod Models
 pub mod Contract
+pub mod Anchors
+pub mod AnchorsNames
+pub mod AnchorsModes
+pub mod AnchorsMarks
