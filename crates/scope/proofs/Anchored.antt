@@ -13,11 +13,38 @@ use Rattle.scope.specs.Pose.{poseOne, pose, wanted, usersToMap, poseRefu
 use Rattle.scope.specs.Modes.{isUnused, deleteIfUnused, show, hide, change, setMode, setModeRefusal, setModeOf, isHidden, observeOne, observe, observeRefusal, observeOf}
 use Rattle.scope.specs.Marks.{notHeld, mark, markRefusal, markOf, assignRefusal, assignOf}
 use Rattle.scope.specs.Remove.{removeHeld, remove, removeRefusal, removeOf, learn, sweepHeld, sweepOne, sweep, sweepRefusal, sweepOf}
+use Rattle.drat.specs.Numeral.{spell, further, bytesOf}
+use Rattle.drat.specs.Grammar.{number, numbers, encodeStep, encode}
+use Rattle.scope.specs.Write.{renameLits, unmatched, outside, unheld, stepRefusal, renameRefusal, renameOf, stepBytes, writeRefusal, writeOf}
+use Rattle.scope.specs.Simplify.{unfalse, simplified, simplifyBytes, simplifyRefusal, simplifyOf}
 use Rattle.scope.specs.Models.{globalValue, rowOf, globalModel, userLiteral, userModel, modelRefusal, modelOf}
 use Rattle.scope.specs.Anchors.{Agree}
+use Rattle.scope.specs.AnchorsWords.{literals, recordParts, noteRows, heldRows}
+use Rattle.scope.specs.AnchorsSound.{sounds}
 use Rattle.scope.specs.AnchorsNames.{opens, lookups, maps, newUsers, grants, poses}
 use Rattle.scope.specs.AnchorsModes.{setModes, observes, removes, sweeps, models}
 use Rattle.scope.specs.AnchorsMarks.{marks, assigns}
+use Rattle.scope.specs.AnchorsSteps.{simplifies, renames, written}
+
+literals-hold : Agree literals
+unfolding allBelow least count anyOf keepOf word isShown giveUser takeUser giveSolver takeSolver putRecord putValue soundb sizesb marksb atMostb tailb backb namedb deletedb tailsb pairsb notesWords heldBy choose each unless
+literals-hold = (refl, (refl, (refl, (refl, (refl, (refl, (refl, (refl, tt))))))))
+
+recordParts-hold : Agree recordParts
+unfolding allBelow least count anyOf keepOf word isShown giveUser takeUser giveSolver takeSolver putRecord putValue soundb sizesb marksb atMostb tailb backb namedb deletedb tailsb pairsb notesWords heldBy choose each unless isUnused deleteIfUnused show hide change setMode setModeRefusal setModeOf isHidden observeOne observe observeRefusal observeOf
+recordParts-hold = (refl, (refl, (refl, (refl, (refl, (refl, (refl, (refl, (refl, (refl, (refl, (refl, (refl, (refl, (refl, (refl, (refl, (refl, (refl, (refl, (refl, (refl, (refl, (refl, (refl, (refl, (refl, tt)))))))))))))))))))))))))))
+
+noteRows-hold : Agree noteRows
+unfolding allBelow least count anyOf keepOf word isShown giveUser takeUser giveSolver takeSolver putRecord putValue soundb sizesb marksb atMostb tailb backb namedb deletedb tailsb pairsb notesWords heldBy choose each unless
+noteRows-hold = (refl, (refl, (refl, (refl, (refl, (refl, (refl, (refl, (refl, tt)))))))))
+
+heldRows-hold : Agree heldRows
+unfolding allBelow least count anyOf keepOf word isShown giveUser takeUser giveSolver takeSolver putRecord putValue soundb sizesb marksb atMostb tailb backb namedb deletedb tailsb pairsb notesWords heldBy choose each unless
+heldRows-hold = (refl, (refl, (refl, (refl, (refl, (refl, (refl, (refl, (refl, (refl, (refl, tt)))))))))))
+
+sounds-hold : Agree sounds
+unfolding allBelow least count anyOf keepOf word isShown giveUser takeUser giveSolver takeSolver putRecord putValue soundb sizesb marksb atMostb tailb backb namedb deletedb tailsb pairsb notesWords heldBy choose each unless found lookupOf globalFromUserOf userFromGlobalOf solverFromGlobalOf globalFromSolverOf recordWordOf assignmentWordOf
+sounds-hold = (refl, (refl, (refl, (refl, (refl, (refl, (refl, (refl, (refl, (refl, (refl, (refl, (refl, (refl, (refl, (refl, (refl, (refl, (refl, (refl, (refl, (refl, (refl, (refl, (refl, (refl, (refl, (refl, (refl, (refl, (refl, (refl, (refl, (refl, (refl, (refl, (refl, (refl, (refl, (refl, (refl, (refl, (refl, (refl, (refl, (refl, (refl, (refl, (refl, (refl, (refl, (refl, (refl, (refl, (refl, (refl, (refl, (refl, (refl, (refl, (refl, (refl, (refl, (refl, (refl, (refl, (refl, tt)))))))))))))))))))))))))))))))))))))))))))))))))))))))))))))))))))
 
 opens-hold : Agree opens
 unfolding allBelow least count anyOf keepOf word isShown giveUser takeUser giveSolver takeSolver putRecord putValue soundb sizesb marksb atMostb tailb backb namedb deletedb tailsb pairsb notesWords heldBy choose each unless emptyTable openOf
@@ -71,5 +98,17 @@ assigns-hold : Agree assigns
 unfolding allBelow least count anyOf keepOf word isShown giveUser takeUser giveSolver takeSolver putRecord putValue soundb sizesb marksb atMostb tailb backb namedb deletedb tailsb pairsb notesWords heldBy choose each unless notHeld mark markRefusal markOf assignRefusal assignOf
 assigns-hold = (refl, (refl, (refl, (refl, (refl, (refl, (refl, (refl, (refl, (refl, tt))))))))))
 
-pub anchored : Agree opens × Agree lookups × Agree maps × Agree newUsers × Agree grants × Agree poses × Agree setModes × Agree observes × Agree removes × Agree sweeps × Agree models × Agree marks × Agree assigns
-anchored = (opens-hold, lookups-hold, maps-hold, newUsers-hold, grants-hold, poses-hold, setModes-hold, observes-hold, removes-hold, sweeps-hold, models-hold, marks-hold, assigns-hold)
+simplifies-hold : Agree simplifies
+unfolding allBelow least count anyOf keepOf word isShown giveUser takeUser giveSolver takeSolver putRecord putValue soundb sizesb marksb atMostb tailb backb namedb deletedb tailsb pairsb notesWords heldBy choose each unless notHeld mark markRefusal markOf assignRefusal assignOf spell further bytesOf number numbers encodeStep encode renameLits unmatched outside unheld stepRefusal renameRefusal renameOf stepBytes writeRefusal writeOf unfalse simplified simplifyBytes simplifyRefusal simplifyOf
+simplifies-hold = (refl, (refl, (refl, (refl, (refl, (refl, (refl, (refl, (refl, (refl, (refl, (refl, (refl, (refl, (refl, (refl, (refl, (refl, (refl, (refl, (refl, (refl, (refl, (refl, tt))))))))))))))))))))))))
+
+renames-hold : Agree renames
+unfolding allBelow least count anyOf keepOf word isShown giveUser takeUser giveSolver takeSolver putRecord putValue soundb sizesb marksb atMostb tailb backb namedb deletedb tailsb pairsb notesWords heldBy choose each unless notHeld mark markRefusal markOf assignRefusal assignOf renameLits unmatched outside unheld stepRefusal renameRefusal renameOf stepBytes writeRefusal writeOf
+renames-hold = (refl, (refl, (refl, (refl, (refl, (refl, (refl, (refl, (refl, (refl, (refl, (refl, (refl, (refl, (refl, (refl, (refl, (refl, (refl, (refl, (refl, (refl, (refl, (refl, (refl, (refl, (refl, (refl, (refl, (refl, (refl, (refl, (refl, tt)))))))))))))))))))))))))))))))))
+
+written-hold : Agree written
+unfolding allBelow least count anyOf keepOf word isShown giveUser takeUser giveSolver takeSolver putRecord putValue soundb sizesb marksb atMostb tailb backb namedb deletedb tailsb pairsb notesWords heldBy choose each unless notHeld mark markRefusal markOf assignRefusal assignOf spell further bytesOf number numbers encodeStep encode renameLits unmatched outside unheld stepRefusal renameRefusal renameOf stepBytes writeRefusal writeOf
+written-hold = (refl, (refl, (refl, (refl, (refl, (refl, (refl, (refl, (refl, (refl, (refl, (refl, (refl, (refl, (refl, (refl, (refl, (refl, (refl, (refl, (refl, (refl, (refl, (refl, (refl, (refl, (refl, (refl, (refl, (refl, (refl, (refl, (refl, (refl, (refl, tt)))))))))))))))))))))))))))))))))))
+
+pub anchored : Agree literals × Agree recordParts × Agree noteRows × Agree heldRows × Agree sounds × Agree opens × Agree lookups × Agree maps × Agree newUsers × Agree grants × Agree poses × Agree setModes × Agree observes × Agree removes × Agree sweeps × Agree models × Agree marks × Agree assigns × Agree simplifies × Agree renames × Agree written
+anchored = (literals-hold, recordParts-hold, noteRows-hold, heldRows-hold, sounds-hold, opens-hold, lookups-hold, maps-hold, newUsers-hold, grants-hold, poses-hold, setModes-hold, observes-hold, removes-hold, sweeps-hold, models-hold, marks-hold, assigns-hold, simplifies-hold, renames-hold, written-hold)

@@ -22,3 +22,6 @@ pub mod Anchors
 pub mod AnchorsNames
 pub mod AnchorsModes
 pub mod AnchorsMarks
+pub mod AnchorsSteps
+pub mod AnchorsSound
+pub mod AnchorsWords
