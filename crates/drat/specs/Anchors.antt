@@ -34,6 +34,13 @@ infix 80 _is_
 abbrev pub _is_ : Seen → Seen → Row
 x is y = record { gives = x; says = y }
 
+-- 1 -2 0, d 3 0, 0, in the two formats
+abbrev pub text3 : List ℕ
+text3 = 49 ∷ 32 ∷ 45 ∷ 50 ∷ 32 ∷ 48 ∷ 10 ∷ 100 ∷ 32 ∷ 51 ∷ 32 ∷ 48 ∷ 10 ∷ 48 ∷ 10 ∷ []
+
+abbrev pub binary3 : List ℕ
+binary3 = 97 ∷ 2 ∷ 5 ∷ 0 ∷ 100 ∷ 6 ∷ 0 ∷ 97 ∷ 0 ∷ []
+
 abbrev pub filled : Answer → List ℕ → List ℕ → List ℕ → Seen
 filled a cs es ks = filling (record { answer = a; codes = cs; ends = es; kinds = ks })
 
@@ -72,7 +79,7 @@ written =
     ∷ bytes (encodeStep Binary (stepOf Add [])) is bytes (97 ∷ 0 ∷ [])
     ∷ bytes (encodeStep Binary (stepOf Delete [])) is bytes (100 ∷ 0 ∷ [])
     ∷ bytes (encode Text (stepOf Add (0 ∷ 3 ∷ []) ∷ stepOf Delete (4 ∷ []) ∷ []))
-      is bytes (49 ∷ 32 ∷ 45 ∷ 50 ∷ 32 ∷ 48 ∷ 10 ∷ 100 ∷ 32 ∷ 51 ∷ 32 ∷ 48 ∷ 10 ∷ [])
+    is bytes (49 ∷ 32 ∷ 45 ∷ 50 ∷ 32 ∷ 48 ∷ 10 ∷ 100 ∷ 32 ∷ 51 ∷ 32 ∷ 48 ∷ 10 ∷ [])
     ∷ bytes (encode Binary (stepOf Add (0 ∷ 3 ∷ []) ∷ stepOf Delete (4 ∷ []) ∷ [])) is bytes (97 ∷ 2 ∷ 5 ∷ 0 ∷ 100 ∷ 6 ∷ 0 ∷ [])
     ∷ bytes (encode Text []) is bytes []
     ∷ []
@@ -80,17 +87,14 @@ written =
 -- Read: 13 with the start of the first step not whole, before 2. Codes, ends, kinds (0 add, 1 delete); literals, steps.
 abbrev pub reads : List Row
 reads =
-    -- 1 -2 0, d 3 0, 0, with just enough room
-    filling (readOf Text (49 ∷ 32 ∷ 45 ∷ 50 ∷ 32 ∷ 48 ∷ 10 ∷ 100 ∷ 32 ∷ 51 ∷ 32 ∷ 48 ∷ 10 ∷ 48 ∷ 10 ∷ []) 3 3 3)
-      is filled (accepted (3 ∷ 3 ∷ [])) (0 ∷ 3 ∷ 4 ∷ []) (2 ∷ 3 ∷ 3 ∷ []) (0 ∷ 1 ∷ 0 ∷ [])
-    ∷ filling (readOf Binary (97 ∷ 2 ∷ 5 ∷ 0 ∷ 100 ∷ 6 ∷ 0 ∷ 97 ∷ 0 ∷ []) 3 3 3)
-      is filled (accepted (3 ∷ 3 ∷ [])) (0 ∷ 3 ∷ 4 ∷ []) (2 ∷ 3 ∷ 3 ∷ []) (0 ∷ 1 ∷ 0 ∷ [])
-    ∷ filling (readOf Text (49 ∷ 32 ∷ 45 ∷ 50 ∷ 32 ∷ 48 ∷ 10 ∷ 100 ∷ 32 ∷ 51 ∷ 32 ∷ 48 ∷ 10 ∷ 48 ∷ 10 ∷ []) 9 9 9)
-      is filled (accepted (3 ∷ 3 ∷ [])) (0 ∷ 3 ∷ 4 ∷ []) (2 ∷ 3 ∷ 3 ∷ []) (0 ∷ 1 ∷ 0 ∷ [])
-    ∷ filling (readOf Text (49 ∷ 32 ∷ 45 ∷ 50 ∷ 32 ∷ 48 ∷ 10 ∷ 100 ∷ 32 ∷ 51 ∷ 32 ∷ 48 ∷ 10 ∷ 48 ∷ 10 ∷ []) 2 3 3) is filled (refused 2 []) [] [] []
-    ∷ filling (readOf Text (49 ∷ 32 ∷ 45 ∷ 50 ∷ 32 ∷ 48 ∷ 10 ∷ 100 ∷ 32 ∷ 51 ∷ 32 ∷ 48 ∷ 10 ∷ 48 ∷ 10 ∷ []) 3 2 3) is filled (refused 2 []) [] [] []
-    ∷ filling (readOf Text (49 ∷ 32 ∷ 45 ∷ 50 ∷ 32 ∷ 48 ∷ 10 ∷ 100 ∷ 32 ∷ 51 ∷ 32 ∷ 48 ∷ 10 ∷ 48 ∷ 10 ∷ []) 3 3 2) is filled (refused 2 []) [] [] []
-    ∷ filling (readOf Binary (97 ∷ 2 ∷ 5 ∷ 0 ∷ 100 ∷ 6 ∷ 0 ∷ 97 ∷ 0 ∷ []) 2 3 3) is filled (refused 2 []) [] [] []
+    -- with just enough room
+    filling (readOf Text text3 3 3 3) is filled (accepted (3 ∷ 3 ∷ [])) (0 ∷ 3 ∷ 4 ∷ []) (2 ∷ 3 ∷ 3 ∷ []) (0 ∷ 1 ∷ 0 ∷ [])
+    ∷ filling (readOf Binary binary3 3 3 3) is filled (accepted (3 ∷ 3 ∷ [])) (0 ∷ 3 ∷ 4 ∷ []) (2 ∷ 3 ∷ 3 ∷ []) (0 ∷ 1 ∷ 0 ∷ [])
+    ∷ filling (readOf Text text3 9 9 9) is filled (accepted (3 ∷ 3 ∷ [])) (0 ∷ 3 ∷ 4 ∷ []) (2 ∷ 3 ∷ 3 ∷ []) (0 ∷ 1 ∷ 0 ∷ [])
+    ∷ filling (readOf Text text3 2 3 3) is filled (refused 2 []) [] [] []
+    ∷ filling (readOf Text text3 3 2 3) is filled (refused 2 []) [] [] []
+    ∷ filling (readOf Text text3 3 3 2) is filled (refused 2 []) [] [] []
+    ∷ filling (readOf Binary binary3 2 3 3) is filled (refused 2 []) [] [] []
     -- no bytes are no steps; a delete of the empty clause
     ∷ filling (readOf Text [] 0 0 0) is filled (accepted (0 ∷ 0 ∷ [])) [] [] []
     ∷ filling (readOf Binary [] 0 0 0) is filled (accepted (0 ∷ 0 ∷ [])) [] [] []
@@ -98,10 +102,10 @@ reads =
     ∷ filling (readOf Binary (100 ∷ 0 ∷ []) 0 1 1) is filled (accepted (0 ∷ 1 ∷ [])) [] (0 ∷ []) (1 ∷ [])
     -- magnitudes: 10, 4096, -4096
     ∷ filling (readOf Text (49 ∷ 48 ∷ 32 ∷ 52 ∷ 48 ∷ 57 ∷ 54 ∷ 32 ∷ 45 ∷ 52 ∷ 48 ∷ 57 ∷ 54 ∷ 32 ∷ 48 ∷ 10 ∷ []) 3 1 1)
-      is filled (accepted (3 ∷ 1 ∷ [])) (18 ∷ 8190 ∷ 8191 ∷ []) (3 ∷ []) (0 ∷ [])
+    is filled (accepted (3 ∷ 1 ∷ [])) (18 ∷ 8190 ∷ 8191 ∷ []) (3 ∷ []) (0 ∷ [])
     -- codes: 2, 127, 128, 8,193
     ∷ filling (readOf Binary (97 ∷ 2 ∷ 127 ∷ 128 ∷ 1 ∷ 129 ∷ 64 ∷ 0 ∷ []) 4 1 1)
-      is filled (accepted (4 ∷ 1 ∷ [])) (0 ∷ 125 ∷ 126 ∷ 8191 ∷ []) (4 ∷ []) (0 ∷ [])
+    is filled (accepted (4 ∷ 1 ∷ [])) (0 ∷ 125 ∷ 126 ∷ 8191 ∷ []) (4 ∷ []) (0 ∷ [])
     -- 13 with the place, whatever the room: the second line is cut, or has no line feed, or another
     ∷ filling (readOf Text (49 ∷ 32 ∷ 48 ∷ 10 ∷ 50 ∷ 32 ∷ 48 ∷ []) 0 0 0) is filled (refused 13 (4 ∷ [])) [] [] []
     ∷ filling (readOf Text (49 ∷ 32 ∷ 48 ∷ 10 ∷ 50 ∷ []) 0 0 0) is filled (refused 13 (4 ∷ [])) [] [] []
@@ -143,10 +147,9 @@ reads =
 -- The first step alone: its part of the bytes; 13 at 0.
 abbrev pub firsts : List Row
 firsts =
-    answer (firstOf Text (49 ∷ 32 ∷ 45 ∷ 50 ∷ 32 ∷ 48 ∷ 10 ∷ 100 ∷ 32 ∷ 51 ∷ 32 ∷ 48 ∷ 10 ∷ 48 ∷ 10 ∷ []))
-      is answer (accepted (49 ∷ 32 ∷ 45 ∷ 50 ∷ 32 ∷ 48 ∷ 10 ∷ []))
+    answer (firstOf Text text3) is answer (accepted (49 ∷ 32 ∷ 45 ∷ 50 ∷ 32 ∷ 48 ∷ 10 ∷ []))
     ∷ answer (firstOf Text (100 ∷ 32 ∷ 51 ∷ 32 ∷ 48 ∷ 10 ∷ 48 ∷ 49 ∷ [])) is answer (accepted (100 ∷ 32 ∷ 51 ∷ 32 ∷ 48 ∷ 10 ∷ []))
-    ∷ answer (firstOf Binary (97 ∷ 2 ∷ 5 ∷ 0 ∷ 100 ∷ 6 ∷ 0 ∷ 97 ∷ 0 ∷ [])) is answer (accepted (97 ∷ 2 ∷ 5 ∷ 0 ∷ []))
+    ∷ answer (firstOf Binary binary3) is answer (accepted (97 ∷ 2 ∷ 5 ∷ 0 ∷ []))
     ∷ answer (firstOf Binary (100 ∷ 0 ∷ 98 ∷ [])) is answer (accepted (100 ∷ 0 ∷ []))
     ∷ answer (firstOf Text []) is answer (refused 13 (0 ∷ []))
     ∷ answer (firstOf Binary []) is answer (refused 13 (0 ∷ []))
@@ -186,10 +189,8 @@ parts =
 -- A whole proof from the three lists that Read fills: 3, 2.
 abbrev pub wholes : List Row
 wholes =
-    writing (writeAllOf Text (0 ∷ 3 ∷ 4 ∷ []) (2 ∷ 3 ∷ 3 ∷ []) (0 ∷ 1 ∷ 0 ∷ []) 15)
-      is writes (accepted (15 ∷ [])) (49 ∷ 32 ∷ 45 ∷ 50 ∷ 32 ∷ 48 ∷ 10 ∷ 100 ∷ 32 ∷ 51 ∷ 32 ∷ 48 ∷ 10 ∷ 48 ∷ 10 ∷ [])
-    ∷ writing (writeAllOf Binary (0 ∷ 3 ∷ 4 ∷ []) (2 ∷ 3 ∷ 3 ∷ []) (0 ∷ 1 ∷ 0 ∷ []) 9)
-      is writes (accepted (9 ∷ [])) (97 ∷ 2 ∷ 5 ∷ 0 ∷ 100 ∷ 6 ∷ 0 ∷ 97 ∷ 0 ∷ [])
+    writing (writeAllOf Text (0 ∷ 3 ∷ 4 ∷ []) (2 ∷ 3 ∷ 3 ∷ []) (0 ∷ 1 ∷ 0 ∷ []) 15) is writes (accepted (15 ∷ [])) text3
+    ∷ writing (writeAllOf Binary (0 ∷ 3 ∷ 4 ∷ []) (2 ∷ 3 ∷ 3 ∷ []) (0 ∷ 1 ∷ 0 ∷ []) 9) is writes (accepted (9 ∷ [])) binary3
     ∷ writing (writeAllOf Text (0 ∷ 3 ∷ 4 ∷ []) (2 ∷ 3 ∷ 3 ∷ []) (0 ∷ 1 ∷ 0 ∷ []) 14) is writes (refused 2 []) []
     ∷ writing (writeAllOf Text [] [] [] 0) is writes (accepted (0 ∷ [])) []
     ∷ writing (writeAllOf Text (0 ∷ 3 ∷ 8192 ∷ []) (2 ∷ 3 ∷ 3 ∷ []) (0 ∷ 1 ∷ 0 ∷ []) 0) is writes (refused 3 []) []

@@ -38,27 +38,27 @@ setModes =
     ∷ does (setModeOf (hidden1 11) 0 Hide 0) is says (w1 0) (hidden1 11)
     -- Sample to Witness: C(g,no); Witness to Sample: C(g,yes); the other parts of the record stay
     ∷ does (setModeOf mixed 0 Witness 3)
-      is notes (w1 1) (tab 4 3 3 2 (w4 2 3 1 0) (w4 3 1 2 0) (w4 2 0 1 0) (w4 3 1 0 0) (w4 2 0 0 0) (w4 10 13 18 47)) (changes 0 false ∷ []) (w3 3 0 0)
+    is notes (w1 1) (tab 4 3 3 2 (w4 2 3 1 0) (w4 3 1 2 0) (w4 2 0 1 0) (w4 3 1 0 0) (w4 2 0 0 0) (w4 10 13 18 47)) (changes 0 false ∷ []) (w3 3 0 0)
     ∷ does (setModeOf mixed 1 Sample 3)
-      is notes (w1 1) (tab 4 3 3 2 (w4 2 3 1 0) (w4 3 1 2 0) (w4 2 0 1 0) (w4 3 1 0 0) (w4 2 0 0 0) (w4 9 12 18 47)) (changes 1 true ∷ []) (w3 3 1 1)
+    is notes (w1 1) (tab 4 3 3 2 (w4 2 3 1 0) (w4 3 1 2 0) (w4 2 0 1 0) (w4 3 1 0 0) (w4 2 0 0 0) (w4 9 12 18 47)) (changes 1 true ∷ []) (w3 3 1 1)
     -- to Hide: U(g,-); D if isolated without solver index, not where one is held, not where it was used
     ∷ does (setModeOf mixed 1 Hide 6)
-      is notes (w1 2) (tab 4 3 3 2 (w4 0 3 1 0) (w4 3 0 2 0) (w4 2 0 1 0) (w4 3 1 0 0) (w4 2 0 0 0) (w4 9 50 18 47)) (user- 1 ∷ deletes 1 ∷ [])
-      (w6 0 1 0 2 1 0)
+    is notes (w1 2) (tab 4 3 3 2 (w4 0 3 1 0) (w4 3 0 2 0) (w4 2 0 1 0) (w4 3 1 0 0) (w4 2 0 0 0) (w4 9 50 18 47)) (user- 1 ∷ deletes 1 ∷ [])
+    (w6 0 1 0 2 1 0)
     ∷ does (setModeOf mixed 0 Hide 3)
-      is notes (w1 1) (tab 4 3 3 2 (w4 2 3 0 0) (w4 0 1 2 0) (w4 2 0 1 0) (w4 3 1 0 0) (w4 2 0 0 0) (w4 11 13 18 47)) (user- 0 ∷ []) (w3 0 0 0)
+    is notes (w1 1) (tab 4 3 3 2 (w4 2 3 0 0) (w4 0 1 2 0) (w4 2 0 1 0) (w4 3 1 0 0) (w4 2 0 0 0) (w4 11 13 18 47)) (user- 0 ∷ []) (w3 0 0 0)
     ∷ does (setModeOf (shown1 3) 0 Hide 3) is notes (w1 1) (hidden1 5) (user- 0 ∷ []) (w3 0 0 0)
     ∷ does (setModeOf (shown1 15) 0 Hide 6) is notes (w1 2) (hidden1 53) (user- 0 ∷ deletes 0 ∷ []) (w6 0 0 0 2 0 0)
     -- from Hide: C, then U with the least unmapped user, which is answered; at the watermark
     ∷ does (setModeOf holed 2 Sample 6)
-      is notes (w2 1 2) (tab 4 3 3 2 (w4 2 3 1 0) (w4 3 1 2 0) (w4 2 0 0 0) (w4 0 1 0 0) (w4 2 0 0 0) (w4 9 13 0 47)) (changes 2 true ∷ user+ 2 1 ∷ [])
-      (w6 3 2 1 0 2 2)
+    is notes (w2 1 2) (tab 4 3 3 2 (w4 2 3 1 0) (w4 3 1 2 0) (w4 2 0 0 0) (w4 0 1 0 0) (w4 2 0 0 0) (w4 9 13 0 47)) (changes 2 true ∷ user+ 2 1 ∷ [])
+    (w6 3 2 1 0 2 2)
     ∷ does (setModeOf holed 2 Witness 6)
-      is notes (w2 1 2) (tab 4 3 3 2 (w4 2 3 1 0) (w4 3 1 2 0) (w4 2 0 0 0) (w4 0 1 0 0) (w4 2 0 0 0) (w4 9 13 1 47)) (changes 2 false ∷ user+ 2 1 ∷ [])
-      (w6 3 2 0 0 2 2)
+    is notes (w2 1 2) (tab 4 3 3 2 (w4 2 3 1 0) (w4 3 1 2 0) (w4 2 0 0 0) (w4 0 1 0 0) (w4 2 0 0 0) (w4 9 13 1 47)) (changes 2 false ∷ user+ 2 1 ∷ [])
+    (w6 3 2 0 0 2 2)
     ∷ does (setModeOf (hidden1 17) 0 Witness 6) is notes (w2 0 2) (shown1 16) (changes 0 false ∷ user+ 0 0 ∷ []) (w6 3 0 0 0 0 1)
     ∷ does (setModeOf hidden2 0 Sample 6)
-      is notes (w2 0 2) (tab 2 1 1 0 (w2 1 0) (w2 1 0) (w2 0 0) (w2 0 0) (w2 0 0) (w2 0 47)) (changes 0 true ∷ user+ 0 0 ∷ []) (w6 3 0 1 0 0 1)
+    is notes (w2 0 2) (tab 2 1 1 0 (w2 1 0) (w2 1 0) (w2 0 0) (w2 0 0) (w2 0 0) (w2 0 47)) (changes 0 true ∷ user+ 0 0 ∷ []) (w6 3 0 1 0 0 1)
     ∷ []
 
 -- ---- Observe: 1, 7, 2
@@ -87,10 +87,10 @@ observes =
     ∷ does (observeOf observed3 1 12) is turns 2 observed3
     ∷ does (observeOf observed3 2 11) is turns 2 observed3
     ∷ does (observeOf observed3 2 12)
-      is fills (w2 2 4) (tab 3 3 3 1 (w3 1 2 3) (w3 1 2 3) (w3 0 0 1) (w3 3 0 0) (w3 1 0 0) (w3 10 9 4))
-      (changes 0 false ∷ user+ 0 0 ∷ changes 2 false ∷ user+ 2 2 ∷ [])
-      (3 ∷ 0 ∷ 0 ∷ 0 ∷ 0 ∷ 1 ∷ 3 ∷ 2 ∷ 0 ∷ 0 ∷ 2 ∷ 3 ∷ [])
-      (w2 0 2)
+    is fills (w2 2 4) (tab 3 3 3 1 (w3 1 2 3) (w3 1 2 3) (w3 0 0 1) (w3 3 0 0) (w3 1 0 0) (w3 10 9 4))
+    (changes 0 false ∷ user+ 0 0 ∷ changes 2 false ∷ user+ 2 2 ∷ [])
+    (3 ∷ 0 ∷ 0 ∷ 0 ∷ 0 ∷ 1 ∷ 3 ∷ 2 ∷ 0 ∷ 0 ∷ 2 ∷ 3 ∷ [])
+    (w2 0 2)
     ∷ []
 
 -- ---- Remove: 1, 8, 2
@@ -114,9 +114,9 @@ removes =
     ∷ does (removeOf (held1 11) 0 5) is turns 2 (held1 11)
     -- S(g,-); D if it is hidden and isolated, whether assumed or not
     ∷ does (removeOf mixed 0 3)
-      is notes (w1 1) (tab 4 3 3 2 (w4 2 3 1 0) (w4 3 1 2 0) (w4 2 0 0 0) (w4 0 1 0 0) (w4 2 0 0 0) (w4 9 13 18 47)) (solver- 2 ∷ []) (w3 1 2 0)
+    is notes (w1 1) (tab 4 3 3 2 (w4 2 3 1 0) (w4 3 1 2 0) (w4 2 0 0 0) (w4 0 1 0 0) (w4 2 0 0 0) (w4 9 13 18 47)) (solver- 2 ∷ []) (w3 1 2 0)
     ∷ does (removeOf mixed 1 3)
-      is notes (w1 1) (tab 4 3 3 2 (w4 2 3 1 0) (w4 3 1 2 0) (w4 0 0 1 0) (w4 3 0 0 0) (w4 2 0 0 0) (w4 9 13 18 47)) (solver- 0 ∷ []) (w3 1 0 0)
+    is notes (w1 1) (tab 4 3 3 2 (w4 2 3 1 0) (w4 3 1 2 0) (w4 0 0 1 0) (w4 3 0 0 0) (w4 2 0 0 0) (w4 9 13 18 47)) (solver- 0 ∷ []) (w3 1 0 0)
     ∷ does (removeOf (held1 2) 0 3) is notes (w1 1) (removed1 2) (solver- 0 ∷ []) (w3 1 0 0)
     ∷ does (removeOf (held1 11) 0 6) is notes (w1 2) (removed1 47) (solver- 0 ∷ deletes 0 ∷ []) (w6 1 0 0 2 0 0)
     ∷ does (removeOf (held1 32) 0 6) is notes (w1 2) (removed1 68) (solver- 0 ∷ deletes 0 ∷ []) (w6 1 0 0 2 0 0)
@@ -144,12 +144,12 @@ sweeps =
     ∷ does (sweepOf swept4 8) is turns 2 swept4
     -- 0 learns its unit and is removed; 1 stays; 2 learns its unit and stays; 3 is removed and deleted; the assignment stays
     ∷ does (sweepOf swept4 9)
-      is notes (w1 3) (tab 4 2 4 4 (w4 4 1 0 0) (w4 2 0 0 1) (w4 2 3 0 0) (w4 0 1 2 0) (w4 2 0 1 0) (w4 0 32 47 16))
-      (solver- 3 ∷ solver- 2 ∷ deletes 2 ∷ [])
-      (1 ∷ 3 ∷ 0 ∷ 1 ∷ 2 ∷ 0 ∷ 2 ∷ 2 ∷ 0 ∷ [])
+    is notes (w1 3) (tab 4 2 4 4 (w4 4 1 0 0) (w4 2 0 0 1) (w4 2 3 0 0) (w4 0 1 2 0) (w4 2 0 1 0) (w4 0 32 47 16))
+    (solver- 3 ∷ solver- 2 ∷ deletes 2 ∷ [])
+    (1 ∷ 3 ∷ 0 ∷ 1 ∷ 2 ∷ 0 ∷ 2 ∷ 2 ∷ 0 ∷ [])
     -- an index that nobody holds is passed over, whatever its word
     ∷ does (sweepOf holed 3)
-      is notes (w1 1) (tab 4 3 3 2 (w4 2 0 1 0) (w4 3 1 0 0) (w4 0 0 0 0) (w4 0 0 0 0) (w4 2 0 0 0) (w4 9 13 2 47)) (solver- 0 ∷ []) (w3 1 0 0)
+    is notes (w1 1) (tab 4 3 3 2 (w4 2 0 1 0) (w4 3 1 0 0) (w4 0 0 0 0) (w4 0 0 0 0) (w4 2 0 0 0) (w4 9 13 2 47)) (solver- 0 ∷ []) (w3 1 0 0)
     -- an older unit gives way to the value; none is no value
     ∷ does (sweepOf (lone 2 3) 3) is notes (w1 1) (tab 1 1 1 1 (w1 1) (w1 1) (w1 0) (w1 0) (w1 2) (w1 15)) (solver- 0 ∷ []) (w3 1 0 0)
     ∷ does (sweepOf (lone 1 6) 3) is notes (w1 1) (tab 1 1 1 1 (w1 1) (w1 1) (w1 0) (w1 0) (w1 1) (w1 12)) (solver- 0 ∷ []) (w3 1 0 0)

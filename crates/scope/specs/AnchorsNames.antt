@@ -128,25 +128,25 @@ maps =
     ∷ does (mapOf opened2 1 false 6) is notes (w2 1 2) full2 (user+ 0 0 ∷ user+ 1 1 ∷ []) (w6 0 0 1 0 1 2)
     -- the watermark, since the user's own global is not deleted and no other is
     ∷ does (mapOf hidden2 0 true 3)
-      is notes (w2 1 1) (tab 2 1 2 0 (w2 2 0) (w2 0 1) (w2 0 0) (w2 0 0) (w2 0 0) (w2 2 9)) (user+ 1 0 ∷ []) (w3 0 1 1)
+    is notes (w2 1 1) (tab 2 1 2 0 (w2 2 0) (w2 0 1) (w2 0 0) (w2 0 0) (w2 0 0) (w2 2 9)) (user+ 1 0 ∷ []) (w3 0 1 1)
     ∷ does (mapOf hidden4 2 false 9)
-      is notes (w2 3 3) (tab 4 3 4 0 (w4 2 3 4 0) (w4 0 1 2 3) (w4 0 0 0 0) (w4 0 0 0 0) (w4 0 0 0 0) (w4 2 9 9 9))
-      (user+ 1 0 ∷ user+ 2 1 ∷ user+ 3 2 ∷ [])
-      (0 ∷ 1 ∷ 1 ∷ 0 ∷ 2 ∷ 2 ∷ 0 ∷ 3 ∷ 3 ∷ [])
+    is notes (w2 3 3) (tab 4 3 4 0 (w4 2 3 4 0) (w4 0 1 2 3) (w4 0 0 0 0) (w4 0 0 0 0) (w4 0 0 0 0) (w4 2 9 9 9))
+    (user+ 1 0 ∷ user+ 2 1 ∷ user+ 3 2 ∷ [])
+    (0 ∷ 1 ∷ 1 ∷ 0 ∷ 2 ∷ 2 ∷ 0 ∷ 3 ∷ 3 ∷ [])
     -- the user's own index, which is deleted, and not the lesser deleted one
     ∷ does (mapOf deleted4 1 false 3)
-      is notes (w2 1 1) (tab 4 2 2 0 (w4 0 2 0 0) (w4 0 2 0 0) (w4 0 0 0 0) (w4 0 0 0 0) (w4 0 0 0 0) (w4 47 9 47 47)) (user+ 1 1 ∷ []) (w3 0 1 2)
+    is notes (w2 1 1) (tab 4 2 2 0 (w4 0 2 0 0) (w4 0 2 0 0) (w4 0 0 0 0) (w4 0 0 0 0) (w4 0 0 0 0) (w4 47 9 47 47)) (user+ 1 1 ∷ []) (w3 0 1 2)
     -- the gap begins at the watermark: users 0 and 1 stay unmapped
     ∷ does (mapOf deleted4 3 false 6)
-      is notes (w2 3 2) (tab 4 4 4 0 (w4 0 0 3 4) (w4 0 0 3 4) (w4 0 0 0 0) (w4 0 0 0 0) (w4 0 0 0 0) (w4 47 71 9 9))
-      (user+ 2 2 ∷ user+ 3 3 ∷ [])
-      (w6 0 2 3 0 3 4)
+    is notes (w2 3 2) (tab 4 4 4 0 (w4 0 0 3 4) (w4 0 0 3 4) (w4 0 0 0 0) (w4 0 0 0 0) (w4 0 0 0 0) (w4 47 71 9 9))
+    (user+ 2 2 ∷ user+ 3 3 ∷ [])
+    (w6 0 2 3 0 3 4)
     -- the least deleted one
     ∷ does (mapOf spare4 0 false 3)
-      is notes (w2 1 1) (tab 4 1 3 0 (w4 2 0 0 0) (w4 0 1 0 0) (w4 0 0 0 0) (w4 0 0 0 0) (w4 0 0 0 0) (w4 2 9 71 47)) (user+ 1 0 ∷ []) (w3 0 1 1)
+    is notes (w2 1 1) (tab 4 1 3 0 (w4 2 0 0 0) (w4 0 1 0 0) (w4 0 0 0 0) (w4 0 0 0 0) (w4 0 0 0 0) (w4 2 9 71 47)) (user+ 1 0 ∷ []) (w3 0 1 1)
     -- the user's own index at the global watermark, and not the deleted one below
     ∷ does (mapOf one4 1 false 3)
-      is notes (w2 1 1) (tab 4 2 2 0 (w4 0 2 0 0) (w4 0 2 0 0) (w4 0 0 0 0) (w4 0 0 0 0) (w4 0 0 0 0) (w4 47 9 47 47)) (user+ 1 1 ∷ []) (w3 0 1 2)
+    is notes (w2 1 1) (tab 4 2 2 0 (w4 0 2 0 0) (w4 0 2 0 0) (w4 0 0 0 0) (w4 0 0 0 0) (w4 0 0 0 0) (w4 47 9 47 47)) (user+ 1 1 ∷ []) (w3 0 1 2)
     ∷ []
 
 -- ---- New user: 1, 5, 2
@@ -158,12 +158,12 @@ newUsers =
     ∷ does (newUserOf full2 0) is turns 5 full2
     ∷ does (newUserOf opened2 2) is turns 2 opened2
     ∷ does (newUserOf opened2 3)
-      is notes (w3 0 0 1) (tab 2 1 1 0 (w2 1 0) (w2 1 0) (w2 0 0) (w2 0 0) (w2 0 0) (w2 9 47)) (user+ 0 0 ∷ []) (w3 0 0 1)
+    is notes (w3 0 0 1) (tab 2 1 1 0 (w2 1 0) (w2 1 0) (w2 0 0) (w2 0 0) (w2 0 0) (w2 9 47)) (user+ 0 0 ∷ []) (w3 0 0 1)
     -- the least unmapped user below the watermark, with the last global; the watermark
     ∷ does (newUserOf holed 3)
-      is notes (w3 1 3 1) (tab 4 3 4 2 (w4 2 4 1 0) (w4 3 1 0 2) (w4 2 0 0 0) (w4 0 1 0 0) (w4 2 0 0 0) (w4 9 13 2 9)) (user+ 3 1 ∷ []) (w3 0 3 2)
+    is notes (w3 1 3 1) (tab 4 3 4 2 (w4 2 4 1 0) (w4 3 1 0 2) (w4 2 0 0 0) (w4 0 1 0 0) (w4 2 0 0 0) (w4 9 13 2 9)) (user+ 3 1 ∷ []) (w3 0 3 2)
     ∷ does (newUserOf mixed 3)
-      is notes (w3 3 3 1) (tab 4 4 4 2 (w4 2 3 1 4) (w4 3 1 2 4) (w4 2 0 1 0) (w4 3 1 0 0) (w4 2 0 0 0) (w4 9 13 18 9)) (user+ 3 3 ∷ []) (w3 0 3 4)
+    is notes (w3 3 3 1) (tab 4 4 4 2 (w4 2 3 1 4) (w4 3 1 2 4) (w4 2 0 1 0) (w4 3 1 0 0) (w4 2 0 0 0) (w4 9 13 18 9)) (user+ 3 3 ∷ []) (w3 0 3 4)
     ∷ []
 
 -- ---- Grant: 1, 3, 6, 2
@@ -180,14 +180,14 @@ grants =
     ∷ does (grantOf mixed 0 0) is says (w2 1 0) mixed
     -- the least free one, over an old assignment word, which becomes the unit: none, false
     ∷ does (grantOf holed 2 3)
-      is notes (w2 0 1) (tab 4 3 3 2 (w4 2 0 1 0) (w4 3 1 0 0) (w4 2 0 1 0) (w4 3 1 0 0) (w4 0 0 0 0) (w4 9 13 2 47)) (solver+ 2 0 ∷ []) (w3 1 2 1)
+    is notes (w2 0 1) (tab 4 3 3 2 (w4 2 0 1 0) (w4 3 1 0 0) (w4 2 0 1 0) (w4 3 1 0 0) (w4 0 0 0 0) (w4 9 13 2 47)) (solver+ 2 0 ∷ []) (w3 1 2 1)
     ∷ does (grantOf holed 1 3)
-      is notes (w2 0 1) (tab 4 3 3 2 (w4 2 0 1 0) (w4 3 1 0 0) (w4 2 1 0 0) (w4 2 1 0 0) (w4 1 0 0 0) (w4 9 13 2 47)) (solver+ 1 0 ∷ []) (w3 1 1 1)
+    is notes (w2 0 1) (tab 4 3 3 2 (w4 2 0 1 0) (w4 3 1 0 0) (w4 2 1 0 0) (w4 2 1 0 0) (w4 1 0 0 0) (w4 9 13 2 47)) (solver+ 1 0 ∷ []) (w3 1 1 1)
     -- the watermark; the unit true
     ∷ does (grantOf mixed 1 3)
-      is notes (w2 2 1) (tab 4 3 3 3 (w4 2 3 1 0) (w4 3 1 2 0) (w4 2 3 1 0) (w4 3 1 2 0) (w4 2 0 1 0) (w4 9 13 18 47)) (solver+ 1 2 ∷ []) (w3 1 1 3)
+    is notes (w2 2 1) (tab 4 3 3 3 (w4 2 3 1 0) (w4 3 1 2 0) (w4 2 3 1 0) (w4 3 1 2 0) (w4 2 0 1 0) (w4 9 13 18 47)) (solver+ 1 2 ∷ []) (w3 1 1 3)
     ∷ does (grantOf (tab 2 1 1 0 (w2 1 0) (w2 1 0) (w2 0 0) (w2 0 0) (w2 0 0) (w2 15 47)) 0 3)
-      is notes (w2 0 1) (tab 2 1 1 1 (w2 1 0) (w2 1 0) (w2 1 0) (w2 1 0) (w2 2 0) (w2 15 47)) (solver+ 0 0 ∷ []) (w3 1 0 1)
+    is notes (w2 0 1) (tab 2 1 1 1 (w2 1 0) (w2 1 0) (w2 1 0) (w2 1 0) (w2 2 0) (w2 15 47)) (solver+ 0 0 ∷ []) (w3 1 0 1)
     ∷ []
 
 -- ---- Pose: 1, 3, 4, 5, 2
@@ -217,27 +217,27 @@ poses =
     ∷ does (poseOf hidden2 (w1 2) false 0 0) is turns 5 hidden2
     ∷ does (poseOf hidden3 (w2 0 4) false 2 12) is turns 5 hidden3
     ∷ does (poseOf hidden3 (w2 5 4) false 2 6)
-      is fills (w2 2 2) (tab 3 3 3 1 (w3 0 0 3) (w3 0 0 3) (w3 0 0 1) (w3 3 0 0) (w3 0 0 0) (w3 2 2 9))
-      (user+ 2 2 ∷ solver+ 2 0 ∷ [])
-      (w6 0 2 3 1 2 1)
-      (w2 1 0)
+    is fills (w2 2 2) (tab 3 3 3 1 (w3 0 0 3) (w3 0 0 3) (w3 0 0 1) (w3 3 0 0) (w3 0 0 0) (w3 2 2 9))
+    (user+ 2 2 ∷ solver+ 2 0 ∷ [])
+    (w6 0 2 3 1 2 1)
+    (w2 1 0)
     -- 2 for the literals, and for the notes
     ∷ does (poseOf opened2 (w3 3 0 2) false 2 12) is turns 2 opened2
     ∷ does (poseOf opened2 (w3 3 0 2) false 3 11) is turns 2 opened2
     -- a gap, the signs, a user named twice, with just enough room; sampling required changes nothing
     ∷ does (poseOf opened2 (w3 3 0 2) false 3 12)
-      is fills (w2 3 4) posed2 (user+ 0 0 ∷ user+ 1 1 ∷ solver+ 1 0 ∷ solver+ 0 1 ∷ [])
-      (0 ∷ 0 ∷ 1 ∷ 0 ∷ 1 ∷ 2 ∷ 1 ∷ 1 ∷ 1 ∷ 1 ∷ 0 ∷ 2 ∷ [])
-      (w3 1 2 0)
+    is fills (w2 3 4) posed2 (user+ 0 0 ∷ user+ 1 1 ∷ solver+ 1 0 ∷ solver+ 0 1 ∷ [])
+    (0 ∷ 0 ∷ 1 ∷ 0 ∷ 1 ∷ 2 ∷ 1 ∷ 1 ∷ 1 ∷ 1 ∷ 0 ∷ 2 ∷ [])
+    (w3 1 2 0)
     ∷ does (poseOf opened2 (w3 3 0 2) true 4 13)
-      is fills (w2 3 4) posed2 (user+ 0 0 ∷ user+ 1 1 ∷ solver+ 1 0 ∷ solver+ 0 1 ∷ [])
-      (0 ∷ 0 ∷ 1 ∷ 0 ∷ 1 ∷ 2 ∷ 1 ∷ 1 ∷ 1 ∷ 1 ∷ 0 ∷ 2 ∷ [])
-      (w3 1 2 0)
+    is fills (w2 3 4) posed2 (user+ 0 0 ∷ user+ 1 1 ∷ solver+ 1 0 ∷ solver+ 0 1 ∷ [])
+    (0 ∷ 0 ∷ 1 ∷ 0 ∷ 1 ∷ 2 ∷ 1 ∷ 1 ∷ 1 ∷ 1 ∷ 0 ∷ 2 ∷ [])
+    (w3 1 2 0)
     -- mapped ones are granted, granted ones are named; the last index
     ∷ does (poseOf mixed (w3 1 7 2) false 3 9)
-      is fills (w2 3 3) (tab 4 4 4 4 (w4 2 3 1 4) (w4 3 1 2 4) (w4 2 3 1 4) (w4 3 1 2 4) (w4 2 0 1 0) (w4 9 13 18 9))
-      (solver+ 1 2 ∷ user+ 3 3 ∷ solver+ 3 3 ∷ [])
-      (1 ∷ 1 ∷ 3 ∷ 0 ∷ 3 ∷ 4 ∷ 1 ∷ 3 ∷ 4 ∷ [])
-      (w3 5 7 0)
+    is fills (w2 3 3) (tab 4 4 4 4 (w4 2 3 1 4) (w4 3 1 2 4) (w4 2 3 1 4) (w4 3 1 2 4) (w4 2 0 1 0) (w4 9 13 18 9))
+    (solver+ 1 2 ∷ user+ 3 3 ∷ solver+ 3 3 ∷ [])
+    (1 ∷ 1 ∷ 3 ∷ 0 ∷ 3 ∷ 4 ∷ 1 ∷ 3 ∷ 4 ∷ [])
+    (w3 5 7 0)
     ∷ does (poseOf mixed [] true 0 0) is fills (w2 0 0) mixed [] [] []
     ∷ []

@@ -47,20 +47,20 @@ simplifies =
     ∷ does (simplifyOf Text held4 [] true 0 0) is writes (w4 0 0 0 0) held4 [] [] []
     -- dropped by a true literal, whatever the others are: d 3 1 4 0; d -3 0
     ∷ does (simplifyOf Text held4 (w3 2 4 0) true 0 10)
-      is writes (w4 1 0 0 10) held4 [] [] (100 ∷ 32 ∷ 51 ∷ 32 ∷ 49 ∷ 32 ∷ 52 ∷ 32 ∷ 48 ∷ 10 ∷ [])
+    is writes (w4 1 0 0 10) held4 [] [] (100 ∷ 32 ∷ 51 ∷ 32 ∷ 49 ∷ 32 ∷ 52 ∷ 32 ∷ 48 ∷ 10 ∷ [])
     ∷ does (simplifyOf Binary held4 (w3 2 4 0) false 0 5) is writes (w4 1 0 0 5) held4 [] [] (100 ∷ 6 ∷ 2 ∷ 8 ∷ 0 ∷ [])
     ∷ does (simplifyOf Text held4 (w1 3) false 0 7) is writes (w4 1 0 0 7) held4 [] [] (100 ∷ 32 ∷ 45 ∷ 51 ∷ 32 ∷ 48 ∷ 10 ∷ [])
     -- shortened: 4 -2 -4 0, then d 4 3 -2 -4 0; redundant if it was, since over two are left
     ∷ does (simplifyOf Text held4 (w4 0 2 7 1) true 3 24)
-      is writes (w4 2 3 1 24) held4 (w3 0 7 1) []
-      (52 ∷ 32 ∷ 45 ∷ 50 ∷ 32 ∷ 45 ∷ 52 ∷ 32 ∷ 48 ∷ 10 ∷ 100 ∷ 32 ∷ 52 ∷ 32 ∷ 51 ∷ 32 ∷ 45 ∷ 50 ∷ 32 ∷ 45 ∷ 52 ∷ 32 ∷ 48 ∷ 10 ∷ [])
+    is writes (w4 2 3 1 24) held4 (w3 0 7 1) []
+    (52 ∷ 32 ∷ 45 ∷ 50 ∷ 32 ∷ 45 ∷ 52 ∷ 32 ∷ 48 ∷ 10 ∷ 100 ∷ 32 ∷ 52 ∷ 32 ∷ 51 ∷ 32 ∷ 45 ∷ 50 ∷ 32 ∷ 45 ∷ 52 ∷ 32 ∷ 48 ∷ 10 ∷ [])
     ∷ does (simplifyOf Binary held4 (w4 0 2 7 1) false 3 11)
-      is writes (w4 2 3 0 11) held4 (w3 0 7 1) [] (97 ∷ 8 ∷ 5 ∷ 9 ∷ 0 ∷ 100 ∷ 8 ∷ 6 ∷ 5 ∷ 9 ∷ 0 ∷ [])
+    is writes (w4 2 3 0 11) held4 (w3 0 7 1) [] (97 ∷ 8 ∷ 5 ∷ 9 ∷ 0 ∷ 100 ∷ 8 ∷ 6 ∷ 5 ∷ 9 ∷ 0 ∷ [])
     -- binary, never redundant: 4 -2 0, then d 4 3 -2 0; a negative false literal goes too
     ∷ does (simplifyOf Text held4 (w3 0 2 7) true 2 18)
-      is writes (w4 3 2 0 18) held4 (w2 0 7) [] (52 ∷ 32 ∷ 45 ∷ 50 ∷ 32 ∷ 48 ∷ 10 ∷ 100 ∷ 32 ∷ 52 ∷ 32 ∷ 51 ∷ 32 ∷ 45 ∷ 50 ∷ 32 ∷ 48 ∷ 10 ∷ [])
+    is writes (w4 3 2 0 18) held4 (w2 0 7) [] (52 ∷ 32 ∷ 45 ∷ 50 ∷ 32 ∷ 48 ∷ 10 ∷ 100 ∷ 32 ∷ 52 ∷ 32 ∷ 51 ∷ 32 ∷ 45 ∷ 50 ∷ 32 ∷ 48 ∷ 10 ∷ [])
     ∷ does (simplifyOf Binary held4 (w3 5 0 7) false 2 9)
-      is writes (w4 3 2 0 9) held4 (w2 0 7) [] (97 ∷ 8 ∷ 5 ∷ 0 ∷ 100 ∷ 3 ∷ 8 ∷ 5 ∷ 0 ∷ [])
+    is writes (w4 3 2 0 9) held4 (w2 0 7) [] (97 ∷ 8 ∷ 5 ∷ 0 ∷ 100 ∷ 3 ∷ 8 ∷ 5 ∷ 0 ∷ [])
     ∷ []
 
 -- ---- Rename: 1, 14, 3, 8, 2. The answer is the literals and the hashes filled, then the step: its kind and what it carries of its own.
@@ -103,7 +103,7 @@ renames =
     ∷ does (renameOf held4 End true (w1 99) (w1 70) 0 0) is writes (w3 0 0 12) held4 [] [] []
     -- every index under its holder, sign kept; global literals as given, up to the last
     ∷ does (renameOf held4 AddClause true (0 ∷ 1 ∷ 2 ∷ 3 ∷ 4 ∷ 5 ∷ 6 ∷ 7 ∷ []) [] 8 0)
-      is writes (w3 8 0 0) held4 (6 ∷ 7 ∷ 4 ∷ 5 ∷ 0 ∷ 1 ∷ 2 ∷ 3 ∷ []) [] []
+    is writes (w3 8 0 0) held4 (6 ∷ 7 ∷ 4 ∷ 5 ∷ 0 ∷ 1 ∷ 2 ∷ 3 ∷ []) [] []
     ∷ does (renameOf held4 AddClause false (w3 1 6 7) [] 3 0) is writes (w3 3 0 0) held4 (w3 1 6 7) [] []
     ∷ []
 
@@ -135,12 +135,12 @@ written =
     ∷ does (writeOf Text held4 (AtClause true) true [] [] 2) is writes (w1 2) held4 [] [] (w2 48 10)
     -- UnitClauses: one add per unit, -4 0 and 2 0
     ∷ does (writeOf Text held4 UnitClauses true (w2 1 6) (w2 70 71) 9)
-      is writes (w1 9) held4 [] [] (45 ∷ 52 ∷ 32 ∷ 48 ∷ 10 ∷ 50 ∷ 32 ∷ 48 ∷ 10 ∷ [])
+    is writes (w1 9) held4 [] [] (45 ∷ 52 ∷ 32 ∷ 48 ∷ 10 ∷ 50 ∷ 32 ∷ 48 ∷ 10 ∷ [])
     ∷ does (writeOf Binary held4 UnitClauses true (w2 1 6) (w2 70 71) 6) is writes (w1 6) held4 [] [] (w6 97 9 0 97 4 0)
     ∷ does (writeOf Text held4 UnitClauses true [] [] 0) is writes (w1 0) held4 [] [] []
     -- DeleteClause: a delete, d -4 2 0, whatever the cause
     ∷ does (writeOf Text held4 (DeleteClause Redundant) true (w2 1 6) [] 9)
-      is writes (w1 9) held4 [] [] (100 ∷ 32 ∷ 45 ∷ 52 ∷ 32 ∷ 50 ∷ 32 ∷ 48 ∷ 10 ∷ [])
+    is writes (w1 9) held4 [] [] (100 ∷ 32 ∷ 45 ∷ 52 ∷ 32 ∷ 50 ∷ 32 ∷ 48 ∷ 10 ∷ [])
     ∷ does (writeOf Binary held4 (DeleteClause Satisfied) true (w2 1 6) [] 4) is writes (w1 4) held4 [] [] (w4 100 9 4 0)
     ∷ does (writeOf Binary held4 (DeleteClause Simplified) true (w2 1 6) [] 4) is writes (w1 4) held4 [] [] (w4 100 9 4 0)
     -- global literals as given: -1 4 0
