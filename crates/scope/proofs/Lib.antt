@@ -15,3 +15,5 @@ pub mod WantedLaws
 pub mod PoseLaws
 pub mod WriteLaws
 pub mod RuledOut
+pub mod NoteCounts
+pub mod RecordLaws

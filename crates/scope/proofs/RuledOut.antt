@@ -57,9 +57,3 @@ grants-apart t g h p k n e =
     let a = d .sound .solver .inverse (grant g t .value) h .1 (d .other h n ∙ e) in
     let b = d .holds in
     n (omega arith)
-
--- ---- the count answered is that of the notes
-
-pub noting-counts : {A : Type 0} (values : A → List ℕ) (x : Result A)
-    → valuesOf (noting values x .answer) ≡ values (x .value) ++ (length (x .notes) ∷ [])
-noting-counts values x = refl
