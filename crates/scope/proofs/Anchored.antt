@@ -19,7 +19,7 @@ use Rattle.scope.specs.Write.{renameLits, unmatched, outside, unheld, st
 use Rattle.scope.specs.Simplify.{unfalse, simplified, simplifyBytes, simplifyRefusal, simplifyOf}
 use Rattle.scope.specs.Models.{globalValue, rowOf, globalModel, userLiteral, userModel, modelRefusal, modelOf}
 use Rattle.scope.specs.Anchors.{Agree}
-use Rattle.scope.specs.AnchorsWords.{literals, recordParts, noteRows, heldRows}
+use Rattle.scope.specs.AnchorsWords.{literals, recordParts, everyPart, noteRows, heldRows}
 use Rattle.scope.specs.AnchorsSound.{sounds}
 use Rattle.scope.specs.AnchorsNames.{opens, lookups, maps, newUsers, grants, poses}
 use Rattle.scope.specs.AnchorsModes.{setModes, observes, removes, sweeps, models}
@@ -33,6 +33,10 @@ literals-hold = (refl, (refl, (refl, (refl, (refl, (refl, (refl, (refl, tt))))))
 recordParts-hold : Agree recordParts
 unfolding allBelow least count anyOf keepOf word isShown giveUser takeUser giveSolver takeSolver putRecord putValue soundb sizesb marksb atMostb tailb backb namedb deletedb tailsb pairsb notesWords heldBy choose each unless isUnused deleteIfUnused show hide change setMode setModeRefusal setModeOf isHidden observeOne observe observeRefusal observeOf
 recordParts-hold = (refl, (refl, (refl, (refl, (refl, (refl, (refl, (refl, (refl, (refl, (refl, (refl, (refl, (refl, (refl, (refl, (refl, (refl, (refl, (refl, (refl, (refl, (refl, (refl, (refl, (refl, (refl, tt)))))))))))))))))))))))))))
+
+everyPart-hold : Agree everyPart
+unfolding allBelow least count anyOf keepOf word isShown giveUser takeUser giveSolver takeSolver putRecord putValue soundb sizesb marksb atMostb tailb backb namedb deletedb tailsb pairsb notesWords heldBy choose each unless isUnused deleteIfUnused show hide change setMode setModeRefusal setModeOf isHidden observeOne observe observeRefusal observeOf
+everyPart-hold = (refl, (refl, (refl, (refl, (refl, (refl, (refl, (refl, (refl, (refl, (refl, (refl, (refl, (refl, (refl, tt)))))))))))))))
 
 noteRows-hold : Agree noteRows
 unfolding allBelow least count anyOf keepOf word isShown giveUser takeUser giveSolver takeSolver putRecord putValue soundb sizesb marksb atMostb tailb backb namedb deletedb tailsb pairsb notesWords heldBy choose each unless
@@ -110,5 +114,5 @@ written-hold : Agree written
 unfolding allBelow least count anyOf keepOf word isShown giveUser takeUser giveSolver takeSolver putRecord putValue soundb sizesb marksb atMostb tailb backb namedb deletedb tailsb pairsb notesWords heldBy choose each unless notHeld mark markRefusal markOf assignRefusal assignOf spell further bytesOf number numbers encodeStep encode renameLits unmatched outside unheld stepRefusal renameRefusal renameOf stepBytes writeRefusal writeOf
 written-hold = (refl, (refl, (refl, (refl, (refl, (refl, (refl, (refl, (refl, (refl, (refl, (refl, (refl, (refl, (refl, (refl, (refl, (refl, (refl, (refl, (refl, (refl, (refl, (refl, (refl, (refl, (refl, (refl, (refl, (refl, (refl, (refl, (refl, (refl, (refl, tt)))))))))))))))))))))))))))))))))))
 
-pub anchored : Agree literals × Agree recordParts × Agree noteRows × Agree heldRows × Agree sounds × Agree opens × Agree lookups × Agree maps × Agree newUsers × Agree grants × Agree poses × Agree setModes × Agree observes × Agree removes × Agree sweeps × Agree models × Agree marks × Agree assigns × Agree simplifies × Agree renames × Agree written
-anchored = (literals-hold, recordParts-hold, noteRows-hold, heldRows-hold, sounds-hold, opens-hold, lookups-hold, maps-hold, newUsers-hold, grants-hold, poses-hold, setModes-hold, observes-hold, removes-hold, sweeps-hold, models-hold, marks-hold, assigns-hold, simplifies-hold, renames-hold, written-hold)
+pub anchored : Agree literals × Agree recordParts × Agree everyPart × Agree noteRows × Agree heldRows × Agree sounds × Agree opens × Agree lookups × Agree maps × Agree newUsers × Agree grants × Agree poses × Agree setModes × Agree observes × Agree removes × Agree sweeps × Agree models × Agree marks × Agree assigns × Agree simplifies × Agree renames × Agree written
+anchored = (literals-hold, recordParts-hold, everyPart-hold, noteRows-hold, heldRows-hold, sounds-hold, opens-hold, lookups-hold, maps-hold, newUsers-hold, grants-hold, poses-hold, setModes-hold, observes-hold, removes-hold, sweeps-hold, models-hold, marks-hold, assigns-hold, simplifies-hold, renames-hold, written-hold)

@@ -17,3 +17,4 @@ pub mod WriteLaws
 pub mod RuledOut
 pub mod NoteCounts
 pub mod RecordLaws
+pub mod Accepted

@@ -1,7 +1,9 @@
 -- Anchors of literals, records and notes.
-use Prim.Native.Nat.{ℕ}
-use mathlib.Core.Bool.{Bool, false, true}
+use Prim.Native.Nat.{ℕ, _+_, _*_}
+use mathlib.Core.Bool.{Bool, false, true, _&&_, not, Bool·beq}
 use mathlib.Core.List.{List, [], _∷_}
+use lib.Dec.{eqb}
+use Rattle.base.specs.Bounded.{allBelow}
 use Rattle.scope.specs.declared.SamplingMode.the-variants.{Sample, Witness, Hide}
 use Rattle.scope.specs.declared.Mark.the-variants.{Used, Assumed, Released}
 use Rattle.scope.specs.Literals.{codeOf, indexOf, signOf, dimacsOf}
@@ -62,6 +64,36 @@ recordParts =
     ∷ words (withMode 71 0 ∷ withMode 70 2 ∷ withMode 34 1 ∷ []) is words (w3 69 71 34)
     ∷ words (withUnit 0 2 ∷ withUnit 26 1 ∷ withUnit 71 1 ∷ []) is words (w3 15 32 68)
     ∷ words (marked Used 71 ∷ marked Assumed 53 ∷ marked Released 71 ∷ []) is words (w3 62 71 53)
+    ∷ []
+
+-- A record from its parts, and a test of all seventy-two.
+abbrev pub recordFrom : ℕ → ℕ → ℕ → ℕ → ℕ → ℕ
+recordFrom m v i a d = m + 3 * v + 9 * i + 18 * a + 36 * d
+
+abbrev pub everyRecord : (ℕ → ℕ → ℕ → ℕ → ℕ → Bool) → Bool
+everyRecord p = allBelow 3 (λ m. allBelow 3 (λ v. allBelow 2 (λ i. allBelow 2 (λ a. allBelow 2 (λ d. p m v i a d)))))
+
+-- what becomes of the record with these parts is the record with those
+abbrev pub turnsInto : (ℕ → ℕ) → (ℕ → ℕ → ℕ → ℕ → ℕ → ℕ) → Bool
+turnsInto f r = everyRecord (λ m v i a d. eqb (f (recordFrom m v i a d)) (r m v i a d))
+
+abbrev pub everyPart : List Row
+everyPart =
+    test (turnsInto modeOf (λ m v i a d. m)) is test true
+    ∷ test (turnsInto unitOf (λ m v i a d. v)) is test true
+    ∷ test (turnsInto isolatedOf (λ m v i a d. i)) is test true
+    ∷ test (turnsInto assumedOf (λ m v i a d. a)) is test true
+    ∷ test (everyRecord (λ m v i a d. Bool·beq (isDeleted (recordFrom m v i a d)) (eqb d 1))) is test true
+    ∷ test (everyRecord (λ m v i a d. Bool·beq (isShown (recordFrom m v i a d)) (eqb d 0 && not (eqb m 2)))) is test true
+    ∷ test (everyRecord (λ m v i a d. Bool·beq (isHidden (recordFrom m v i a d)) (eqb d 0 && eqb m 2))) is test true
+    ∷ test (turnsInto (λ r. withMode r 0) (λ m v i a d. recordFrom 0 v i a d)) is test true
+    ∷ test (turnsInto (λ r. withMode r 1) (λ m v i a d. recordFrom 1 v i a d)) is test true
+    ∷ test (turnsInto (λ r. withMode r 2) (λ m v i a d. recordFrom 2 v i a d)) is test true
+    ∷ test (turnsInto (λ r. withUnit r 1) (λ m v i a d. recordFrom m 1 1 a d)) is test true
+    ∷ test (turnsInto (λ r. withUnit r 2) (λ m v i a d. recordFrom m 2 1 a d)) is test true
+    ∷ test (turnsInto (marked Used) (λ m v i a d. recordFrom m v 0 a d)) is test true
+    ∷ test (turnsInto (marked Assumed) (λ m v i a d. recordFrom m v i 1 d)) is test true
+    ∷ test (turnsInto (marked Released) (λ m v i a d. recordFrom m v i 0 d)) is test true
     ∷ []
 
 -- ---- notes: kind (0 U, 1 S, 2 D, 3 C), global, and last index + 1 or 0 for -, 1 or 0 for C's yes or no, 0 for D
