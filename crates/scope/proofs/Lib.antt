@@ -18,3 +18,4 @@ pub mod RuledOut
 pub mod NoteCounts
 pub mod RecordLaws
 pub mod Accepted
+pub mod AcceptedLists

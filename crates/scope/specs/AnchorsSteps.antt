@@ -8,9 +8,10 @@ use Rattle.scope.specs.declared.Global.{Global}
 use Rattle.scope.specs.declared.DeleteClauseProof.the-variants.{Redundant, Satisfied, Simplified}
 use Rattle.scope.specs.declared.ProofStep.the-variants.{AddClause, AtClause, UnitClauses, DeleteClause, Model, Assumptions, FailedAssumptions, SolverVarName, UserVarName, DeleteVar, ChangeSamplingMode, ChangeHashBits, End}
 use Rattle.scope.specs.Table.{Table}
-use Rattle.scope.specs.Simplify.{simplifyOf}
+use Rattle.scope.specs.Steps.{causeOf}
+use Rattle.scope.specs.Simplify.{simplifyOf, deleteCause}
 use Rattle.scope.specs.Write.{renameOf, writeOf}
-use Rattle.scope.specs.Anchors.{Row, _is_, does, w1, w2, w3, w4, w6, tab, turns, writes}
+use Rattle.scope.specs.Anchors.{Row, _is_, does, words, w1, w2, w3, w4, w6, tab, turns, writes}
 use Rattle.scope.specs.AnchorsNames.{unsound, holed}
 
 -- Solver indices 0, 1, 2, 3 are held by the globals 3, 2, 0, 1, whose DIMACS numbers are 4, 3, 1, 2. 1 is false, 2 is true, the others have
@@ -61,6 +62,14 @@ simplifies =
     is writes (w4 3 2 0 18) held4 (w2 0 7) [] (52 ∷ 32 ∷ 45 ∷ 50 ∷ 32 ∷ 48 ∷ 10 ∷ 100 ∷ 32 ∷ 52 ∷ 32 ∷ 51 ∷ 32 ∷ 45 ∷ 50 ∷ 32 ∷ 48 ∷ 10 ∷ [])
     ∷ does (simplifyOf Binary held4 (w3 5 0 7) false 2 9)
     is writes (w4 3 2 0 9) held4 (w2 0 7) [] (97 ∷ 8 ∷ 5 ∷ 0 ∷ 100 ∷ 3 ∷ 8 ∷ 5 ∷ 0 ∷ [])
+    ∷ []
+
+-- The delete's cause is redundant, 0, for a redundant clause; else satisfied, 1, where it is dropped, simplified, 2, where it is shortened.
+abbrev pub causes : List Row
+causes =
+    words (causeOf Redundant ∷ causeOf Satisfied ∷ causeOf Simplified ∷ []) is words (w3 0 1 2)
+    ∷ words (causeOf (deleteCause true Satisfied) ∷ causeOf (deleteCause true Simplified) ∷ []) is words (w2 0 0)
+    ∷ words (causeOf (deleteCause false Satisfied) ∷ causeOf (deleteCause false Simplified) ∷ []) is words (w2 1 2)
     ∷ []
 
 -- ---- Rename: 1, 14, 3, 8, 2. The answer is the literals and the hashes filled, then the step: its kind and what it carries of its own.
