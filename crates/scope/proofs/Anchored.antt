@@ -24,7 +24,7 @@ use Rattle.scope.specs.AnchorsSound.{sounds}
 use Rattle.scope.specs.AnchorsNames.{opens, lookups, maps, newUsers, grants, poses}
 use Rattle.scope.specs.AnchorsModes.{setModes, observes, removes, sweeps, models}
 use Rattle.scope.specs.AnchorsMarks.{marks, assigns}
-use Rattle.scope.specs.AnchorsSteps.{simplifies, causes, renames, written}
+use Rattle.scope.specs.AnchorsSteps.{simplifies, kinds, causes, renames, written}
 
 literals-hold : Agree literals
 unfolding allBelow least count anyOf keepOf word isShown giveUser takeUser giveSolver takeSolver putRecord putValue soundb sizesb marksb atMostb tailb backb namedb deletedb tailsb pairsb notesWords heldBy choose each unless
@@ -106,6 +106,10 @@ simplifies-hold : Agree simplifies
 unfolding allBelow least count anyOf keepOf word isShown giveUser takeUser giveSolver takeSolver putRecord putValue soundb sizesb marksb atMostb tailb backb namedb deletedb tailsb pairsb notesWords heldBy choose each unless notHeld mark markRefusal markOf assignRefusal assignOf spell further bytesOf number numbers encodeStep encode renameLits unmatched outside unheld stepRefusal renameRefusal renameOf stepBytes writeRefusal writeOf unfalse simplified simplifyBytes simplifyRefusal simplifyOf
 simplifies-hold = (refl, (refl, (refl, (refl, (refl, (refl, (refl, (refl, (refl, (refl, (refl, (refl, (refl, (refl, (refl, (refl, (refl, (refl, (refl, (refl, (refl, (refl, (refl, (refl, tt))))))))))))))))))))))))
 
+kinds-hold : Agree kinds
+unfolding allBelow least count anyOf keepOf word isShown giveUser takeUser giveSolver takeSolver putRecord putValue soundb sizesb marksb atMostb tailb backb namedb deletedb tailsb pairsb notesWords heldBy choose each unless
+kinds-hold = (refl, (refl, (refl, (refl, tt))))
+
 causes-hold : Agree causes
 unfolding allBelow least count anyOf keepOf word isShown giveUser takeUser giveSolver takeSolver putRecord putValue soundb sizesb marksb atMostb tailb backb namedb deletedb tailsb pairsb notesWords heldBy choose each unless
 causes-hold = (refl, (refl, (refl, tt)))
@@ -118,5 +122,5 @@ written-hold : Agree written
 unfolding allBelow least count anyOf keepOf word isShown giveUser takeUser giveSolver takeSolver putRecord putValue soundb sizesb marksb atMostb tailb backb namedb deletedb tailsb pairsb notesWords heldBy choose each unless notHeld mark markRefusal markOf assignRefusal assignOf spell further bytesOf number numbers encodeStep encode renameLits unmatched outside unheld stepRefusal renameRefusal renameOf stepBytes writeRefusal writeOf
 written-hold = (refl, (refl, (refl, (refl, (refl, (refl, (refl, (refl, (refl, (refl, (refl, (refl, (refl, (refl, (refl, (refl, (refl, (refl, (refl, (refl, (refl, (refl, (refl, (refl, (refl, (refl, (refl, (refl, (refl, (refl, (refl, (refl, (refl, (refl, (refl, tt)))))))))))))))))))))))))))))))))))
 
-pub anchored : Agree literals × Agree recordParts × Agree everyPart × Agree noteRows × Agree heldRows × Agree sounds × Agree opens × Agree lookups × Agree maps × Agree newUsers × Agree grants × Agree poses × Agree setModes × Agree observes × Agree removes × Agree sweeps × Agree models × Agree marks × Agree assigns × Agree simplifies × Agree causes × Agree renames × Agree written
-anchored = (literals-hold, recordParts-hold, everyPart-hold, noteRows-hold, heldRows-hold, sounds-hold, opens-hold, lookups-hold, maps-hold, newUsers-hold, grants-hold, poses-hold, setModes-hold, observes-hold, removes-hold, sweeps-hold, models-hold, marks-hold, assigns-hold, simplifies-hold, causes-hold, renames-hold, written-hold)
+pub anchored : Agree literals × Agree recordParts × Agree everyPart × Agree noteRows × Agree heldRows × Agree sounds × Agree opens × Agree lookups × Agree maps × Agree newUsers × Agree grants × Agree poses × Agree setModes × Agree observes × Agree removes × Agree sweeps × Agree models × Agree marks × Agree assigns × Agree simplifies × Agree kinds × Agree causes × Agree renames × Agree written
+anchored = (literals-hold, recordParts-hold, everyPart-hold, noteRows-hold, heldRows-hold, sounds-hold, opens-hold, lookups-hold, maps-hold, newUsers-hold, grants-hold, poses-hold, setModes-hold, observes-hold, removes-hold, sweeps-hold, models-hold, marks-hold, assigns-hold, simplifies-hold, kinds-hold, causes-hold, renames-hold, written-hold)

@@ -1,4 +1,5 @@
 pub mod Anchored
+pub mod ContractLaws
 pub mod CountsLaws
 pub mod BiMapLaws
 pub mod SoundLaws

@@ -8,7 +8,7 @@ use Rattle.scope.specs.declared.Global.{Global}
 use Rattle.scope.specs.declared.DeleteClauseProof.the-variants.{Redundant, Satisfied, Simplified}
 use Rattle.scope.specs.declared.ProofStep.the-variants.{AddClause, AtClause, UnitClauses, DeleteClause, Model, Assumptions, FailedAssumptions, SolverVarName, UserVarName, DeleteVar, ChangeSamplingMode, ChangeHashBits, End}
 use Rattle.scope.specs.Table.{Table}
-use Rattle.scope.specs.Steps.{causeOf}
+use Rattle.scope.specs.Steps.{kindOf, causeOf}
 use Rattle.scope.specs.Simplify.{simplifyOf, deleteCause}
 use Rattle.scope.specs.Write.{renameOf, writeOf}
 use Rattle.scope.specs.Anchors.{Row, _is_, does, words, w1, w2, w3, w4, w6, tab, turns, writes}
@@ -62,6 +62,15 @@ simplifies =
     is writes (w4 3 2 0 18) held4 (w2 0 7) [] (52 ∷ 32 ∷ 45 ∷ 50 ∷ 32 ∷ 48 ∷ 10 ∷ 100 ∷ 32 ∷ 52 ∷ 32 ∷ 51 ∷ 32 ∷ 45 ∷ 50 ∷ 32 ∷ 48 ∷ 10 ∷ [])
     ∷ does (simplifyOf Binary held4 (w3 5 0 7) false 2 9)
     is writes (w4 3 2 0 9) held4 (w2 0 7) [] (97 ∷ 8 ∷ 5 ∷ 0 ∷ 100 ∷ 3 ∷ 8 ∷ 5 ∷ 0 ∷ [])
+    ∷ []
+
+-- The thirteen kinds, by their place in the table.
+abbrev pub kinds : List Row
+kinds =
+    words (kindOf AddClause ∷ kindOf (AtClause true) ∷ kindOf UnitClauses ∷ kindOf (DeleteClause Satisfied) ∷ []) is words (w4 0 1 2 3)
+    ∷ words (kindOf Model ∷ kindOf Assumptions ∷ kindOf FailedAssumptions ∷ []) is words (w3 4 5 6)
+    ∷ words (kindOf (SolverVarName (the 2) 3) ∷ kindOf (UserVarName (the 2) 3) ∷ kindOf (DeleteVar (the 2)) ∷ []) is words (w3 7 8 9)
+    ∷ words (kindOf (ChangeSamplingMode (the 2) true) ∷ kindOf (ChangeHashBits 3) ∷ kindOf End ∷ []) is words (w3 10 11 12)
     ∷ []
 
 -- The delete's cause is redundant, 0, for a redundant clause; else satisfied, 1, where it is dropped, simplified, 2, where it is shortened.
