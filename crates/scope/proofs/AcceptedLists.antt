@@ -1,4 +1,4 @@
--- Promise c, of the calls that fill further slices: Pose, Observe, Rename and Write are accepted and do their work where there is room.
+-- Promise c, of the calls that fill further slices: Pose, Observe, Simplify, Rename, Write and Model are accepted and do their work where there is room.
 use Prim.Native.Nat.{ℕ, zero, suc, _+_, _-_, _*_, _<_, _≤_}
 use mathlib.Core.Path.{_≡_, refl, sym, ap, subst, _∙_}
 use mathlib.Core.Bool.{Bool, true, false, _&&_, _||_, not}
@@ -16,7 +16,7 @@ use Rattle.base.specs.Bounded.{allBelow, anyOf}
 use Rattle.base.proofs.BelowLaws.{and-not-right, all-intro}
 use Rattle.base.proofs.MemberLaws.{or-neither, any-intro}
 use Rattle.drat.specs.Reading.{readProof, steps}
-use Rattle.drat.specs.Grammar.{encode}
+use Rattle.drat.specs.Grammar.{encode, Valid}
 use Rattle.drat.specs.declared.Format.{Format}
 use Rattle.drat.proofs.Written.{encode-spells}
 use Rattle.drat.proofs.Complete.{spells-read}
@@ -31,6 +31,11 @@ use Rattle.scope.specs.Pose.{poseOne, pose, usersToMap, poseRefusal, pos
 use Rattle.scope.specs.Modes.{show, isHidden, observeOne, observe, observeRefusal, observeOf}
 use Rattle.scope.specs.Steps.{ruleOf, literalsOf, hashesOf, stepWords, clauseSteps}
 use Rattle.scope.specs.Write.{renameLits, holders, unmatched, outside, unheld, stepRefusal, renameRefusal, renameOf, lacked, stepBytes, writeRefusal, writeOf}
+use Rattle.scope.specs.declared.Simplified.{Simplified}
+use Rattle.scope.specs.declared.Simplified.the-variants.{Kept, Dropped, Shortened, Binary}
+use Rattle.scope.specs.Marks.{notHeld}
+use Rattle.scope.specs.Simplify.{isTrue, isFalse, unfalse, simplified, restOf, simplifySteps, simplifyBytes, simplifyRefusal, simplifyOf}
+use Rattle.scope.specs.Models.{globalModel, userModel, modelRefusal, modelOf}
 use Rattle.scope.proofs.SoundLaws.{sound-to}
 use Rattle.scope.proofs.MoveLaws.{undeleted-below}
 use Rattle.scope.proofs.ResultLaws.{by-choose, each-keeps}
@@ -38,7 +43,7 @@ use Rattle.scope.proofs.ModeLaws.{Observed, observe-passed, observe-one
 use Rattle.scope.proofs.MapLaws.{MapRoom, map-user-mapped, map-user-has, mapped-global}
 use Rattle.scope.proofs.GrantLaws.{grant-granted, grant-has}
 use Rattle.scope.proofs.PoseLaws.{PoseRoom, poseStep, usersToGrant, pose-posed, pose-room, pose-one-posed, pose-count, pose-part-words}
-use Rattle.scope.proofs.WriteLaws.{rename-codes, written-valid}
+use Rattle.scope.proofs.WriteLaws.{rename-codes, solver-codes, keep-none, written-valid}
 use Rattle.scope.proofs.Accepted.{unless-none}
 
 -- ---- Observe
@@ -171,6 +176,52 @@ write-works f t step solverVars lits hashes room p a b c d h =
       ap (λ (o : Outcome). o .answer) e,
       ap (λ (o : Outcome). readProof f (o .bytes)) e ∙ spells-read (encode-spells f (clauseSteps step (renameLits (holders t) solverVars (literalsOf step lits))) v),
     )
+
+-- ---- Simplify
+
+simplify-valid : (k : Simplified) (t : Table) (lits : List ℕ) (redundant : Bool) → Sound t → unheld t true lits ≡ false
+    → Valid (simplifySteps k redundant (renameLits (holders t) true (restOf k t lits)) (renameLits (holders t) true lits))
+unfolding unheld unfalse Valid
+simplify-valid Kept t lits redundant p b = tt
+simplify-valid Dropped t lits redundant p b = (solver-codes t lits p b, tt)
+simplify-valid Shortened t lits redundant p b =
+    (solver-codes t (unfalse t lits) p (keep-none (λ c. notHeld t (indexOf c)) (λ c. not (isFalse t c)) lits b), (solver-codes t lits p b, tt))
+simplify-valid Binary t lits redundant p b =
+    (solver-codes t (unfalse t lits) p (keep-none (λ c. notHeld t (indexOf c)) (λ c. not (isFalse t c)) lits b), (solver-codes t lits p b, tt))
+
+-- the rest is filled, and the bytes are read back as the steps under global names
+pub simplify-works : (f : Format) (t : Table) (lits : List ℕ) (redundant : Bool) (outs room : ℕ) → Sound t → length lits ≤ 8192 → unheld t true lits ≡ false
+    → not (anyOf (isTrue t) lits) && (anyOf (isFalse t) lits && ltb (length (unfalse t lits)) 2) ≡ false
+    → length (restOf (simplified t lits) t lits) ≤ outs → length (simplifyBytes f t lits redundant) ≤ room
+    → (simplifyOf f t lits redundant outs room .words ≡ restOf (simplified t lits) t lits)
+    × (readProof f (simplifyOf f t lits redundant outs room .bytes) ≡ steps (simplifySteps (simplified t lits) redundant (renameLits (holders t) true (restOf (simplified t lits) t lits)) (renameLits (holders t) true lits)))
+unfolding simplifyOf simplifyRefusal simplifyBytes
+simplify-works f t lits redundant outs room p h b c k l =
+    let r : simplifyRefusal f t lits redundant outs room ≡ 0 =
+    rw (
+      sound-to t p,
+      le-ltb 8192 (length lits) h,
+      b,
+      c,
+      le-ltb outs (length (restOf (simplified t lits) t lits)) k,
+      le-ltb room (length (simplifyBytes f t lits redundant)) l,
+    ) in
+    let e = unless-none (simplifyRefusal f t lits redundant outs room) t _ r in (
+      ap (λ (o : Outcome). o .words) e,
+      ap (λ (o : Outcome). readProof f (o .bytes)) e ∙ spells-read (encode-spells f _ (simplify-valid (simplified t lits) t lits redundant p b)),
+    )
+
+-- ---- Model
+
+pub model-works : (t : Table) (globals users : ℕ) → Sound t → length (globalModel t) ≤ globals → length (userModel t) ≤ users
+    → (modelOf t globals users .answer ≡ accepted (length (globalModel t) ∷ length (userModel t) ∷ []))
+    × (modelOf t globals users .words ≡ globalModel t)
+    × (modelOf t globals users .more ≡ userModel t)
+unfolding modelOf modelRefusal
+model-works t globals users p h k =
+    let r : modelRefusal t globals users ≡ 0 = rw (sound-to t p, le-ltb globals (length (globalModel t)) h, le-ltb users (length (userModel t)) k) in
+    let e = unless-none (modelRefusal t globals users) t _ r in
+    (ap (λ (o : Outcome). o .answer) e, ap (λ (o : Outcome). o .words) e, ap (λ (o : Outcome). o .more) e)
 
 -- ---- Pose
 
