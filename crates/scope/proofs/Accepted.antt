@@ -2,25 +2,21 @@
 -- a table that does nothing does not meet what is said here of the table left.
 use Prim.Native.Nat.{ℕ, zero, suc, _+_, _-_, _*_, _<_, _≤_}
 use mathlib.Core.Path.{_≡_, refl, sym, ap, _∙_}
-use mathlib.Core.Bool.{Bool, true, false, _&&_, _||_, not}
+use mathlib.Core.Bool.{Bool, false, _&&_}
 use mathlib.Core.Logic.{_≢_}
 use mathlib.Core.List.{List, [], _∷_, _++_}
 use native.Mathlib.Omega.{arith}
-use native.Mathlib.Decide.{ℕ-discrete}
-use lib.Dec.{eqb, ltb}
 use lib.ListN.{length, getD, length-append, length-set}
 use lib.Seq.{getD-set-same}
 use borrow.Author.Tests.{lt-leb, le-ltb, eqb-true, eq-eqb, ne-eqb}
 use Rattle.base.specs.Answer.{accepted}
-use Rattle.base.specs.Bounded.{anyOf}
-use Rattle.base.proofs.MemberLaws.{or-neither}
 use Rattle.scope.specs.declared.SamplingMode.{SamplingMode}
 use Rattle.scope.specs.declared.SamplingMode.the-variants.{Sample, Witness, Hide}
 use Rattle.scope.specs.declared.Mark.{Mark}
 use Rattle.scope.specs.Literals.{indexOf}
 use Rattle.scope.specs.Table.{Table, recordOf, modeOf, assumedOf, withMode, giveUser, takeUser, takeSolver, putRecord, putValue}
 use Rattle.scope.specs.Sound.{Sound}
-use Rattle.scope.specs.Outcome.{Result, Outcome, stay, choose, each, unless, noting, changing}
+use Rattle.scope.specs.Outcome.{Result, Outcome, each, unless, noting, changing}
 use Rattle.scope.specs.Map.{undeleted, toMap, unsampled, mapUser, newUser, nextUser, mapRefusal, mapOf, newUserRefusal, newUserOf}
 use Rattle.scope.specs.Grant.{grant, grantRefusal, grantOf}
 use Rattle.scope.specs.Modes.{modeNumber, deleteIfUnused, show, hide, change, setMode, setModeRefusal, setModeOf}

@@ -1,22 +1,21 @@
 -- Promise c, of the calls that fill further slices: Pose, Observe, Simplify, Rename, Write and Model are accepted and do their work where there is room.
 use Prim.Native.Nat.{ℕ, zero, suc, _+_, _-_, _*_, _<_, _≤_}
 use mathlib.Core.Path.{_≡_, refl, sym, ap, subst, _∙_}
-use mathlib.Core.Bool.{Bool, true, false, _&&_, _||_, not}
+use mathlib.Core.Bool.{Bool, true, false, _&&_, not}
 use mathlib.Core.Logic.{_≢_}
-use mathlib.Core.List.{List, [], _∷_, _++_}
+use mathlib.Core.List.{List, [], _∷_}
 use native.Mathlib.Omega.{arith}
 use native.Mathlib.Decide.{ℕ-discrete, decLt}
-use native.Mathlib.Numerals.{add-one}
 use lib.Dec.{eqb, ltb, leb}
 use lib.ListN.{length, getD, length-append, List·getD-append}
 use lib.Seq.{getD-set-same, getD-at}
-use borrow.Author.Tests.{lt-leb, le-ltb, eqb-true, eq-eqb, ne-eqb}
+use borrow.Author.Tests.{lt-leb, le-ltb, ne-eqb}
 use Rattle.base.specs.Answer.{accepted}
-use Rattle.base.specs.Bounded.{allBelow, anyOf}
+use Rattle.base.specs.Bounded.{anyOf}
 use Rattle.base.proofs.BelowLaws.{and-not-right, all-intro}
-use Rattle.base.proofs.MemberLaws.{or-neither, any-intro}
+use Rattle.base.proofs.MemberLaws.{any-intro}
 use Rattle.drat.specs.Reading.{readProof, steps}
-use Rattle.drat.specs.Grammar.{encode, Valid}
+use Rattle.drat.specs.Grammar.{Valid}
 use Rattle.drat.specs.declared.Format.{Format}
 use Rattle.drat.proofs.Written.{encode-spells}
 use Rattle.drat.proofs.Complete.{spells-read}
@@ -24,7 +23,7 @@ use Rattle.scope.specs.declared.ProofStep.{ProofStep}
 use Rattle.scope.specs.Literals.{indexOf, signOf, codeOf}
 use Rattle.scope.specs.Table.{Table, recordOf, modeOf, assumedOf, withMode, giveUser}
 use Rattle.scope.specs.Sound.{Sound}
-use Rattle.scope.specs.Outcome.{Result, Outcome, each, unless, short}
+use Rattle.scope.specs.Outcome.{Result, Outcome, each}
 use Rattle.scope.specs.Map.{undeleted, unsampled, mapUser}
 use Rattle.scope.specs.Grant.{grant}
 use Rattle.scope.specs.Pose.{poseOne, pose, usersToMap, poseRefusal, poseOf}
@@ -39,10 +38,10 @@ use Rattle.scope.specs.Models.{globalModel, userModel, modelRefusal, mod
 use Rattle.scope.proofs.SoundLaws.{sound-to}
 use Rattle.scope.proofs.MoveLaws.{undeleted-below}
 use Rattle.scope.proofs.ResultLaws.{by-choose, each-keeps}
-use Rattle.scope.proofs.ModeLaws.{Observed, observe-passed, observe-one-sound, hidden-of, show-records}
+use Rattle.scope.proofs.ModeLaws.{observe-passed, observe-one-sound, hidden-of, show-records}
 use Rattle.scope.proofs.MapLaws.{MapRoom, map-user-mapped, map-user-has, mapped-global}
 use Rattle.scope.proofs.GrantLaws.{grant-granted, grant-has}
-use Rattle.scope.proofs.PoseLaws.{PoseRoom, poseStep, usersToGrant, pose-posed, pose-room, pose-one-posed, pose-count, pose-part-words}
+use Rattle.scope.proofs.PoseLaws.{PoseRoom, poseStep, usersToGrant, pose-room, pose-one-posed, pose-count, pose-part-words}
 use Rattle.scope.proofs.WriteLaws.{rename-codes, solver-codes, keep-none, written-valid}
 use Rattle.scope.proofs.Accepted.{unless-none}
 

@@ -1,10 +1,8 @@
 -- What a contract says, in numbers: the answer, the table left and the words of the notes slice, of an accepted and of a refused call; and
 -- which list of the table each lent slice is.
 use Prim.Native.Nat.{ℕ}
-use mathlib.Core.Path.{_≡_, refl, ap, subst, _∙_}
-use mathlib.Core.List.{List, [], _∷_}
-use lib.ListN.{length}
-use lib.Seq.{sets}
+use mathlib.Core.Path.{_≡_, refl}
+use mathlib.Core.List.{List, []}
 use denote.Ref.{now}
 use Rattle.base.specs.Answer.{accepted, refused}
 use Rattle.base.specs.Bounded.{allBelow, least, count}
@@ -15,7 +13,7 @@ use Rattle.scope.specs.Sound.{soundb, sizesb, marksb, atMostb, tailb, ba
 use Rattle.scope.specs.Notes.{notesWords}
 use Rattle.scope.specs.Outcome.{each, unless}
 use Rattle.scope.specs.Map.{leastFree, globalFor, mapOne, fillGap, mapUser, nextUser, newUser, undeleted, newUserRefusal, newUserOf}
-use Rattle.scope.specs.Contract.{given, Said, Memory, lent, quiet, Meets}
+use Rattle.scope.specs.Contract.{given, Said, lent, quiet, Meets}
 use Rattle.scope.specs.Anchors.{w2, w3, w4, tab}
 use Rattle.scope.specs.AnchorsNames.{opened2}
 

@@ -4,8 +4,7 @@ use Prim.Native.Nat.{ℕ}
 use mathlib.Core.Bool.{Bool}
 use mathlib.Core.Path.{_≡_}
 use mathlib.Core.List.{List, [], _∷_}
-use Rattle.base.specs.Answer.{Answer, accepted, refused}
-use Rattle.scope.specs.declared.Counts.{Counts}
+use Rattle.base.specs.Answer.{accepted, refused}
 use Rattle.scope.specs.Table.{Table}
 use Rattle.scope.specs.Notes.{Note, notesWords}
 use Rattle.scope.specs.Outcome.{Outcome}

@@ -8,10 +8,10 @@ use Rattle.scope.specs.declared.SamplingMode.the-variants.{Sample, Witne
 use Rattle.scope.specs.declared.Mark.the-variants.{Used, Assumed, Released}
 use Rattle.scope.specs.Literals.{codeOf, indexOf, signOf, dimacsOf}
 use Rattle.scope.specs.Table.{modeOf, unitOf, isolatedOf, assumedOf, isDeleted, isShown, freshRecord, userRecord, withMode, withUnit}
-use Rattle.scope.specs.Notes.{Note, user+, user-, solver+, solver-, deletes, changes, noteWords, notesWords, heldBy}
+use Rattle.scope.specs.Notes.{user+, user-, solver+, solver-, deletes, changes, noteWords, notesWords, heldBy}
 use Rattle.scope.specs.Modes.{modeNumber, isHidden}
 use Rattle.scope.specs.Marks.{marked, trueValue}
-use Rattle.scope.specs.Anchors.{Row, _is_, words, number, test, w1, w2, w3, w4}
+use Rattle.scope.specs.Anchors.{Row, _is_, words, number, test, w2, w3, w4}
 
 -- ---- literals: 2 × index, plus 1 if negative; the DIMACS number is index + 1
 
