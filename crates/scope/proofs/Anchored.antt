@@ -52,7 +52,7 @@ sounds-hold = (refl, (refl, (refl, (refl, (refl, (refl, (refl, (refl, (refl, (re
 
 opens-hold : Agree opens
 unfolding allBelow least count anyOf keepOf word isShown giveUser takeUser giveSolver takeSolver putRecord putValue soundb sizesb marksb atMostb tailb backb namedb deletedb tailsb pairsb notesWords heldBy choose each unless emptyTable openOf
-opens-hold = (refl, (refl, (refl, (refl, (refl, (refl, (refl, (refl, (refl, (refl, tt))))))))))
+opens-hold = (refl, (refl, (refl, (refl, (refl, (refl, (refl, (refl, (refl, (refl, (refl, tt)))))))))))
 
 lookups-hold : Agree lookups
 unfolding allBelow least count anyOf keepOf word isShown giveUser takeUser giveSolver takeSolver putRecord putValue soundb sizesb marksb atMostb tailb backb namedb deletedb tailsb pairsb notesWords heldBy choose each unless found lookupOf globalFromUserOf userFromGlobalOf solverFromGlobalOf globalFromSolverOf recordWordOf assignmentWordOf

@@ -25,14 +25,18 @@ opened2 = tab 2 0 0 0 (w2 0 0) (w2 0 0) (w2 0 0) (w2 0 0) (w2 0 0) (w2 47 47)
 abbrev pub lent2 : Table
 lent2 = tab 2 5 6 7 (w2 1 2) (w2 3 4) (w2 5 6) (w2 7 8) (w2 9 10) (w2 11 12)
 
--- the same with a capacity and the lengths of the six lists
+-- the same with a capacity and the lengths of the six lists; and a fresh table
 abbrev pub lengths : ℕ → ℕ → ℕ → ℕ → ℕ → ℕ → ℕ → Table
 lengths n a b c d e f = tab n 0 0 0 (replicate a 1) (replicate b 1) (replicate c 1) (replicate d 1) (replicate e 1) (replicate f 1)
+
+abbrev pub blank : ℕ → Table
+blank n = tab n 0 0 0 (replicate n 0) (replicate n 0) (replicate n 0) (replicate n 0) (replicate n 0) (replicate n 47)
 
 abbrev pub opens : List Row
 opens =
     does (openOf lent2) is says [] opened2
     ∷ does (openOf (lengths 0 0 0 0 0 0 0)) is turns 10 (lengths 0 0 0 0 0 0 0)
+    ∷ does (openOf (lengths 4096 4096 4096 4096 4096 4096 4096)) is says [] (blank 4096)
     ∷ does (openOf (lengths 4097 4097 4097 4097 4097 4097 4097)) is turns 10 (lengths 4097 4097 4097 4097 4097 4097 4097)
     ∷ does (openOf (tab 1 9 9 9 (w1 1) (w1 2) (w1 3) (w1 4) (w1 5) (w1 6))) is says [] (tab 1 0 0 0 (w1 0) (w1 0) (w1 0) (w1 0) (w1 0) (w1 47))
     ∷ does (openOf (lengths 2 1 2 2 2 2 2)) is turns 10 (lengths 2 1 2 2 2 2 2)

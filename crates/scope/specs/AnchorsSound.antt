@@ -1,9 +1,9 @@
 -- Anchors of soundness: each part of "A table is sound if" broken alone is refusal 1, and odd but sound tables are not turned away.
 use Prim.Native.Nat.{ℕ}
 use mathlib.Core.List.{List, [], _∷_}
-use lib.ListN.{replicate}
 use Rattle.scope.specs.Table.{Table}
 use Rattle.scope.specs.Lookup.{recordWordOf}
+use Rattle.scope.specs.AnchorsNames.{blank}
 use Rattle.scope.specs.Anchors.{Row, _is_, does, w1, w2, tab, turns, says}
 
 -- a Lookup at or beyond every watermark: 1, or none
@@ -12,10 +12,6 @@ refused t = does (recordWordOf t 9999) is turns 1 t
 
 abbrev pub taken : Table → Row
 taken t = does (recordWordOf t 9999) is says [] t
-
--- a freshly opened table
-abbrev pub blank : ℕ → Table
-blank n = tab n 0 0 0 (replicate n 0) (replicate n 0) (replicate n 0) (replicate n 0) (replicate n 0) (replicate n 47)
 
 -- capacity 1: user, global and solver watermark; global from user, user from global; solver from global, global from solver; assignment; record
 abbrev pub cell : ℕ → ℕ → ℕ → ℕ → ℕ → ℕ → ℕ → ℕ → ℕ → Table
