@@ -2,7 +2,7 @@
 -- a table that does nothing does not meet what is said here of the table left.
 use Prim.Native.Nat.{ℕ, zero, suc, _+_, _-_, _*_, _<_, _≤_}
 use mathlib.Core.Path.{_≡_, refl, sym, ap, _∙_}
-use mathlib.Core.Bool.{Bool, false, _&&_}
+use mathlib.Core.Bool.{Bool, true, false, _&&_}
 use mathlib.Core.Logic.{_≢_}
 use mathlib.Core.List.{List, [], _∷_, _++_}
 use native.Mathlib.Omega.{arith}
@@ -15,8 +15,10 @@ use Rattle.scope.specs.declared.SamplingMode.the-variants.{Sample, Witne
 use Rattle.scope.specs.declared.Mark.{Mark}
 use Rattle.scope.specs.Literals.{indexOf}
 use Rattle.scope.specs.Table.{Table, recordOf, modeOf, assumedOf, withMode, giveUser, takeUser, takeSolver, putRecord, putValue}
-use Rattle.scope.specs.Sound.{Sound}
-use Rattle.scope.specs.Outcome.{Result, Outcome, each, unless, noting, changing}
+use Rattle.scope.specs.Sound.{Sound, sizesb}
+use Rattle.scope.specs.Outcome.{Result, Outcome, each, unless, noting, changing, telling}
+use Rattle.scope.specs.Open.{emptyTable, openOf}
+use Rattle.scope.specs.Lookup.{lookupOf}
 use Rattle.scope.specs.Map.{undeleted, toMap, unsampled, mapUser, newUser, nextUser, mapRefusal, mapOf, newUserRefusal, newUserOf}
 use Rattle.scope.specs.Grant.{grant, grantRefusal, grantOf}
 use Rattle.scope.specs.Modes.{modeNumber, deleteIfUnused, show, hide, change, setMode, setModeRefusal, setModeOf}
@@ -36,6 +38,16 @@ pub unless-none : (n : ℕ) (t : Table) (o : Outcome) → n ≡ 0 → unless n t
 unfolding unless
 unless-none zero t o e = refl
 unless-none (suc n) t o e = absurd (omega arith)
+
+-- ---- Open and Lookup
+
+pub open-works : (t : Table) → sizesb t ≡ true → openOf t ≡ changing (emptyTable (t .counts .capacity))
+unfolding openOf
+open-works t h = unless-none _ t _ (rw h)
+
+pub lookup-works : (t : Table) (vs : List ℕ) → Sound t → lookupOf t vs ≡ telling vs t
+unfolding lookupOf
+lookup-works t vs p = unless-none _ t _ (rw (sound-to t p))
 
 -- ---- names
 
