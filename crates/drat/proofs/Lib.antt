@@ -1,3 +1,4 @@
+pub mod Anchored
 pub mod Numerals
 pub mod Written
 pub mod Cases

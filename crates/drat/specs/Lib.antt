@@ -4,3 +4,4 @@ pub mod Reading
 pub mod Filled
 pub mod Writing
 pub mod Listed
+pub mod Anchors

@@ -1,3 +1,5 @@
+pub mod Anchored
+pub mod ContractLaws
 pub mod CountsLaws
 pub mod BiMapLaws
 pub mod SoundLaws
@@ -14,3 +16,7 @@ pub mod WantedLaws
 pub mod PoseLaws
 pub mod WriteLaws
 pub mod RuledOut
+pub mod NoteCounts
+pub mod RecordLaws
+pub mod Accepted
+pub mod AcceptedLists

@@ -217,7 +217,7 @@ show-global : (t : Table) (g m : ℕ) → g < t .counts .global → show g m t .
 unfolding show giveUser
 show-global t g m h = omega arith
 
-show-records : (t : Table) (g m k : ℕ) → k ≢ g → recordOf (show g m t .table) k ≡ recordOf t k
+pub show-records : (t : Table) (g m k : ℕ) → k ≢ g → recordOf (show g m t .table) k ≡ recordOf t k
 unfolding show giveUser
 show-records t g m k n = getD-set-other (t .records) g k (withMode (recordOf t g) m) 47 n
 

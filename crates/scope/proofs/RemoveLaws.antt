@@ -238,7 +238,7 @@ isDue r = eqb (isolatedOf r) 1 && eqb (assumedOf r) 0
 pub record Kept (i : ℕ) (r : Table) : Type 0 where
   pub due : (s g : ℕ) → s < i → getD (r .globalFromSolver) s 0 ≡ g + 1 → isDue (recordOf r g) ≡ false
 
-removed-free : (t : Table) (g s : ℕ) → Sound t → getD (t .globalFromSolver) s 0 ≡ g + 1 → getD (removeHeld g s t .table .globalFromSolver) s 0 ≡ 0
+pub removed-free : (t : Table) (g s : ℕ) → Sound t → getD (t .globalFromSolver) s 0 ≡ g + 1 → getD (removeHeld g s t .table .globalFromSolver) s 0 ≡ 0
 unfolding removeHeld takeSolver
 removed-free t g s p e =
     let z = p .sizes in

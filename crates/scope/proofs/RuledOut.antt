@@ -1,19 +1,16 @@
 -- What promise c rules out, as laws of the definitions. A table that turns away every name, or says "short" or "no free global" with nothing
--- tried: where there is room a name is taken. An invented note count: the count answered is that of the notes. A grant of index 0 to
--- everybody: `grant-sound` (two globals never hold one index) and `grants-apart`. A sweep of its first index only: `sweep-complete`. An idle
--- table: `map-user-mapped` and `grant-granted` (the name asked for is there afterwards).
+-- tried: where there is room a name is taken (and each call does its work: Accepted, AcceptedLists). An invented note count: NoteCounts. A
+-- grant of index 0 to everybody: `grant-sound` (two globals never hold one index) and `grants-apart`. A sweep of its first index only:
+-- `sweep-complete`. An idle table: `map-user-mapped` and `grant-granted` (the name asked for is there afterwards).
 use Prim.Native.Nat.{ℕ, _+_, _*_, _<_, _≤_}
-use mathlib.Core.Path.{_≡_, refl, _∙_}
+use mathlib.Core.Path.{_≡_, _∙_}
 use mathlib.Core.Bool.{Bool, false, _&&_}
 use mathlib.Core.Logic.{_≢_}
-use mathlib.Core.List.{List, [], _∷_, _++_}
 use native.Mathlib.Omega.{arith}
 use lib.ListN.{length, getD}
 use borrow.Author.Tests.{lt-leb, le-ltb}
-use Rattle.base.specs.Answer.{valuesOf}
 use Rattle.scope.specs.Table.{Table, recordOf}
 use Rattle.scope.specs.Sound.{Sound}
-use Rattle.scope.specs.Outcome.{Result, noting}
 use Rattle.scope.specs.Map.{undeleted, toMap, unsampled, mapUser, newUser, nextUser, mapRefusal, newUserRefusal}
 use Rattle.scope.specs.Grant.{grant, grantRefusal}
 use Rattle.scope.proofs.SoundLaws.{sound-to}
@@ -57,9 +54,3 @@ grants-apart t g h p k n e =
     let a = d .sound .solver .inverse (grant g t .value) h .1 (d .other h n ∙ e) in
     let b = d .holds in
     n (omega arith)
-
--- ---- the count answered is that of the notes
-
-pub noting-counts : {A : Type 0} (values : A → List ℕ) (x : Result A)
-    → valuesOf (noting values x .answer) ≡ values (x .value) ++ (length (x .notes) ∷ [])
-noting-counts values x = refl

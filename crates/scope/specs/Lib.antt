@@ -19,3 +19,10 @@ pub mod Simplify
 pub mod Models
 pub mod Calls
 pub mod Contract
+pub mod Anchors
+pub mod AnchorsNames
+pub mod AnchorsModes
+pub mod AnchorsMarks
+pub mod AnchorsSteps
+pub mod AnchorsSound
+pub mod AnchorsWords

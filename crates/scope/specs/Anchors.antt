@@ -1,0 +1,87 @@
+-- Anchors: small cases of every call, each with what document 01 says of it in numbers. The tables of rows are in the files Anchors..,
+-- one theorem holds over all of them (`anchored`, proofs/Anchored.antt). Nothing here goes through a definition that a row is about.
+use Prim.Native.Nat.{ℕ}
+use mathlib.Core.Bool.{Bool}
+use mathlib.Core.Path.{_≡_}
+use mathlib.Core.List.{List, [], _∷_}
+use Rattle.base.specs.Answer.{accepted, refused}
+use Rattle.scope.specs.Table.{Table}
+use Rattle.scope.specs.Notes.{Note, notesWords}
+use Rattle.scope.specs.Outcome.{Outcome}
+
+-- What is looked at: all that a call does, with the words of its notes; or words, a number, a test.
+pub data Seen : Type 0 where
+  call : Outcome → List ℕ → Seen
+  words : List ℕ → Seen
+  number : ℕ → Seen
+  test : Bool → Seen
+
+-- what the definitions give, and what document 01 says
+pub record Row : Type 0 where
+  pub gives : Seen
+  pub says : Seen
+
+-- In every row they are the same.
+abbrev pub Agree : List Row → Type 0
+Agree [] = Unit {0}
+Agree (r ∷ rows) = (r .gives ≡ r .says) × Agree rows
+
+-- ---- how rows are written
+
+infix 80 _is_
+abbrev pub _is_ : Seen → Seen → Row
+x is y = record { gives = x; says = y }
+
+-- all that a call does
+abbrev pub does : Outcome → Seen
+does o = call o (notesWords (o .notes))
+
+-- words
+abbrev pub w1 : ℕ → List ℕ
+w1 a = a ∷ []
+
+abbrev pub w2 : ℕ → ℕ → List ℕ
+w2 a b = a ∷ b ∷ []
+
+abbrev pub w3 : ℕ → ℕ → ℕ → List ℕ
+w3 a b c = a ∷ b ∷ c ∷ []
+
+abbrev pub w4 : ℕ → ℕ → ℕ → ℕ → List ℕ
+w4 a b c d = a ∷ b ∷ c ∷ d ∷ []
+
+abbrev pub w6 : ℕ → ℕ → ℕ → ℕ → ℕ → ℕ → List ℕ
+w6 a b c d e f = a ∷ b ∷ c ∷ d ∷ e ∷ f ∷ []
+
+-- A table: capacity, user, global and solver watermark; global from user, user from global; solver from global, global from solver;
+-- assignment; records.
+abbrev pub tab : ℕ → ℕ → ℕ → ℕ → List ℕ → List ℕ → List ℕ → List ℕ → List ℕ → List ℕ → Table
+tab n u g s gu ug sg gs a r =
+    record {
+      counts = record { capacity = n; user = u; global = g; solver = s };
+      globalFromUser = gu;
+      userFromGlobal = ug;
+      solverFromGlobal = sg;
+      globalFromSolver = gs;
+      assignment = a;
+      records = r;
+    }
+
+-- refused with this number: nothing is changed
+abbrev pub turns : ℕ → Table → Seen
+turns n t = call (record { answer = refused n []; table = t; notes = []; words = []; more = []; bytes = [] }) []
+
+-- accepted with these values: nothing is changed; only the table is changed
+abbrev pub says : List ℕ → Table → Seen
+says vs t = call (record { answer = accepted vs; table = t; notes = []; words = []; more = []; bytes = [] }) []
+
+-- accepted with these values, this table, these notes in these words
+abbrev pub notes : List ℕ → Table → List Note → List ℕ → Seen
+notes vs t ns ws = call (record { answer = accepted vs; table = t; notes = ns; words = []; more = []; bytes = [] }) ws
+
+-- the same with words filled into a further slice
+abbrev pub fills : List ℕ → Table → List Note → List ℕ → List ℕ → Seen
+fills vs t ns ws outs = call (record { answer = accepted vs; table = t; notes = ns; words = outs; more = []; bytes = [] }) ws
+
+-- accepted with these values, the table unchanged: words, further words, bytes
+abbrev pub writes : List ℕ → Table → List ℕ → List ℕ → List ℕ → Seen
+writes vs t outs more bs = call (record { answer = accepted vs; table = t; notes = []; words = outs; more = more; bytes = bs }) []
