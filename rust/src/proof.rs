@@ -188,7 +188,7 @@ pub fn first_step(format: Format, bytes: &[u8]) -> Result<&[u8], Refusal> {
 /// Writes `lits[a..b]` as one step at `proof[at..]`: an add, or a delete. Answers the place after it. Refusals: 3 where `a..b` is no part of
 /// the literals, has more than 8,192 or an index of 4,096 or more, 2.
 ///
-/// To lend: from `at` on the bytes of the step; [`Format::room_for`] `(b - a)` is enough.
+/// To lend: the bytes of the step, from `at` on; what [`Format::room_for`] says for `b - a` is enough.
 ///
 /// ```
 /// use hintzobar::{write_clause, Format, Global, Lit};

@@ -407,7 +407,7 @@ impl Table {
 
     /// Simplifies a clause by the assignment; the literals left and the steps' bytes are filled. Refusals: 1, 3, 8, 12, 2.
     ///
-    /// To lend: as many literals as are given, and [`Format::room_for`] them bytes.
+    /// To lend: as many literals as are given, and the bytes of both steps; what [`Format::room_for`] says for the literals given is enough.
     ///
     /// Stack: 64 KB beside the caller's own, whatever the clause. A thread of 64 KB is too small; one of 128 KB is enough.
     pub fn simplify(
@@ -460,7 +460,7 @@ impl Table {
 
     /// A step's bytes under global names; how many were filled is answered. Refusals: 1, 14, 3, 8, 11, 2.
     ///
-    /// To lend: [`Format::room_for`] the literals given; none for a kind that writes nothing.
+    /// To lend: the bytes of the step; what [`Format::room_for`] says for the literals given is enough. None for a kind that writes nothing.
     ///
     /// Stack: 32 KB beside the caller's own, whatever the clause. A thread of 128 KB is enough for any call of this crate.
     ///
