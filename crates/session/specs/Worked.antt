@@ -15,7 +15,7 @@ use Rattle.scope.specs.declared.SamplingMode.the-variants.{Sample, Hide}
 use Rattle.scope.specs.declared.Mark.the-variants.{Assumed}
 use Rattle.scope.specs.declared.ProofStep.the-variants.{AtClause, DeleteClause}
 use Rattle.scope.specs.declared.DeleteClauseProof.the-variants.{Redundant}
-use Rattle.scope.specs.Literals.{codeOf, Dimacs}
+use Rattle.scope.specs.Literals.{Dimacs}
 use Rattle.scope.specs.Table.{Table, tableOf}
 use Rattle.scope.specs.Notes.{Note, user+, user-, solver-, deletes, changes}
 use Rattle.scope.specs.Open.{openCounts, emptyTable, openOf}
@@ -55,7 +55,7 @@ abbrev pub minus : ℕ → Dimacs
 minus n = record { negative = true; magnitude = n }
 
 abbrev pub literalOf : Dimacs → ℕ
-literalOf d = codeOf (d .magnitude - 1) (pick (d .negative) 1 0)
+literalOf d = 2 * (d .magnitude - 1) + pick (d .negative) 1 0
 
 abbrev pub dimacsBytes : Format → Dimacs → List ℕ
 dimacsBytes Text d = pick (d .negative) (45 ∷ []) [] ++ (bytesOf decimal (d .magnitude) ++ 32 ∷ [])
