@@ -21,7 +21,7 @@ use Rattle.scope.specs.Models.{globalValue, rowOf, globalModel, userLite
 use Rattle.scope.specs.Anchors.{Agree}
 use Rattle.scope.specs.AnchorsWords.{literals, recordParts, everyPart, noteRows, heldRows}
 use Rattle.scope.specs.AnchorsSound.{sounds}
-use Rattle.scope.specs.AnchorsNames.{opens, lookups, maps, newUsers, grants, poses}
+use Rattle.scope.specs.AnchorsNames.{opens, lookups, mapAnswers, maps, newUsers, grants, poses}
 use Rattle.scope.specs.AnchorsModes.{setModes, observes, removes, sweeps, models}
 use Rattle.scope.specs.AnchorsMarks.{marks, assigns}
 use Rattle.scope.specs.AnchorsSteps.{simplifies, kinds, causes, renames, written}
@@ -48,7 +48,7 @@ heldRows-hold = (refl, (refl, (refl, (refl, (refl, (refl, (refl, (refl, (refl, (
 
 sounds-hold : Agree sounds
 unfolding allBelow least count anyOf keepOf word isShown giveUser takeUser giveSolver takeSolver putRecord putValue soundb sizesb marksb atMostb tailb backb namedb deletedb tailsb pairsb notesWords heldBy choose each unless found lookupOf globalFromUserOf userFromGlobalOf solverFromGlobalOf globalFromSolverOf recordWordOf assignmentWordOf
-sounds-hold = (refl, (refl, (refl, (refl, (refl, (refl, (refl, (refl, (refl, (refl, (refl, (refl, (refl, (refl, (refl, (refl, (refl, (refl, (refl, (refl, (refl, (refl, (refl, (refl, (refl, (refl, (refl, (refl, (refl, (refl, (refl, (refl, (refl, (refl, (refl, (refl, (refl, (refl, (refl, (refl, (refl, (refl, (refl, (refl, (refl, (refl, (refl, (refl, (refl, (refl, (refl, (refl, (refl, (refl, (refl, (refl, (refl, (refl, (refl, (refl, (refl, (refl, (refl, (refl, (refl, (refl, (refl, tt)))))))))))))))))))))))))))))))))))))))))))))))))))))))))))))))))))
+sounds-hold = (refl, (refl, (refl, (refl, (refl, (refl, (refl, (refl, (refl, (refl, (refl, (refl, (refl, (refl, (refl, (refl, (refl, (refl, (refl, (refl, (refl, (refl, (refl, (refl, (refl, (refl, (refl, (refl, (refl, (refl, (refl, (refl, (refl, (refl, (refl, (refl, (refl, (refl, (refl, (refl, (refl, (refl, (refl, (refl, (refl, (refl, (refl, (refl, (refl, (refl, (refl, (refl, (refl, (refl, (refl, (refl, (refl, (refl, (refl, (refl, (refl, (refl, (refl, (refl, (refl, (refl, tt))))))))))))))))))))))))))))))))))))))))))))))))))))))))))))))))))
 
 opens-hold : Agree opens
 unfolding allBelow least count anyOf keepOf word isShown giveUser takeUser giveSolver takeSolver putRecord putValue soundb sizesb marksb atMostb tailb backb namedb deletedb tailsb pairsb notesWords heldBy choose each unless emptyTable openOf
@@ -57,6 +57,10 @@ opens-hold = (refl, (refl, (refl, (refl, (refl, (refl, (refl, (refl, (refl, (ref
 lookups-hold : Agree lookups
 unfolding allBelow least count anyOf keepOf word isShown giveUser takeUser giveSolver takeSolver putRecord putValue soundb sizesb marksb atMostb tailb backb namedb deletedb tailsb pairsb notesWords heldBy choose each unless found lookupOf globalFromUserOf userFromGlobalOf solverFromGlobalOf globalFromSolverOf recordWordOf assignmentWordOf
 lookups-hold = (refl, (refl, (refl, (refl, (refl, (refl, (refl, (refl, (refl, (refl, (refl, (refl, (refl, (refl, (refl, (refl, (refl, (refl, (refl, (refl, (refl, (refl, (refl, (refl, (refl, (refl, (refl, (refl, (refl, (refl, (refl, tt)))))))))))))))))))))))))))))))
+
+mapAnswers-hold : Agree mapAnswers
+unfolding allBelow least count anyOf keepOf word isShown giveUser takeUser giveSolver takeSolver putRecord putValue soundb sizesb marksb atMostb tailb backb namedb deletedb tailsb pairsb notesWords heldBy choose each unless leastFree globalFor mapOne fillGap mapUser nextUser newUser undeleted toMap unsampled mapRefusal mapOf newUserRefusal newUserOf
+mapAnswers-hold = (refl, (refl, (refl, (refl, (refl, tt)))))
 
 maps-hold : Agree maps
 unfolding allBelow least count anyOf keepOf word isShown giveUser takeUser giveSolver takeSolver putRecord putValue soundb sizesb marksb atMostb tailb backb namedb deletedb tailsb pairsb notesWords heldBy choose each unless leastFree globalFor mapOne fillGap mapUser nextUser newUser undeleted toMap unsampled mapRefusal mapOf newUserRefusal newUserOf
@@ -122,5 +126,5 @@ written-hold : Agree written
 unfolding allBelow least count anyOf keepOf word isShown giveUser takeUser giveSolver takeSolver putRecord putValue soundb sizesb marksb atMostb tailb backb namedb deletedb tailsb pairsb notesWords heldBy choose each unless notHeld mark markRefusal markOf assignRefusal assignOf spell further bytesOf number numbers encodeStep encode renameLits unmatched outside unheld stepRefusal renameRefusal renameOf stepBytes writeRefusal writeOf
 written-hold = (refl, (refl, (refl, (refl, (refl, (refl, (refl, (refl, (refl, (refl, (refl, (refl, (refl, (refl, (refl, (refl, (refl, (refl, (refl, (refl, (refl, (refl, (refl, (refl, (refl, (refl, (refl, (refl, (refl, (refl, (refl, (refl, (refl, (refl, (refl, tt)))))))))))))))))))))))))))))))))))
 
-pub anchored : Agree literals × Agree recordParts × Agree everyPart × Agree noteRows × Agree heldRows × Agree sounds × Agree opens × Agree lookups × Agree maps × Agree newUsers × Agree grants × Agree poses × Agree setModes × Agree observes × Agree removes × Agree sweeps × Agree models × Agree marks × Agree assigns × Agree simplifies × Agree kinds × Agree causes × Agree renames × Agree written
-anchored = (literals-hold, recordParts-hold, everyPart-hold, noteRows-hold, heldRows-hold, sounds-hold, opens-hold, lookups-hold, maps-hold, newUsers-hold, grants-hold, poses-hold, setModes-hold, observes-hold, removes-hold, sweeps-hold, models-hold, marks-hold, assigns-hold, simplifies-hold, kinds-hold, causes-hold, renames-hold, written-hold)
+pub anchored : Agree literals × Agree recordParts × Agree everyPart × Agree noteRows × Agree heldRows × Agree sounds × Agree opens × Agree lookups × Agree mapAnswers × Agree maps × Agree newUsers × Agree grants × Agree poses × Agree setModes × Agree observes × Agree removes × Agree sweeps × Agree models × Agree marks × Agree assigns × Agree simplifies × Agree kinds × Agree causes × Agree renames × Agree written
+anchored = (literals-hold, recordParts-hold, everyPart-hold, noteRows-hold, heldRows-hold, sounds-hold, opens-hold, lookups-hold, mapAnswers-hold, maps-hold, newUsers-hold, grants-hold, poses-hold, setModes-hold, observes-hold, removes-hold, sweeps-hold, models-hold, marks-hold, assigns-hold, simplifies-hold, kinds-hold, causes-hold, renames-hold, written-hold)

@@ -18,5 +18,5 @@ pub mod WriteLaws
 pub mod RuledOut
 pub mod NoteCounts
 pub mod RecordLaws
-pub mod Accepted
-pub mod AcceptedLists
+pub mod Works
+pub mod WorksLists

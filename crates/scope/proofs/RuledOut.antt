@@ -1,5 +1,5 @@
 -- What promise c rules out, as laws of the definitions. A table that turns away every name, or says "short" or "no free global" with nothing
--- tried: where there is room a name is taken (and each call does its work: Accepted, AcceptedLists). An invented note count: NoteCounts. A
+-- tried: where there is room a name is taken (and each call does its work: Works, WorksLists). An invented note count: NoteCounts. A
 -- grant of index 0 to everybody: `grant-sound` (two globals never hold one index) and `grants-apart`. A sweep of its first index only:
 -- `sweep-complete`. An idle table: `map-user-mapped` and `grant-granted` (the name asked for is there afterwards).
 use Prim.Native.Nat.{ℕ, _+_, _*_, _<_, _≤_}

@@ -2,7 +2,8 @@
 use Prim.Native.Nat.{ℕ}
 use mathlib.Core.Bool.{false, true}
 use mathlib.Core.List.{List, [], _∷_}
-use lib.ListN.{replicate}
+use lib.ListN.{getD, replicate}
+use Rattle.base.specs.Answer.{numberOf, valuesOf}
 use Rattle.scope.specs.Table.{Table}
 use Rattle.scope.specs.Notes.{user+, solver+}
 use Rattle.scope.specs.Open.{openOf}
@@ -10,7 +11,7 @@ use Rattle.scope.specs.Lookup.{globalFromUserOf, userFromGlobalOf, solve
 use Rattle.scope.specs.Map.{mapOf, newUserOf}
 use Rattle.scope.specs.Grant.{grantOf}
 use Rattle.scope.specs.Pose.{poseOf}
-use Rattle.scope.specs.Anchors.{Row, _is_, does, w1, w2, w3, w4, w6, tab, turns, says, notes, fills}
+use Rattle.scope.specs.Anchors.{Row, _is_, does, words, number, w1, w2, w3, w4, w6, tab, turns, says, notes, fills}
 
 -- No table is sound whose user watermark is above the global one.
 abbrev pub unsound : Table
@@ -115,6 +116,16 @@ spare4 = tab 4 1 3 0 (w4 0 0 0 0) (w4 0 0 0 0) (w4 0 0 0 0) (w4 0 0 0 0) (w4 0 0
 -- global 0 deleted, user 0 unmapped below the watermark
 abbrev pub one4 : Table
 one4 = tab 4 1 1 0 (w4 0 0 0 0) (w4 0 0 0 0) (w4 0 0 0 0) (w4 0 0 0 0) (w4 0 0 0 0) (w4 47 47 47 47)
+
+-- the number, the values and the count of notes, which is the last value, alone
+abbrev pub mapAnswers : List Row
+mapAnswers =
+    number (getD (valuesOf (mapOf opened2 1 false 6 .answer)) 1 9) is number 2
+    ∷ number (getD (valuesOf (mapOf mixed 0 false 0 .answer)) 1 9) is number 0
+    ∷ words (valuesOf (mapOf mixed 0 true 0 .answer)) is words []
+    ∷ number (numberOf (mapOf mixed 0 true 0 .answer)) is number 4
+    ∷ number (numberOf (mapOf mixed 0 false 0 .answer)) is number 0
+    ∷ []
 
 abbrev pub maps : List Row
 maps =

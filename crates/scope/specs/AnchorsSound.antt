@@ -21,7 +21,6 @@ abbrev pub sounds : List Row
 sounds =
     -- the capacity is 1 to 4,096 and every slice has its length
     refused (tab 0 0 0 0 [] [] [] [] [] [])
-    ∷ refused (blank 4097)
     ∷ taken (blank 2)
     ∷ refused (tab 1 0 0 0 [] (w1 0) (w1 0) (w1 0) (w1 0) (w1 47))
     ∷ refused (tab 1 0 0 0 (w2 0 0) (w1 0) (w1 0) (w1 0) (w1 0) (w1 47))

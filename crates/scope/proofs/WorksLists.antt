@@ -43,7 +43,7 @@ use Rattle.scope.proofs.MapLaws.{MapRoom, map-user-mapped, map-user-has
 use Rattle.scope.proofs.GrantLaws.{grant-granted, grant-has}
 use Rattle.scope.proofs.PoseLaws.{PoseRoom, poseStep, usersToGrant, pose-room, pose-one-posed, pose-count, pose-part-words}
 use Rattle.scope.proofs.WriteLaws.{rename-codes, solver-codes, keep-none, written-valid}
-use Rattle.scope.proofs.Accepted.{unless-none}
+use Rattle.scope.proofs.Works.{unless-none}
 
 -- ---- Observe
 
