@@ -1,4 +1,4 @@
-// The capacity and the watermarks, in and out.
+// The capacity and the watermarks.
 use scope::Counts;
 ghost use mathlib.Core.Path.{_≡_};
 ghost use Rattle.answers.specs.Surface.{countsOf};
@@ -9,17 +9,6 @@ pub struct HzCounts {
     pub user: u32,
     pub global: u32,
     pub solver: u32,
-}
-
-pub fn counts_in(c: HzCounts) -> Counts
-    ensures { λ r. ⌜ r ≡ countsOf c ⌝ }
-{
-    Counts {
-        capacity: c.capacity,
-        user: c.user,
-        global: c.global,
-        solver: c.solver,
-    }
 }
 
 pub fn counts_out(c: Counts) -> HzCounts

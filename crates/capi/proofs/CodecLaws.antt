@@ -11,10 +11,10 @@ use Rattle.drat.specs.Writing.{writeOf}
 use Rattle.drat.specs.Listed.{writeAllOf}
 use Rattle.drat.specs.Filled.{refusing, readOf, firstOf, firstBy, first}
 use Rattle.drat.specs.Reading.{One, got, fault, oneStep}
-use Rattle.answers.specs.Numbers.{known, unknown, formatAt, kindAt}
+use Rattle.numbers.specs.Numbers.{known, unknown, formatAt, kindAt}
 use Rattle.answers.specs.Surface.{placed, partOf, measured}
 use Rattle.capi.specs.Codec.{noWriting, writeClauseAt, writeProofAt, readAt, firstAt}
-use Rattle.answers.proofs.NumberLaws.{known-is, unknown-is}
+use Rattle.numbers.proofs.NumberLaws.{known-is, unknown-is}
 
 -- what is filled, by another name
 pub filled-same : (before : List ℕ) (at : ℕ) {xs ys after : List ℕ} → ys ≡ xs → after ≡ sets before at xs → after ≡ sets before at ys

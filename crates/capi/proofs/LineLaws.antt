@@ -11,11 +11,11 @@ use Rattle.scope.specs.Steps.{stepWords}
 use Rattle.scope.specs.Outcome.{Outcome, refusal, unless}
 use Rattle.scope.specs.Write.{renameOf, writeOf}
 use Rattle.scope.specs.Simplify.{simplifyOf}
-use Rattle.answers.specs.declared.numbers.HzStep.{HzStep}
-use Rattle.answers.specs.Numbers.{known, unknown, formatAt}
+use Rattle.numbers.specs.declared.HzStep.{HzStep}
+use Rattle.numbers.specs.Numbers.{known, unknown, formatAt}
 use Rattle.answers.specs.Surface.{stepped, stepless, Given}
 use Rattle.capi.specs.Lines.{stepOf, renameAt, writeAt, simplifyAt}
-use Rattle.answers.proofs.NumberLaws.{known-is, unknown-is}
+use Rattle.numbers.proofs.NumberLaws.{known-is, unknown-is}
 
 module _ (format : ℕ) (step : HzStep) (t : Table) (solverVars : Bool) (lits hashes : List ℕ) (room : ℕ) where
   pub write-is : {f : Format} {s : ProofStep} → formatAt format ≡ known f → stepOf step ≡ known s → writeAt format step t solverVars lits hashes room ≡ writeOf f t s solverVars lits hashes room

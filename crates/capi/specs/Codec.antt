@@ -5,7 +5,7 @@ use Rattle.base.specs.Answer.{Answer, refused}
 use Rattle.drat.specs.Writing.{Writing, writeOf}
 use Rattle.drat.specs.Listed.{writeAllOf}
 use Rattle.drat.specs.Filled.{Filling, refusing, readOf, firstOf}
-use Rattle.answers.specs.Numbers.{whenKnown, formatAt, kindAt}
+use Rattle.numbers.specs.Numbers.{whenKnown, formatAt, kindAt}
 
 abbrev pub noWriting : Writing
 noWriting = record { answer = refused 4294967295 []; bytes = [] }

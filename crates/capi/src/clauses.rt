@@ -1,9 +1,9 @@
 // Simplify.
 use answers::counts::HzCounts;
-use answers::lines::HzSimplified;
-use answers::lines::reduced_out;
-use answers::numbers::FormatNumber;
-use answers::numbers::format_in;
+use answers::simplified::HzSimplified;
+use answers::simplified::reduced_out;
+use numbers::FormatNumber;
+use numbers::format_in;
 use scope::Counts;
 ghost use mathlib.Core.Path.{_≡_};
 ghost use mathlib.Core.List.{[], _∷_};

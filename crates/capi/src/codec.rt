@@ -1,14 +1,14 @@
 // The writer of one clause, and the reader.
-use answers::lines::HzFirst;
-use answers::lines::HzReading;
-use answers::lines::HzWritten;
-use answers::lines::first_out;
-use answers::lines::read_out;
-use answers::lines::wrote_out;
-use answers::numbers::FormatNumber;
-use answers::numbers::KindNumber;
-use answers::numbers::format_in;
-use answers::numbers::kind_in;
+use answers::first::HzFirst;
+use answers::first::first_out;
+use answers::reading::HzReading;
+use answers::reading::read_out;
+use answers::written::HzWritten;
+use answers::wrote::wrote_out;
+use numbers::FormatNumber;
+use numbers::KindNumber;
+use numbers::format_in;
+use numbers::kind_in;
 ghost use mathlib.Core.Path.{_≡_};
 ghost use mathlib.Core.List.{[], _∷_};
 ghost use lib.ListN.{length, take};

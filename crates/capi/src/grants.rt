@@ -1,7 +1,7 @@
 // Grant.
 use answers::counts::HzCounts;
-use answers::names::HzGranted;
-use answers::names::granted_out;
+use answers::granted::HzGranted;
+use answers::granted::granted_out;
 use scope::Counts;
 use scope::Global;
 ghost use mathlib.Core.List.{[], _∷_};

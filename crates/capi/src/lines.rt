@@ -1,14 +1,14 @@
 // Rename and Write.
 use answers::counts::HzCounts;
-use answers::lines::HzRenamed;
-use answers::lines::HzWritten;
-use answers::lines::recorded_out;
-use answers::lines::renamed_out;
-use answers::numbers::FormatNumber;
-use answers::numbers::HzStep;
-use answers::numbers::StepNumber;
-use answers::numbers::format_in;
-use answers::numbers::step_in;
+use answers::renamed::HzRenamed;
+use answers::renamed::renamed_out;
+use answers::written::HzWritten;
+use answers::written::recorded_out;
+use numbers::FormatNumber;
+use numbers::HzStep;
+use numbers::StepNumber;
+use numbers::format_in;
+use numbers::step_in;
 use scope::Counts;
 ghost use mathlib.Core.Path.{_≡_};
 ghost use mathlib.Core.List.{[], _∷_};

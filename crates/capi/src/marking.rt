@@ -1,15 +1,15 @@
 // Marks and Assign.
+use answers::changed::HzChanged;
+use answers::changed::changed_out;
 use answers::counts::HzCounts;
-use answers::names::HzChanged;
-use answers::names::changed_out;
-use answers::numbers::MarkNumber;
-use answers::numbers::mark_in;
+use numbers::MarkNumber;
+use numbers::mark_in;
 use scope::Counts;
 use scope::Solver;
 ghost use mathlib.Core.List.{[], _∷_};
 ghost use Rattle.scope.specs.Contract.{quiet};
 ghost use Rattle.scope.specs.Marks.{markOf, assignOf};
-ghost use Rattle.answers.specs.Numbers.{forKnown, markAt};
+ghost use Rattle.numbers.specs.Numbers.{forKnown, markAt};
 ghost use Rattle.answers.specs.Surface.{countsOf, plain, Gives};
 
 // Marks (1, 8): `markOf`.

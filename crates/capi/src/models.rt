@@ -1,7 +1,7 @@
 // Model.
 use answers::counts::HzCounts;
-use answers::lines::HzModelled;
-use answers::lines::modelled_out;
+use answers::modelled::HzModelled;
+use answers::modelled::modelled_out;
 use scope::Counts;
 ghost use mathlib.Core.Path.{_≡_};
 ghost use mathlib.Core.List.{[], _∷_};

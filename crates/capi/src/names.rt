@@ -1,9 +1,9 @@
 // Map and New user.
 use answers::counts::HzCounts;
-use answers::names::HzMapped;
-use answers::names::HzNewMapped;
-use answers::names::mapped_out;
-use answers::names::new_mapped_out;
+use answers::mapped::HzMapped;
+use answers::mapped::mapped_out;
+use answers::new_mapped::HzNewMapped;
+use answers::new_mapped::new_mapped_out;
 use scope::Counts;
 use scope::User;
 ghost use mathlib.Core.List.{[], _∷_};

@@ -1,12 +1,12 @@
 // Open, and Lookup.
+use answers::changed::HzChanged;
 use answers::counts::HzCounts;
-use answers::names::HzChanged;
-use answers::names::HzFound;
-use answers::names::global_out;
-use answers::names::opened_out;
-use answers::names::solver_out;
-use answers::names::user_out;
-use answers::names::word_out;
+use answers::found::HzFound;
+use answers::found::global_out;
+use answers::found::solver_out;
+use answers::found::user_out;
+use answers::found::word_out;
+use answers::opened::opened_out;
 use scope::Counts;
 use scope::Global;
 use scope::Solver;

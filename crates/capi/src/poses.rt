@@ -1,7 +1,7 @@
 // Pose.
 use answers::counts::HzCounts;
-use answers::names::HzPosed;
-use answers::names::posed_out;
+use answers::posed::HzPosed;
+use answers::posed::posed_out;
 use scope::Counts;
 ghost use mathlib.Core.List.{[], _∷_};
 ghost use lib.ListN.{length};

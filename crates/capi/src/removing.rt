@@ -1,7 +1,7 @@
 // Remove and Sweep.
 use answers::counts::HzCounts;
-use answers::names::HzNoted;
-use answers::names::removed_out;
+use answers::noted::HzNoted;
+use answers::noted::removed_out;
 use scope::Counts;
 use scope::Solver;
 ghost use mathlib.Core.List.{[], _∷_};

@@ -1,11 +1,11 @@
 // Set mode and Observe.
 use answers::counts::HzCounts;
-use answers::names::HzModeSet;
-use answers::names::HzPosed;
-use answers::names::mode_set_out;
-use answers::names::observed_out;
-use answers::numbers::ModeNumber;
-use answers::numbers::mode_in;
+use answers::mode_set::HzModeSet;
+use answers::mode_set::mode_set_out;
+use answers::observed::observed_out;
+use answers::posed::HzPosed;
+use numbers::ModeNumber;
+use numbers::mode_in;
 use scope::Counts;
 use scope::Global;
 ghost use mathlib.Core.List.{[], _∷_};
@@ -13,7 +13,7 @@ ghost use lib.ListN.{length};
 ghost use Rattle.base.specs.Lent.{old, new, Fills};
 ghost use Rattle.scope.specs.Contract.{before, lent};
 ghost use Rattle.scope.specs.Modes.{setModeOf, observeOf};
-ghost use Rattle.answers.specs.Numbers.{forKnown, modeAt};
+ghost use Rattle.numbers.specs.Numbers.{forKnown, modeAt};
 ghost use Rattle.answers.specs.Surface.{countsOf, flag, plain, optional, Gives};
 
 // Set mode (1, 3, 6, 7, 2): `setModeOf`.

@@ -21,12 +21,11 @@ use crate::parts::given;
 use crate::parts::room;
 use crate::parts::wide;
 use answers::counts::HzCounts;
-use answers::lines::HzModelled;
-use answers::lines::HzRenamed;
-use answers::lines::HzSimplified;
-use answers::lines::HzWritten;
-use answers::names::HzFound;
-use answers::numbers::HzStep;
+use answers::found::HzFound;
+use answers::modelled::HzModelled;
+use answers::renamed::HzRenamed;
+use answers::simplified::HzSimplified;
+use answers::written::HzWritten;
 use capi::clauses::hz_simplify;
 use capi::counts::hz_is_sound;
 use capi::lines::hz_rename;
@@ -38,6 +37,7 @@ use capi::opening::hz_global_from_user;
 use capi::opening::hz_record;
 use capi::opening::hz_solver_from_global;
 use capi::opening::hz_user_from_global;
+use numbers::HzStep;
 ghost use Prim.Native.Nat.{_≤_};
 
 fn told(c: HzCounts, r: HzFound) -> Answer {

@@ -1,6 +1,6 @@
 use mathlib.Core.Path.{refl, sym, ap, _∙_}
 use Rattle.base.specs.Answer.{Answer}
-use Rattle.answers.specs.Numbers.{asFormat}
+use Rattle.numbers.specs.Numbers.{asFormat}
 use Rattle.answers.specs.Surface.{placed, partOf, measured}
 use Rattle.capi.proofs.CodecLaws.{first-is, no-first-format, first-taken, same-numbers}
 use borrow.Author.Needs.{needs}

@@ -3,7 +3,7 @@ use lib.ListN.{length}
 use Rattle.drat.specs.Filled.{Filling}
 use Rattle.answers.specs.Surface.{placed}
 use Rattle.capi.proofs.CodecLaws.{read-is, no-read-format, filled-same, same-numbers}
-use Rattle.answers.specs.Numbers.{asFormat}
+use Rattle.numbers.specs.Numbers.{asFormat}
 use borrow.Author.Needs.{needs}
 use Rattle.capi.proofs.codec.hz_read.Statement.{statement}
 use Rattle.capi.proofs.codec.hz_read.Tie as tie

@@ -3,7 +3,7 @@ use lib.ListN.{length}
 use Rattle.drat.specs.Writing.{Writing}
 use Rattle.answers.specs.Surface.{plain}
 use Rattle.capi.proofs.CodecLaws.{write-clause-is, no-clause-format, no-clause-kind, filled-same, same-numbers}
-use Rattle.answers.specs.Numbers.{asFormat, asKind}
+use Rattle.numbers.specs.Numbers.{asFormat, asKind}
 use borrow.Author.Needs.{needs}
 use Rattle.capi.proofs.codec.hz_write_clause.Statement.{statement}
 use Rattle.capi.proofs.codec.hz_write_clause.Tie as tie

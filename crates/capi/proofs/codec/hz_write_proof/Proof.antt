@@ -3,7 +3,7 @@ use lib.ListN.{length}
 use Rattle.drat.specs.Writing.{Writing}
 use Rattle.answers.specs.Surface.{plain}
 use Rattle.capi.proofs.CodecLaws.{write-proof-is, no-proof-format, filled-same, same-numbers}
-use Rattle.answers.specs.Numbers.{asFormat}
+use Rattle.numbers.specs.Numbers.{asFormat}
 use borrow.Author.Needs.{needs}
 use Rattle.capi.proofs.codec.hz_write_proof.Statement.{statement}
 use Rattle.capi.proofs.codec.hz_write_proof.Tie as tie

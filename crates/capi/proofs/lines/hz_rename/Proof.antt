@@ -2,8 +2,8 @@ use mathlib.Core.Path.{_≡_, refl, sym, ap, _∙_}
 use lib.ListN.{length}
 use Rattle.scope.specs.Table.{Table, tableOf}
 use Rattle.scope.specs.Outcome.{Outcome}
-use Rattle.answers.specs.declared.numbers.HzStep.{HzStep}
-use Rattle.answers.specs.Numbers.{known, asStep}
+use Rattle.numbers.specs.declared.HzStep.{HzStep}
+use Rattle.numbers.specs.Numbers.{known, asStep}
 use Rattle.answers.specs.Surface.{countsOf}
 use Rattle.capi.specs.Lines.{stepOf, wordsAt}
 use Rattle.answers.proofs.SurfaceLaws.{same-given, refused-given, told-given}

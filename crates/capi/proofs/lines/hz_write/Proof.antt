@@ -2,7 +2,7 @@ use mathlib.Core.Path.{refl, sym, ap, _∙_}
 use lib.ListN.{length}
 use Rattle.scope.specs.Table.{Table, tableOf}
 use Rattle.scope.specs.Outcome.{Outcome}
-use Rattle.answers.specs.Numbers.{asFormat, asStep}
+use Rattle.numbers.specs.Numbers.{asFormat, asStep}
 use Rattle.answers.specs.Surface.{countsOf}
 use Rattle.answers.proofs.SurfaceLaws.{same-given, refused-given, told-given}
 use Rattle.capi.proofs.CodecLaws.{filled-same}

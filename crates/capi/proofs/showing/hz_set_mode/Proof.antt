@@ -1,6 +1,6 @@
 use mathlib.Core.Path.{refl, sym, ap, _∙_}
-use Rattle.answers.specs.Numbers.{asMode}
-use Rattle.answers.proofs.NumberLaws.{known-is, unknown-is}
+use Rattle.numbers.specs.Numbers.{asMode}
+use Rattle.numbers.proofs.NumberLaws.{known-is, unknown-is}
 use Rattle.answers.proofs.SurfaceLaws.{same-given, refused-given, told-given}
 use borrow.Author.Needs.{needs}
 use Rattle.capi.proofs.showing.hz_set_mode.Statement.{statement}
