@@ -11,9 +11,9 @@
  * change overlaps no other list lent to it.
  * An index, a literal code (2 * index, plus 1 if negative) and a length may be any number, and a list may hold any words.
  *
- * Every answer begins with `refusal`: 0 if the call was accepted, else one of the numbers below. A refused call changes no memory, its
- * counts are those given, and its other fields are 0 unless said otherwise. After an accepted call the table is the same six lists with
- * the counts that came back. A note is three words: kind (0 U, 1 S, 2 D, 3 C), global, and last index + 1 or 0, or 1 or 0 for C.
+ * Every answer begins with `refusal`: 0 if the call was accepted, else one of the numbers below or HZ_UNKNOWN. A refused call changes no
+ * memory, its counts are those given (of hz_open: the capacity given and 0, 0, 0), and its other fields are 0 or false unless said
+ * otherwise. After an accepted call the table is the same six lists with the counts that came back. A note is three words: kind (0 U, 1 S, 2 D, 3 C), global, and last index + 1 or 0, or 1 or 0 for C.
  */
 #ifndef HINTZOBAR_H
 #define HINTZOBAR_H
@@ -124,7 +124,7 @@ typedef struct {
     uint32_t refusal;
     hz_counts counts;
     bool granted; /* whether a user was granted */
-    uint32_t user;
+    uint32_t user; /* 0 where none was */
     uint32_t notes;
 } hz_mode_set;
 
@@ -146,7 +146,7 @@ typedef struct {
 
 typedef struct {
     uint32_t refusal;
-    hz_step step; /* as given */
+    hz_step step; /* as given, with a refusal too */
     size_t lits;
     size_t hashes;
 } hz_renamed;
@@ -162,7 +162,7 @@ typedef struct {
     uint32_t users;
 } hz_modelled;
 
-/* With refusal 13, `place` is the start of the first step that is not whole. */
+/* With refusal 13, `place` is the start of the first step that is not whole; else it is 0. */
 typedef struct {
     uint32_t refusal;
     size_t place;
@@ -170,7 +170,7 @@ typedef struct {
     size_t steps;
 } hz_reading;
 
-/* The first step is the first `length` bytes. */
+/* The first step is the first `length` bytes. With refusal 13 it is not whole: `place` and `length` are 0. */
 typedef struct {
     uint32_t refusal;
     size_t place;
