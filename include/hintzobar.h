@@ -13,9 +13,9 @@
  * Stack: hz_simplify takes 64 KB beside the caller's own and hz_write 32 KB, whatever the clause, the others a few. A thread of 64 KB is too
  * small for hz_simplify; one of 128 KB is enough for any call.
  *
- * Every answer begins with `refusal`: 0 if the call was accepted, else one of the numbers below. A refused call changes no memory, its
- * counts are those given, and its other fields are 0 unless said otherwise. After an accepted call the table is the same six lists with
- * the counts that came back. A note is three words: kind (0 U, 1 S, 2 D, 3 C), global, and last index + 1 or 0, or 1 or 0 for C.
+ * Every answer begins with `refusal`: 0 if the call was accepted, else one of the numbers below or HZ_UNKNOWN. A refused call changes no
+ * memory, its counts are those given (of hz_open: the capacity given and 0, 0, 0), and its other fields are 0 or false unless said
+ * otherwise. After an accepted call the table is the same six lists with the counts that came back. A note is three words: kind (0 U, 1 S, 2 D, 3 C), global, and last index + 1 or 0, or 1 or 0 for C.
  */
 #ifndef HINTZOBAR_H
 #define HINTZOBAR_H
@@ -130,7 +130,7 @@ typedef struct {
     uint32_t refusal;
     hz_counts counts;
     bool granted; /* whether a user was granted */
-    uint32_t user;
+    uint32_t user; /* 0 where none was */
     uint32_t notes;
 } hz_mode_set;
 
@@ -152,7 +152,7 @@ typedef struct {
 
 typedef struct {
     uint32_t refusal;
-    hz_step step; /* as given */
+    hz_step step; /* as given, with a refusal too */
     size_t lits;
     size_t hashes;
 } hz_renamed;
@@ -168,7 +168,7 @@ typedef struct {
     uint32_t users;
 } hz_modelled;
 
-/* With refusal 13, `place` is the start of the first step that is not whole. */
+/* With refusal 13, `place` is the start of the first step that is not whole; else it is 0. */
 typedef struct {
     uint32_t refusal;
     size_t place;
@@ -176,7 +176,7 @@ typedef struct {
     size_t steps;
 } hz_reading;
 
-/* The first step is the first `length` bytes. */
+/* The first step is the first `length` bytes. With refusal 13 it is not whole: `place` and `length` are 0. */
 typedef struct {
     uint32_t refusal;
     size_t place;

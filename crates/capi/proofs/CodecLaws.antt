@@ -1,25 +1,28 @@
 -- The writer and the reader with a format and a kind by number.
 use Prim.Native.Nat.{ℕ, zero, suc}
 use mathlib.Core.Path.{_≡_, refl, sym, ap, _∙_}
-use mathlib.Core.Logic.{_≢_}
 use mathlib.Core.List.{List, [], _∷_}
-use native.Mathlib.Omega.{arith}
-use lib.ListN.{length, take}
+use lib.ListN.{length, take, getD}
 use lib.Seq.{sets}
-use Rattle.base.specs.Answer.{accepted, refused}
+use Rattle.base.specs.Answer.{Answer, refused}
 use Rattle.drat.specs.declared.Format.{Format}
 use Rattle.drat.specs.declared.Kind.{Kind}
 use Rattle.drat.specs.Writing.{writeOf}
 use Rattle.drat.specs.Listed.{writeAllOf}
 use Rattle.drat.specs.Filled.{refusing, readOf, firstOf, firstBy, first}
 use Rattle.drat.specs.Reading.{One, got, fault, oneStep}
-use Rattle.capi.specs.Numbers.{known, unknown, formatAt, kindAt}
+use Rattle.numbers.specs.Numbers.{known, unknown, formatAt, kindAt}
+use Rattle.answers.specs.Surface.{placed, partOf, measured}
 use Rattle.capi.specs.Codec.{noWriting, writeClauseAt, writeProofAt, readAt, firstAt}
-use Rattle.capi.proofs.NumberLaws.{known-is, unknown-is}
+use Rattle.numbers.proofs.NumberLaws.{known-is, unknown-is}
 
 -- what is filled, by another name
 pub filled-same : (before : List ℕ) (at : ℕ) {xs ys after : List ℕ} → ys ≡ xs → after ≡ sets before at xs → after ≡ sets before at ys
 filled-same before at e h = h ∙ ap (sets before at) (sym e)
+
+-- the same answer in numbers
+pub same-numbers : (layout : Answer → List ℕ) {a a' : Answer} {ns : List ℕ} → a' ≡ a → ns ≡ layout a → ns ≡ layout a'
+same-numbers layout e h = h ∙ sym (ap layout e)
 
 -- ---- the writer of one clause
 
@@ -69,24 +72,26 @@ module _ (format : ℕ) (s : List ℕ) where
   unfolding firstAt
   no-first-format e = unknown-is _ _ e
 
--- an empty part says 13 at 0
-pub first-empty : (l : List ℕ) → length l ≡ 0 → first l ≡ refused 13 (0 ∷ [])
-first-empty [] h = refl
-first-empty (x ∷ l) h = absurd (let z : _≡_ {A = ℕ} 0 1 = cc in omega arith)
-
 take-again : (j : ℕ) (s : List ℕ) → take (length (take j s)) s ≡ take j s
 take-again zero s = refl
 take-again (suc j) [] = refl
 take-again (suc j) (x ∷ s) = ap (λ (l : List ℕ). x ∷ l) (take-again j s)
 
-taken : (l s : List ℕ) (x : One) → length l ≢ 0 → first l ≡ firstBy s x → firstBy s x ≡ accepted (take (length l) s)
+taken : (l s : List ℕ) (x : One) → l ≡ partOf (firstBy s x) → take (length l) s ≡ partOf (firstBy s x)
 unfolding firstBy
-taken [] s x n h = absurd (n refl)
-taken (b ∷ l) s (got p j) n h =
-    let e : b ∷ l ≡ take j s = cc in
-    ap accepted (sym (ap (λ (k : List ℕ). take (length k) s) e ∙ take-again j s))
-taken (b ∷ l) s fault n h = absurd (let z : _≡_ {A = ℕ} 0 1 = cc in omega arith)
+taken l s (got p j) e = ap (λ (k : List ℕ). take (length k) s) e ∙ take-again j s
+taken l s fault e = ap (λ (k : List ℕ). take (length k) s) e
 
--- any other part is the first so many bytes
-pub first-taken : (f : Format) (l s : List ℕ) → length l ≢ 0 → first l ≡ firstOf f s → firstOf f s ≡ accepted (take (length l) s)
-first-taken f l s n h = taken l s (oneStep f 0 s) n h
+part-is : (l : List ℕ) → l ≡ partOf (first l)
+part-is [] = refl
+part-is (b ∷ l) = refl
+
+part-length : (l : List ℕ) → getD (placed 1 (measured (first l))) 2 0 ≡ length l
+part-length [] = refl
+part-length (b ∷ l) = refl
+
+-- the part answered is the first so many bytes
+pub first-taken : (f : Format) (l s : List ℕ) {k p n : ℕ} → first l ≡ firstOf f s → k ∷ p ∷ n ∷ [] ≡ placed 1 (measured (first l)) → take n s ≡ partOf (firstOf f s)
+first-taken f l s h g =
+    let e = ap (λ (ns : List ℕ). getD ns 2 0) g ∙ part-length l in
+    ap (λ (n : ℕ). take n s) e ∙ taken l s (oneStep f 0 s) (part-is l ∙ ap partOf h)

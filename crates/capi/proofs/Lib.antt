@@ -1,4 +1,2 @@
 pub mod CodecLaws
 pub mod LineLaws
-pub mod NumberLaws
-pub mod SurfaceLaws

@@ -2,9 +2,8 @@
 use Prim.Native.Nat.{ℕ, zero, suc}
 use mathlib.Core.Path.{_≡_, refl, ap, sym, _∙_}
 use mathlib.Core.Bool.{Bool}
-use mathlib.Core.List.{List, [], _∷_}
-use native.Mathlib.Omega.{arith}
-use Rattle.base.specs.Answer.{Answer, accepted, refused}
+use mathlib.Core.List.{List, [], _∷_, _++_}
+use Rattle.base.specs.Answer.{accepted}
 use Rattle.drat.specs.declared.Format.{Format}
 use Rattle.scope.specs.declared.ProofStep.{ProofStep}
 use Rattle.scope.specs.Table.{Table}
@@ -12,10 +11,11 @@ use Rattle.scope.specs.Steps.{stepWords}
 use Rattle.scope.specs.Outcome.{Outcome, refusal, unless}
 use Rattle.scope.specs.Write.{renameOf, writeOf}
 use Rattle.scope.specs.Simplify.{simplifyOf}
-use Rattle.capi.specs.declared.numbers.HzStep.{HzStep}
-use Rattle.capi.specs.Numbers.{known, unknown, formatAt}
+use Rattle.numbers.specs.declared.HzStep.{HzStep}
+use Rattle.numbers.specs.Numbers.{known, unknown, formatAt}
+use Rattle.answers.specs.Surface.{stepped, stepless, Given}
 use Rattle.capi.specs.Lines.{stepOf, renameAt, writeAt, simplifyAt}
-use Rattle.capi.proofs.NumberLaws.{known-is, unknown-is}
+use Rattle.numbers.proofs.NumberLaws.{known-is, unknown-is}
 
 module _ (format : ℕ) (step : HzStep) (t : Table) (solverVars : Bool) (lits hashes : List ℕ) (room : ℕ) where
   pub write-is : {f : Format} {s : ProofStep} → formatAt format ≡ known f → stepOf step ≡ known s → writeAt format step t solverVars lits hashes room ≡ writeOf f t s solverVars lits hashes room
@@ -48,13 +48,18 @@ module _ (format : ℕ) (t : Table) (lits : List ℕ) (redundant : Bool) (outs r
   unfolding simplifyAt
   no-simplify-format e = unknown-is _ _ e
 
--- an accepted answer's values, past the first two
-unless-values : (k : ℕ) (t : Table) (o : Outcome) {a b a' b' : ℕ} {ws ws' : List ℕ} → o .answer ≡ accepted (a ∷ b ∷ ws) → unless k t o .answer ≡ accepted (a' ∷ b' ∷ ws') → ws' ≡ ws
+-- with the step's words after the two values
+stepped-numbers : (k : ℕ) (t : Table) (o : Outcome) {p n m a b : ℕ} {ws : List ℕ} → o .answer ≡ accepted (a ∷ b ∷ ws) → p ∷ n ∷ m ∷ [] ≡ stepless (unless k t o .answer) → p ∷ n ∷ m ∷ ws ≡ stepped ws (unless k t o .answer)
 unfolding unless
-unless-values zero t o e h = cc
-unless-values (suc k) t o e h = absurd (let z : _≡_ {A = ℕ} 0 1 = cc in omega arith)
+stepped-numbers zero t o {ws = ws} e h = ap (λ (l : List ℕ). l ++ ws) (h ∙ ap stepless e) ∙ sym (ap (stepped ws) e)
+stepped-numbers (suc k) t o {ws = ws} e h = ap (λ (l : List ℕ). l ++ ws) h
 
--- Rename answers the step as given.
-pub step-kept : (t : Table) (s : ProofStep) (solverVars : Bool) (lits hashes : List ℕ) (outs hashOuts : ℕ) {n m : ℕ} {ws : List ℕ} → accepted (n ∷ m ∷ ws) ≡ renameOf t s solverVars lits hashes outs hashOuts .answer → ws ≡ stepWords s
+-- Rename gives the step back as it was given.
+pub stepped-given : (t : Table) (s : ProofStep) (solverVars : Bool) (lits hashes : List ℕ) (outs hashOuts : ℕ) {k n m : ℕ} {us vs : List ℕ} {left : Table} {words words' : List ℕ} → stepWords s ≡ us → stepWords s ≡ vs → Given (renameOf t s solverVars lits hashes outs hashOuts) stepless (k ∷ n ∷ m ∷ []) left words words' → Given (renameOf t s solverVars lits hashes outs hashOuts) (stepped vs) (k ∷ n ∷ m ∷ us) left words words'
 unfolding renameOf
-step-kept t s solverVars lits hashes outs hashOuts h = unless-values _ _ _ refl (sym h)
+stepped-given t s solverVars lits hashes outs hashOuts {k = k} {n = n} {m = m} e g h =
+    record {
+      numbers = ap (λ (us : List ℕ). k ∷ n ∷ m ∷ us) (sym e) ∙ stepped-numbers _ _ _ refl (h .numbers) ∙ ap (λ (vs : List ℕ). stepped vs (renameOf t s solverVars lits hashes outs hashOuts .answer)) g;
+      table = h .table;
+      noted = h .noted;
+    }

@@ -1,24 +1,11 @@
 -- The calls of the writer and the reader that take no table, with a format and a kind by number.
 use Prim.Native.Nat.{ℕ}
-use mathlib.Core.Path.{_≡_}
-use mathlib.Core.List.{List, [], _∷_}
-use lib.Dec.{eqb}
-use Rattle.base.specs.Choice.{pick}
-use Rattle.base.specs.Answer.{Answer, accepted, refused, numberOf}
+use mathlib.Core.List.{List, []}
+use Rattle.base.specs.Answer.{Answer, refused}
 use Rattle.drat.specs.Writing.{Writing, writeOf}
 use Rattle.drat.specs.Listed.{writeAllOf}
 use Rattle.drat.specs.Filled.{Filling, refusing, readOf, firstOf}
-use Rattle.capi.specs.Numbers.{whenKnown, formatAt, kindAt}
-
--- An answer told in numbers: the refusal k, 0 for none; its values vs if it is accepted, ps if it is refused.
-pub record Answered (a : Answer) (k : ℕ) (vs ps : List ℕ) : Type 0 where
-  pub refusal : k ≡ numberOf a
-  pub values : (us : List ℕ) → a ≡ accepted us → us ≡ vs
-  pub place : (n : ℕ) (us : List ℕ) → a ≡ refused n us → us ≡ ps
-
--- the place that goes with refusal 13
-abbrev pub placeAt : ℕ → ℕ → List ℕ
-placeAt k p = pick (eqb k 13) (p ∷ []) []
+use Rattle.numbers.specs.Numbers.{whenKnown, formatAt, kindAt}
 
 abbrev pub noWriting : Writing
 noWriting = record { answer = refused 4294967295 []; bytes = [] }

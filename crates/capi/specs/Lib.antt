@@ -1,4 +1,2 @@
-pub mod Numbers
-pub mod Surface
 pub mod Codec
 pub mod Lines

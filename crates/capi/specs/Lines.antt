@@ -8,8 +8,8 @@ use Rattle.scope.specs.Steps.{stepWords}
 use Rattle.scope.specs.Outcome.{Outcome}
 use Rattle.scope.specs.Write.{renameOf, writeOf}
 use Rattle.scope.specs.Simplify.{simplifyOf}
-use Rattle.capi.specs.declared.numbers.HzStep.{HzStep}
-use Rattle.capi.specs.Numbers.{Number, known, unknown, forKnown, formatAt, stepAt}
+use Rattle.numbers.specs.declared.HzStep.{HzStep}
+use Rattle.numbers.specs.Numbers.{Number, known, unknown, forKnown, formatAt, stepAt}
 
 abbrev pub stepOf : HzStep → Number ProofStep
 stepOf step = stepAt (step .kind) (step .a) (step .b)

@@ -1,62 +1,17 @@
 // Simplify.
-use crate::counts::HzCounts;
-use crate::numbers::FormatNumber;
-use crate::numbers::format_in;
+use answers::counts::HzCounts;
+use answers::simplified::HzSimplified;
+use answers::simplified::reduced_out;
+use numbers::FormatNumber;
+use numbers::format_in;
 use scope::Counts;
-use scope::Simplified;
-use simplify::Reduced;
 ghost use mathlib.Core.Path.{_≡_};
 ghost use mathlib.Core.List.{[], _∷_};
 ghost use lib.ListN.{length};
-ghost use Rattle.base.specs.Choice.{pick};
 ghost use Rattle.base.specs.Lent.{old, new, Fills};
 ghost use Rattle.scope.specs.Contract.{before, quiet};
-ghost use Rattle.scope.specs.Simplify.{simplifiedNumber};
-ghost use Rattle.simplify.specs.Answers.{reduced};
-ghost use Rattle.capi.specs.Surface.{countsOf, Told, Gives};
+ghost use Rattle.answers.specs.Surface.{countsOf, flag, plain, Gives};
 ghost use Rattle.capi.specs.Lines.{simplifyAt};
-
-// What was made of the clause, how many literals were filled, the add step's flag, and how many bytes were filled.
-#[repr(C)]
-pub struct HzSimplified {
-    pub refusal: u32,
-    pub made: u32,
-    pub lits: usize,
-    pub redundant: bool,
-    pub bytes: usize,
-}
-
-fn made_out(what: Simplified) -> u32
-    ensures { λ r. ⌜ r ≡ simplifiedNumber what ⌝ }
-{
-    match what {
-        Simplified::Kept => 0,
-        Simplified::Dropped => 1,
-        Simplified::Shortened => 2,
-        Simplified::Binary => 3,
-    }
-}
-
-fn reduced_out(r: Reduced, c: Counts) -> HzSimplified
-    ensures { λ o. ⌜ Told (reduced r c) (o .refusal) (o .made ∷ o .lits ∷ pick (o .redundant) 1 0 ∷ o .bytes ∷ []) c ⌝ }
-{
-    match r {
-        Reduced::Done(what, k, flag, m) => HzSimplified {
-            refusal: 0,
-            made: made_out(what),
-            lits: k,
-            redundant: flag,
-            bytes: m,
-        },
-        Reduced::Refused(n) => HzSimplified {
-            refusal: n,
-            made: 0,
-            lits: 0,
-            redundant: false,
-            bytes: 0,
-        },
-    }
-}
 
 // Simplify (1, 3, 8, 12, 2): `simplifyOf`.
 #[no_mangle]
@@ -75,7 +30,7 @@ pub extern "C" fn hz_simplify(
     bytes: &mut [u8],
 ) -> HzSimplified
     ensures { λ r. ⌜ Gives (λ t room. simplifyAt format t (old lits) redundant (length (old out)) (length (old bytes)))
-        (r .refusal) (r .made ∷ r .lits ∷ pick (r .redundant) 1 0 ∷ r .bytes ∷ []) (countsOf c)
+        (plain 4) (r .refusal ∷ r .made ∷ r .lits ∷ flag (r .redundant) ∷ r .bytes ∷ []) (countsOf c)
         (quiet (countsOf c) gu ug sg gs assignment records) ⌝ }
     ensures out { λ _. ⌜ Fills out 0
         (simplifyAt format (before (countsOf c) gu ug sg gs assignment records) (old lits) redundant (length (old out)) (length (old bytes)) .words) ⌝ }

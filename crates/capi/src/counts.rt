@@ -1,28 +1,10 @@
-// The capacity and the watermarks, in and out.
+// Soundness.
+use answers::counts::HzCounts;
 use scope::Counts;
 ghost use mathlib.Core.Path.{_≡_};
 ghost use Rattle.scope.specs.Contract.{before};
 ghost use Rattle.scope.specs.Sound.{soundb};
-ghost use Rattle.capi.specs.Surface.{countsOf};
-
-#[repr(C)]
-pub struct HzCounts {
-    pub capacity: u32,
-    pub user: u32,
-    pub global: u32,
-    pub solver: u32,
-}
-
-pub fn counts_out(c: Counts) -> HzCounts
-    ensures { λ r. ⌜ countsOf r ≡ c ⌝ }
-{
-    HzCounts {
-        capacity: c.capacity,
-        user: c.user,
-        global: c.global,
-        solver: c.solver,
-    }
-}
+ghost use Rattle.answers.specs.Surface.{countsOf};
 
 // Whether the table is sound: `soundb`.
 #[no_mangle]

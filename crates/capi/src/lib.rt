@@ -7,7 +7,6 @@ pub mod lines;
 pub mod marking;
 pub mod models;
 pub mod names;
-pub mod numbers;
 pub mod opening;
 pub mod poses;
 pub mod removing;

@@ -1,45 +1,22 @@
 // Rename and Write.
-use crate::codec::HzWritten;
-use crate::counts::HzCounts;
-use crate::numbers::FormatNumber;
-use crate::numbers::HzStep;
-use crate::numbers::StepNumber;
-use crate::numbers::format_in;
-use crate::numbers::step_in;
+use answers::counts::HzCounts;
+use answers::renamed::HzRenamed;
+use answers::renamed::renamed_out;
+use answers::written::HzWritten;
+use answers::written::recorded_out;
+use numbers::FormatNumber;
+use numbers::HzStep;
+use numbers::StepNumber;
+use numbers::format_in;
+use numbers::step_in;
 use scope::Counts;
-use steps::rename::Renamed;
-use steps::write::Recorded;
+ghost use mathlib.Core.Path.{_≡_};
 ghost use mathlib.Core.List.{[], _∷_};
 ghost use lib.ListN.{length};
 ghost use Rattle.base.specs.Lent.{old, new, Fills};
 ghost use Rattle.scope.specs.Contract.{before, quiet};
-ghost use Rattle.steps.specs.Answers.{recorded};
-ghost use Rattle.capi.specs.Surface.{countsOf, Told, Gives};
+ghost use Rattle.answers.specs.Surface.{countsOf, plain, stepped, Gives};
 ghost use Rattle.capi.specs.Lines.{stepOf, wordsAt, renameAt, writeAt};
-
-// The step as given, and how many literals and hashes were filled.
-#[repr(C)]
-pub struct HzRenamed {
-    pub refusal: u32,
-    pub step: HzStep,
-    pub lits: usize,
-    pub hashes: usize,
-}
-
-fn recorded_out(r: Recorded, c: Counts) -> HzWritten
-    ensures { λ o. ⌜ Told (recorded r c) (o .refusal) (o .bytes ∷ []) c ⌝ }
-{
-    match r {
-        Recorded::Done(k) => HzWritten {
-            refusal: 0,
-            bytes: k,
-        },
-        Recorded::Refused(n) => HzWritten {
-            refusal: n,
-            bytes: 0,
-        },
-    }
-}
 
 // Rename (1, 14, 3, 8, 2): `renameOf`.
 #[no_mangle]
@@ -59,7 +36,8 @@ pub extern "C" fn hz_rename(
     hashout: &mut [u64],
 ) -> HzRenamed
     ensures { λ r. ⌜ Gives (λ t room. renameAt step t solvervars (old lits) (old hashes) (length (old out)) (length (old hashout)))
-        (r .refusal) (r .lits ∷ r .hashes ∷ wordsAt (stepOf (r .step))) (countsOf c) (quiet (countsOf c) gu ug sg gs assignment records) ⌝ }
+        (stepped (wordsAt (stepOf step))) (r .refusal ∷ r .lits ∷ r .hashes ∷ wordsAt (stepOf (r .step))) (countsOf c)
+        (quiet (countsOf c) gu ug sg gs assignment records) ⌝ ∗ ⌜ r .step ≡ step ⌝ }
     ensures out { λ _. ⌜ Fills out 0
         (renameAt step (before (countsOf c) gu ug sg gs assignment records) solvervars (old lits) (old hashes) (length (old out)) (length (old hashout)) .words) ⌝ }
     ensures hashout { λ _. ⌜ Fills hashout 0
@@ -79,7 +57,7 @@ pub extern "C" fn hz_rename(
         global: c.global,
         solver: c.solver,
     };
-    match steps::rename::rename_step(
+    let r = steps::rename::rename_step(
         d,
         gu,
         ug,
@@ -93,20 +71,8 @@ pub extern "C" fn hz_rename(
         hashes,
         out,
         hashout,
-    ) {
-        Renamed::Done(n, m, _) => HzRenamed {
-            refusal: 0,
-            step: step,
-            lits: n,
-            hashes: m,
-        },
-        Renamed::Refused(n) => HzRenamed {
-            refusal: n,
-            step: step,
-            lits: 0,
-            hashes: 0,
-        },
-    }
+    );
+    renamed_out(r, step, d)
 }
 
 // Write (1, 14, 3, 8, 11, 2): `writeOf`.
@@ -127,7 +93,7 @@ pub extern "C" fn hz_write(
     out: &mut [u8],
 ) -> HzWritten
     ensures { λ r. ⌜ Gives (λ t room. writeAt format step t solvervars (old lits) (old hashes) (length (old out)))
-        (r .refusal) (r .bytes ∷ []) (countsOf c) (quiet (countsOf c) gu ug sg gs assignment records) ⌝ }
+        (plain 1) (r .refusal ∷ r .bytes ∷ []) (countsOf c) (quiet (countsOf c) gu ug sg gs assignment records) ⌝ }
     ensures out { λ _. ⌜ Fills out 0
         (writeAt format step (before (countsOf c) gu ug sg gs assignment records) solvervars (old lits) (old hashes) (length (old out)) .bytes) ⌝ }
 {

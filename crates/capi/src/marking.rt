@@ -1,33 +1,16 @@
 // Marks and Assign.
-use crate::counts::HzCounts;
-use crate::counts::counts_out;
-use crate::numbers::MarkNumber;
-use crate::numbers::mark_in;
-use crate::opening::HzChanged;
-use marks::Changed;
+use answers::changed::HzChanged;
+use answers::changed::changed_out;
+use answers::counts::HzCounts;
+use numbers::MarkNumber;
+use numbers::mark_in;
 use scope::Counts;
 use scope::Solver;
-ghost use mathlib.Core.List.{[]};
+ghost use mathlib.Core.List.{[], _∷_};
 ghost use Rattle.scope.specs.Contract.{quiet};
 ghost use Rattle.scope.specs.Marks.{markOf, assignOf};
-ghost use Rattle.marks.specs.Answers.{changed};
-ghost use Rattle.capi.specs.Numbers.{forKnown, markAt};
-ghost use Rattle.capi.specs.Surface.{countsOf, Told, Gives};
-
-fn changed_out(r: Changed, c: Counts) -> HzChanged
-    ensures { λ o. ⌜ Told (changed r c) (o .refusal) ([]) (countsOf (o .counts)) ⌝ }
-{
-    match r {
-        Changed::Done => HzChanged {
-            refusal: 0,
-            counts: counts_out(c),
-        },
-        Changed::Refused(n) => HzChanged {
-            refusal: n,
-            counts: counts_out(c),
-        },
-    }
-}
+ghost use Rattle.numbers.specs.Numbers.{forKnown, markAt};
+ghost use Rattle.answers.specs.Surface.{countsOf, plain, Gives};
 
 // Marks (1, 8): `markOf`.
 #[no_mangle]
@@ -42,7 +25,7 @@ pub extern "C" fn hz_mark(
     mark: u32,
     solver: u32,
 ) -> HzChanged
-    ensures { λ r. ⌜ Gives (λ t room. forKnown (markAt mark) t (λ m. markOf t m solver)) (r .refusal) [] (countsOf (r .counts))
+    ensures { λ r. ⌜ Gives (λ t room. forKnown (markAt mark) t (λ m. markOf t m solver)) (plain 0) (r .refusal ∷ []) (countsOf (r .counts))
         (quiet (countsOf c) gu ug sg gs assignment records) ⌝ }
 {
     let MarkNumber::Known(m) = mark_in(mark) else {
@@ -73,7 +56,7 @@ pub extern "C" fn hz_assign(
     records: &[u32],
     lit: u32,
 ) -> HzChanged
-    ensures { λ r. ⌜ Gives (λ t room. assignOf t lit) (r .refusal) ([]) (countsOf (r .counts))
+    ensures { λ r. ⌜ Gives (λ t room. assignOf t lit) (plain 0) (r .refusal ∷ []) (countsOf (r .counts))
         (quiet (countsOf c) gu ug sg gs assignment records) ⌝ }
 {
     let d = Counts {

@@ -1,6 +1,7 @@
 // Model.
-use crate::counts::HzCounts;
-use model::Modelled;
+use answers::counts::HzCounts;
+use answers::modelled::HzModelled;
+use answers::modelled::modelled_out;
 use scope::Counts;
 ghost use mathlib.Core.Path.{_≡_};
 ghost use mathlib.Core.List.{[], _∷_};
@@ -8,33 +9,7 @@ ghost use lib.ListN.{length};
 ghost use Rattle.base.specs.Lent.{old, new, Fills};
 ghost use Rattle.scope.specs.Contract.{before, quiet};
 ghost use Rattle.scope.specs.Models.{modelOf};
-ghost use Rattle.model.specs.Answers.{modelled};
-ghost use Rattle.capi.specs.Surface.{countsOf, Told, Gives};
-
-// How many global words and how many user literals were filled.
-#[repr(C)]
-pub struct HzModelled {
-    pub refusal: u32,
-    pub globals: u32,
-    pub users: u32,
-}
-
-fn modelled_out(r: Modelled, c: Counts) -> HzModelled
-    ensures { λ o. ⌜ Told (modelled r c) (o .refusal) (o .globals ∷ o .users ∷ []) c ⌝ }
-{
-    match r {
-        Modelled::Done(globals, users) => HzModelled {
-            refusal: 0,
-            globals: globals,
-            users: users,
-        },
-        Modelled::Refused(n) => HzModelled {
-            refusal: n,
-            globals: 0,
-            users: 0,
-        },
-    }
-}
+ghost use Rattle.answers.specs.Surface.{countsOf, plain, Gives};
 
 // Model (1, 2): `modelOf`.
 #[no_mangle]
@@ -50,7 +25,7 @@ pub extern "C" fn hz_model(
     users: &mut [u32],
 ) -> HzModelled
     ensures { λ r. ⌜ Gives (λ t room. modelOf t (length (old globals)) (length (old users)))
-        (r .refusal) (r .globals ∷ r .users ∷ []) (countsOf c) (quiet (countsOf c) gu ug sg gs assignment records) ⌝ }
+        (plain 2) (r .refusal ∷ r .globals ∷ r .users ∷ []) (countsOf c) (quiet (countsOf c) gu ug sg gs assignment records) ⌝ }
     ensures globals { λ _. ⌜ Fills globals 0
         (modelOf (before (countsOf c) gu ug sg gs assignment records) (length (old globals)) (length (old users)) .words) ⌝ }
     ensures users { λ _. ⌜ Fills users 0

@@ -1,139 +1,21 @@
 // Open, and Lookup.
-use crate::counts::HzCounts;
-use crate::counts::counts_out;
+use answers::changed::HzChanged;
+use answers::counts::HzCounts;
+use answers::found::HzFound;
+use answers::found::global_out;
+use answers::found::solver_out;
+use answers::found::user_out;
+use answers::found::word_out;
+use answers::opened::opened_out;
 use scope::Counts;
 use scope::Global;
 use scope::Solver;
 use scope::User;
-use var_map::GotGlobal;
-use var_map::GotSolver;
-use var_map::GotUser;
-use var_map::GotWord;
-use var_map::Opened;
-ghost use mathlib.Core.List.{[]};
+ghost use mathlib.Core.List.{[], _∷_};
 ghost use Rattle.scope.specs.Contract.{quiet};
 ghost use Rattle.scope.specs.Open.{openCounts, openOf};
 ghost use Rattle.scope.specs.Lookup.{globalFromUserOf, userFromGlobalOf, solverFromGlobalOf, globalFromSolverOf, recordWordOf, assignmentWordOf};
-ghost use Rattle.var_map.specs.Answers.{opened, gotUser, gotGlobal, gotSolver, gotWord};
-ghost use Rattle.capi.specs.Surface.{countsOf, perhaps, Told, Gives};
-
-// The answer of a call that only changes the table.
-#[repr(C)]
-pub struct HzChanged {
-    pub refusal: u32,
-    pub counts: HzCounts,
-}
-
-// The answer of a lookup: whether there is something, and what.
-#[repr(C)]
-pub struct HzFound {
-    pub refusal: u32,
-    pub found: bool,
-    pub value: u32,
-}
-
-fn opened_out(r: Opened, c: Counts) -> HzChanged
-    ensures { λ o. ⌜ Told (opened r c) (o .refusal) ([]) (countsOf (o .counts)) ⌝ }
-{
-    match r {
-        Opened::Done(d) => HzChanged {
-            refusal: 0,
-            counts: counts_out(d),
-        },
-        Opened::Refused(n) => HzChanged {
-            refusal: n,
-            counts: counts_out(c),
-        },
-    }
-}
-
-fn user_out(r: GotUser, c: Counts) -> HzFound
-    ensures { λ o. ⌜ Told (gotUser r c) (o .refusal) (perhaps (o .found) (o .value)) (c) ⌝ }
-{
-    match r {
-        GotUser::At(u) => HzFound {
-            refusal: 0,
-            found: true,
-            value: u.0,
-        },
-        GotUser::Nothing => HzFound {
-            refusal: 0,
-            found: false,
-            value: 0,
-        },
-        GotUser::Refused(n) => HzFound {
-            refusal: n,
-            found: false,
-            value: 0,
-        },
-    }
-}
-
-fn global_out(r: GotGlobal, c: Counts) -> HzFound
-    ensures { λ o. ⌜ Told (gotGlobal r c) (o .refusal) (perhaps (o .found) (o .value)) (c) ⌝ }
-{
-    match r {
-        GotGlobal::At(g) => HzFound {
-            refusal: 0,
-            found: true,
-            value: g.0,
-        },
-        GotGlobal::Nothing => HzFound {
-            refusal: 0,
-            found: false,
-            value: 0,
-        },
-        GotGlobal::Refused(n) => HzFound {
-            refusal: n,
-            found: false,
-            value: 0,
-        },
-    }
-}
-
-fn solver_out(r: GotSolver, c: Counts) -> HzFound
-    ensures { λ o. ⌜ Told (gotSolver r c) (o .refusal) (perhaps (o .found) (o .value)) (c) ⌝ }
-{
-    match r {
-        GotSolver::At(s) => HzFound {
-            refusal: 0,
-            found: true,
-            value: s.0,
-        },
-        GotSolver::Nothing => HzFound {
-            refusal: 0,
-            found: false,
-            value: 0,
-        },
-        GotSolver::Refused(n) => HzFound {
-            refusal: n,
-            found: false,
-            value: 0,
-        },
-    }
-}
-
-fn word_out(r: GotWord, c: Counts) -> HzFound
-    ensures { λ o. ⌜ Told (gotWord r c) (o .refusal) (perhaps (o .found) (o .value)) (c) ⌝ }
-{
-    match r {
-        GotWord::Word(w) => HzFound {
-            refusal: 0,
-            found: true,
-            value: w,
-        },
-        GotWord::Nothing => HzFound {
-            refusal: 0,
-            found: false,
-            value: 0,
-        },
-        GotWord::Refused(n) => HzFound {
-            refusal: n,
-            found: false,
-            value: 0,
-        },
-    }
-}
+ghost use Rattle.answers.specs.Surface.{countsOf, flag, plain, optional, Gives};
 
 // Open (10): `openOf`.
 #[no_mangle]
@@ -146,7 +28,7 @@ pub extern "C" fn hz_open(
     assignment: &mut [u32],
     records: &mut [u32],
 ) -> HzChanged
-    ensures { λ r. ⌜ Gives (λ t room. openOf t) (r .refusal) [] (countsOf (r .counts))
+    ensures { λ r. ⌜ Gives (λ t room. openOf t) (plain 0) (r .refusal ∷ []) (countsOf (r .counts))
         (quiet (openCounts capacity) gu ug sg gs assignment records) ⌝ }
 {
     let c = Counts {
@@ -171,7 +53,7 @@ pub extern "C" fn hz_global_from_user(
     records: &[u32],
     user: u32,
 ) -> HzFound
-    ensures { λ r. ⌜ Gives (λ t room. globalFromUserOf t user) (r .refusal) (perhaps (r .found) (r .value)) (countsOf c)
+    ensures { λ r. ⌜ Gives (λ t room. globalFromUserOf t user) (optional 0) (r .refusal ∷ flag (r .found) ∷ r .value ∷ []) (countsOf c)
         (quiet (countsOf c) gu ug sg gs assignment records) ⌝ }
 {
     let d = Counts {
@@ -195,7 +77,7 @@ pub extern "C" fn hz_user_from_global(
     records: &[u32],
     global: u32,
 ) -> HzFound
-    ensures { λ r. ⌜ Gives (λ t room. userFromGlobalOf t global) (r .refusal) (perhaps (r .found) (r .value)) (countsOf c)
+    ensures { λ r. ⌜ Gives (λ t room. userFromGlobalOf t global) (optional 0) (r .refusal ∷ flag (r .found) ∷ r .value ∷ []) (countsOf c)
         (quiet (countsOf c) gu ug sg gs assignment records) ⌝ }
 {
     let d = Counts {
@@ -219,7 +101,7 @@ pub extern "C" fn hz_solver_from_global(
     records: &[u32],
     global: u32,
 ) -> HzFound
-    ensures { λ r. ⌜ Gives (λ t room. solverFromGlobalOf t global) (r .refusal) (perhaps (r .found) (r .value)) (countsOf c)
+    ensures { λ r. ⌜ Gives (λ t room. solverFromGlobalOf t global) (optional 0) (r .refusal ∷ flag (r .found) ∷ r .value ∷ []) (countsOf c)
         (quiet (countsOf c) gu ug sg gs assignment records) ⌝ }
 {
     let d = Counts {
@@ -243,7 +125,7 @@ pub extern "C" fn hz_global_from_solver(
     records: &[u32],
     solver: u32,
 ) -> HzFound
-    ensures { λ r. ⌜ Gives (λ t room. globalFromSolverOf t solver) (r .refusal) (perhaps (r .found) (r .value)) (countsOf c)
+    ensures { λ r. ⌜ Gives (λ t room. globalFromSolverOf t solver) (optional 0) (r .refusal ∷ flag (r .found) ∷ r .value ∷ []) (countsOf c)
         (quiet (countsOf c) gu ug sg gs assignment records) ⌝ }
 {
     let d = Counts {
@@ -267,7 +149,7 @@ pub extern "C" fn hz_record(
     records: &[u32],
     global: u32,
 ) -> HzFound
-    ensures { λ r. ⌜ Gives (λ t room. recordWordOf t global) (r .refusal) (perhaps (r .found) (r .value)) (countsOf c)
+    ensures { λ r. ⌜ Gives (λ t room. recordWordOf t global) (optional 0) (r .refusal ∷ flag (r .found) ∷ r .value ∷ []) (countsOf c)
         (quiet (countsOf c) gu ug sg gs assignment records) ⌝ }
 {
     let d = Counts {
@@ -291,7 +173,7 @@ pub extern "C" fn hz_assignment(
     records: &[u32],
     solver: u32,
 ) -> HzFound
-    ensures { λ r. ⌜ Gives (λ t room. assignmentWordOf t solver) (r .refusal) (perhaps (r .found) (r .value)) (countsOf c)
+    ensures { λ r. ⌜ Gives (λ t room. assignmentWordOf t solver) (optional 0) (r .refusal ∷ flag (r .found) ∷ r .value ∷ []) (countsOf c)
         (quiet (countsOf c) gu ug sg gs assignment records) ⌝ }
 {
     let d = Counts {

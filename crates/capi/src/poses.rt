@@ -1,35 +1,14 @@
 // Pose.
-use crate::counts::HzCounts;
-use crate::counts::counts_out;
-use crate::showing::HzPosed;
-use posing::PosedLits;
+use answers::counts::HzCounts;
+use answers::posed::HzPosed;
+use answers::posed::posed_out;
 use scope::Counts;
 ghost use mathlib.Core.List.{[], _∷_};
 ghost use lib.ListN.{length};
 ghost use Rattle.base.specs.Lent.{old, new, Fills};
 ghost use Rattle.scope.specs.Contract.{before, lent};
 ghost use Rattle.scope.specs.Pose.{poseOf};
-ghost use Rattle.posing.specs.Poses.{posed};
-ghost use Rattle.capi.specs.Surface.{countsOf, Told, Gives};
-
-fn posed_out(r: PosedLits, c: Counts) -> HzPosed
-    ensures { λ o. ⌜ Told (posed r c) (o .refusal) (o .filled ∷ o .notes ∷ []) (countsOf (o .counts)) ⌝ }
-{
-    match r {
-        PosedLits::Done(k, d, m) => HzPosed {
-            refusal: 0,
-            counts: counts_out(d),
-            filled: k,
-            notes: m,
-        },
-        PosedLits::Refused(n) => HzPosed {
-            refusal: n,
-            counts: counts_out(c),
-            filled: 0,
-            notes: 0,
-        },
-    }
-}
+ghost use Rattle.answers.specs.Surface.{countsOf, plain, Gives};
 
 // Pose (1, 3, 4, 5, 2): `poseOf`.
 #[no_mangle]
@@ -46,7 +25,7 @@ pub extern "C" fn hz_pose(
     out: &mut [u32],
     notes: &mut [u32],
 ) -> HzPosed
-    ensures { λ r. ⌜ Gives (λ t room. poseOf t (old lits) sampling (length (old out)) room) (r .refusal) (r .filled ∷ r .notes ∷ []) (countsOf (r .counts))
+    ensures { λ r. ⌜ Gives (λ t room. poseOf t (old lits) sampling (length (old out)) room) (plain 2) (r .refusal ∷ r .filled ∷ r .notes ∷ []) (countsOf (r .counts))
         (lent (countsOf c) gu ug sg gs assignment records notes) ⌝ }
     ensures out { λ _. ⌜ Fills out 0
         (poseOf (before (countsOf c) gu ug sg gs assignment records) (old lits) sampling (length (old out)) (length (old notes)) .words) ⌝ }

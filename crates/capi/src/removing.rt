@@ -1,38 +1,13 @@
 // Remove and Sweep.
-use crate::counts::HzCounts;
-use crate::counts::counts_out;
-use removal::Removed;
+use answers::counts::HzCounts;
+use answers::noted::HzNoted;
+use answers::noted::removed_out;
 use scope::Counts;
 use scope::Solver;
 ghost use mathlib.Core.List.{[], _∷_};
 ghost use Rattle.scope.specs.Contract.{lent};
 ghost use Rattle.scope.specs.Remove.{removeOf, sweepOf};
-ghost use Rattle.removal.specs.Answers.{removed};
-ghost use Rattle.capi.specs.Surface.{countsOf, Told, Gives};
-
-#[repr(C)]
-pub struct HzNoted {
-    pub refusal: u32,
-    pub counts: HzCounts,
-    pub notes: u32,
-}
-
-fn removed_out(r: Removed, c: Counts) -> HzNoted
-    ensures { λ o. ⌜ Told (removed r c) (o .refusal) (o .notes ∷ []) (countsOf (o .counts)) ⌝ }
-{
-    match r {
-        Removed::Done(d, k) => HzNoted {
-            refusal: 0,
-            counts: counts_out(d),
-            notes: k,
-        },
-        Removed::Refused(n) => HzNoted {
-            refusal: n,
-            counts: counts_out(c),
-            notes: 0,
-        },
-    }
-}
+ghost use Rattle.answers.specs.Surface.{countsOf, plain, Gives};
 
 // Remove (1, 8, 2): `removeOf`.
 #[no_mangle]
@@ -47,7 +22,7 @@ pub extern "C" fn hz_remove(
     solver: u32,
     notes: &mut [u32],
 ) -> HzNoted
-    ensures { λ r. ⌜ Gives (λ t room. removeOf t solver room) (r .refusal) (r .notes ∷ []) (countsOf (r .counts))
+    ensures { λ r. ⌜ Gives (λ t room. removeOf t solver room) (plain 1) (r .refusal ∷ r .notes ∷ []) (countsOf (r .counts))
         (lent (countsOf c) gu ug sg gs assignment records notes) ⌝ }
 {
     let d = Counts {
@@ -82,7 +57,7 @@ pub extern "C" fn hz_sweep(
     records: &mut [u32],
     notes: &mut [u32],
 ) -> HzNoted
-    ensures { λ r. ⌜ Gives (λ t room. sweepOf t room) (r .refusal) (r .notes ∷ []) (countsOf (r .counts))
+    ensures { λ r. ⌜ Gives (λ t room. sweepOf t room) (plain 1) (r .refusal ∷ r .notes ∷ []) (countsOf (r .counts))
         (lent (countsOf c) gu ug sg gs assignment records notes) ⌝ }
 {
     let d = Counts {

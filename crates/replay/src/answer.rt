@@ -1,6 +1,6 @@
 // What a call answered: the refusal, the counts, the other fields of the C answer in their order, and which lent slice, if any, does
 // not hold what it should.
-use capi::counts::HzCounts;
+use answers::counts::HzCounts;
 
 pub struct Answer {
     pub refusal: u32,

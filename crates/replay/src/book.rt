@@ -6,7 +6,7 @@ use crate::parts::arg;
 use crate::parts::small;
 use crate::parts::wide;
 use crate::shape::LOAD;
-use capi::counts::HzCounts;
+use answers::counts::HzCounts;
 use std::num::wrapping_add_u64;
 
 // How many words of each list are lent.

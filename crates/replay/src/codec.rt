@@ -16,9 +16,9 @@ use crate::parts::fill32;
 use crate::parts::fill64;
 use crate::parts::given;
 use crate::parts::room;
+use answers::counts::HzCounts;
 use capi::codec::hz_first_step;
 use capi::codec::hz_read;
-use capi::counts::HzCounts;
 
 pub fn read(c: HzCounts, line: &[u64; 16524]) -> Answer {
     let format = arg(line, 0);

@@ -11,7 +11,7 @@ use crate::parts::count;
 use crate::parts::small;
 use crate::parts::wide;
 use crate::parts::word_or;
-use capi::counts::HzCounts;
+use answers::counts::HzCounts;
 ghost use Prim.Native.Nat.{_≤_};
 
 // The counts that the line gives, or those before where it gives none.

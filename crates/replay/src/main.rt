@@ -16,8 +16,8 @@ mod shape;
 mod whole;
 
 use answer::Answer;
+use answers::counts::HzCounts;
 use book::Lengths;
-use capi::counts::HzCounts;
 use faults::CUT;
 use faults::SHAPE;
 use memory::at_most;

@@ -2,10 +2,9 @@ use mathlib.Core.Path.{refl, sym, ap, _∙_}
 use lib.ListN.{length}
 use Rattle.scope.specs.Table.{Table, tableOf}
 use Rattle.scope.specs.Outcome.{Outcome}
-use Rattle.capi.specs.Numbers.{asFormat}
-use Rattle.capi.specs.Surface.{countsOf}
-use Rattle.capi.proofs.NumberLaws.{same-given, refused-given}
-use Rattle.capi.proofs.SurfaceLaws.{told-given}
+use Rattle.numbers.specs.Numbers.{asFormat}
+use Rattle.answers.specs.Surface.{countsOf}
+use Rattle.answers.proofs.SurfaceLaws.{same-given, refused-given, told-given}
 use Rattle.capi.proofs.CodecLaws.{filled-same}
 use Rattle.capi.proofs.LineLaws.{simplify-is, no-simplify-format}
 use borrow.Author.Needs.{needs}
@@ -26,7 +25,7 @@ returns c =
     let a = c .before .before .before .before .before .before .before .before .before .before .before .before .args in
     let t : Table = tableOf (countsOf (a .c)) (a .gu .now) (a .ug .now) (a .sg .now) (a .gs .now) (a .assignment .now) (a .records .now) in
     let e = no-simplify-format (a .format) t (a .lits .now) (a .redundant) (length (a .out .now)) (length (a .bytes .now)) (sym (c .before .before .format-in .ensures) ∙ ap asFormat (c .enum-told .given .1)) in
-    (same-given e refused-given, (filled-same (a .out .now) 0 (ap (λ (o : Outcome). o .words) e) refl, filled-same (a .bytes .now) 0 (ap (λ (o : Outcome). o .bytes) e) refl))
+    (same-given e (refused-given refl), (filled-same (a .out .now) 0 (ap (λ (o : Outcome). o .words) e) refl, filled-same (a .bytes .now) 0 (ap (λ (o : Outcome). o .bytes) e) refl))
 
 simplify-clause-requires : tie.Need-simplify-clause-requires
 simplify-clause-requires c κs = search needs

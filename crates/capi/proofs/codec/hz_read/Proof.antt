@@ -1,9 +1,9 @@
 use mathlib.Core.Path.{refl, sym, ap, _∙_}
 use lib.ListN.{length}
 use Rattle.drat.specs.Filled.{Filling}
-use Rattle.capi.proofs.NumberLaws.{same-answered, refused-answered}
-use Rattle.capi.proofs.CodecLaws.{read-is, no-read-format, filled-same}
-use Rattle.capi.specs.Numbers.{asFormat}
+use Rattle.answers.specs.Surface.{placed}
+use Rattle.capi.proofs.CodecLaws.{read-is, no-read-format, filled-same, same-numbers}
+use Rattle.numbers.specs.Numbers.{asFormat}
 use borrow.Author.Needs.{needs}
 use Rattle.capi.proofs.codec.hz_read.Statement.{statement}
 use Rattle.capi.proofs.codec.hz_read.Tie as tie
@@ -21,7 +21,7 @@ returns : tie.Need-returns
 returns c =
     let a = c .before .before .before .before .before .before .before .args in
     let e = no-read-format (a .format) (a .bytes .now) (length (a .codes .now)) (length (a .ends .now)) (length (a .kinds .now)) (sym (c .before .before .format-in .ensures) ∙ ap asFormat (c .enum-told .given .1)) in (
-      same-answered (ap (λ (w : Filling). w .answer) e) (refused-answered _ refl),
+      same-numbers (placed 2) (ap (λ (w : Filling). w .answer) e) refl,
       (
         filled-same (a .codes .now) 0 (ap (λ (w : Filling). w .codes) e) refl,
         (
@@ -51,7 +51,7 @@ returns-2 c =
     let a = c .before .before .before .before .before .before .before .before .before .before .before .before .before .before .before .before .before .before .before .args in
     let w = c .before .before .before .before .before .before .before .read-proof .ensures in
     let e = read-is (a .format) (a .bytes .now) (length (a .codes .now)) (length (a .ends .now)) (length (a .kinds .now)) (sym (c .before .before .before .before .before .before .before .before .before .before .before .before .before .before .format-in .ensures) ∙ ap asFormat (c .before .before .before .before .before .before .before .before .before .before .before .before .f .given .1)) in (
-      same-answered (ap (λ (w : Filling). w .answer) e ∙ sym (w .0)) (c .read-out .ensures),
+      same-numbers (placed 2) (ap (λ (w : Filling). w .answer) e ∙ sym (w .0)) (c .read-out .ensures),
       (
         filled-same (a .codes .now) 0 (ap (λ (w : Filling). w .codes) e) (w .1 .0),
         (

@@ -1,9 +1,9 @@
 use mathlib.Core.Path.{refl, sym, ap, _∙_}
 use lib.ListN.{length}
 use Rattle.drat.specs.Writing.{Writing}
-use Rattle.capi.proofs.NumberLaws.{same-answered, refused-answered}
-use Rattle.capi.proofs.CodecLaws.{write-clause-is, no-clause-format, no-clause-kind, filled-same}
-use Rattle.capi.specs.Numbers.{asFormat, asKind}
+use Rattle.answers.specs.Surface.{plain}
+use Rattle.capi.proofs.CodecLaws.{write-clause-is, no-clause-format, no-clause-kind, filled-same, same-numbers}
+use Rattle.numbers.specs.Numbers.{asFormat, asKind}
 use borrow.Author.Needs.{needs}
 use Rattle.capi.proofs.codec.hz_write_clause.Statement.{statement}
 use Rattle.capi.proofs.codec.hz_write_clause.Tie as tie
@@ -21,7 +21,7 @@ returns : tie.Need-returns
 returns c =
     let a = c .before .before .before .before .before .args in
     let e = no-clause-format (a .format) (a .kind) (a .buf .now) (a .a) (a .b) (length (a .out .now)) (a .at) (sym (c .before .before .format-in .ensures) ∙ ap asFormat (c .enum-told .given .1)) in
-    (same-answered (ap (λ (w : Writing). w .answer) e) (refused-answered _ refl), filled-same (a .out .now) (a .at) (ap (λ (w : Writing). w .bytes) e) refl)
+    (same-numbers (plain 1) (ap (λ (w : Writing). w .answer) e) refl, filled-same (a .out .now) (a .at) (ap (λ (w : Writing). w .bytes) e) refl)
 
 kind-in-requires : tie.Need-kind-in-requires
 kind-in-requires c κs = search needs
@@ -36,7 +36,7 @@ returns-2 : tie.Need-returns-2
 returns-2 c =
     let a = c .before .before .before .before .before .before .before .before .before .args in
     let e = no-clause-kind (a .format) (a .kind) (a .buf .now) (a .a) (a .b) (length (a .out .now)) (a .at) (sym (c .before .before .before .before .before .before .format-in .ensures) ∙ ap asFormat (c .before .before .before .before .f .given .1)) (sym (c .before .before .kind-in .ensures) ∙ ap asKind (c .enum-told2 .given .1)) in
-    (same-answered (ap (λ (w : Writing). w .answer) e) (refused-answered _ refl), filled-same (a .out .now) (a .at) (ap (λ (w : Writing). w .bytes) e) refl)
+    (same-numbers (plain 1) (ap (λ (w : Writing). w .answer) e) refl, filled-same (a .out .now) (a .at) (ap (λ (w : Writing). w .bytes) e) refl)
 
 write-clause-requires : tie.Need-write-clause-requires
 write-clause-requires c κs = search needs
@@ -52,7 +52,7 @@ returns-3 c =
     let a = c .before .before .before .before .before .before .before .before .before .before .before .before .before .before .before .args in
     let w = c .before .before .before .write-clause .ensures in
     let e = write-clause-is (a .format) (a .kind) (a .buf .now) (a .a) (a .b) (length (a .out .now)) (a .at) (sym (c .before .before .before .before .before .before .before .before .before .before .before .before .format-in .ensures) ∙ ap asFormat (c .before .before .before .before .before .before .before .before .before .before .f .given .1)) (sym (c .before .before .before .before .before .before .before .before .kind-in .ensures) ∙ ap asKind (c .before .before .before .before .before .before .k .given .1)) in
-    (same-answered (ap (λ (w : Writing). w .answer) e ∙ sym (w .0)) (c .wrote-out .ensures), filled-same (a .out .now) (a .at) (ap (λ (w : Writing). w .bytes) e) (w .1))
+    (same-numbers (plain 1) (ap (λ (w : Writing). w .answer) e ∙ sym (w .0)) (c .wrote-out .ensures), filled-same (a .out .now) (a .at) (ap (λ (w : Writing). w .bytes) e) (w .1))
 
 pub hz-write-clause-spec : {M : Type 1} → statement M
 hz-write-clause-spec =

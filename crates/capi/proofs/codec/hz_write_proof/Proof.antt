@@ -1,9 +1,9 @@
 use mathlib.Core.Path.{refl, sym, ap, _∙_}
 use lib.ListN.{length}
 use Rattle.drat.specs.Writing.{Writing}
-use Rattle.capi.proofs.NumberLaws.{same-answered, refused-answered}
-use Rattle.capi.proofs.CodecLaws.{write-proof-is, no-proof-format, filled-same}
-use Rattle.capi.specs.Numbers.{asFormat}
+use Rattle.answers.specs.Surface.{plain}
+use Rattle.capi.proofs.CodecLaws.{write-proof-is, no-proof-format, filled-same, same-numbers}
+use Rattle.numbers.specs.Numbers.{asFormat}
 use borrow.Author.Needs.{needs}
 use Rattle.capi.proofs.codec.hz_write_proof.Statement.{statement}
 use Rattle.capi.proofs.codec.hz_write_proof.Tie as tie
@@ -21,7 +21,7 @@ returns : tie.Need-returns
 returns c =
     let a = c .before .before .before .before .before .before .before .args in
     let e = no-proof-format (a .format) (a .codes .now) (a .ends .now) (a .kinds .now) (length (a .out .now)) (sym (c .before .before .format-in .ensures) ∙ ap asFormat (c .enum-told .given .1)) in
-    (same-answered (ap (λ (w : Writing). w .answer) e) (refused-answered _ refl), filled-same (a .out .now) 0 (ap (λ (w : Writing). w .bytes) e) refl)
+    (same-numbers (plain 1) (ap (λ (w : Writing). w .answer) e) refl, filled-same (a .out .now) 0 (ap (λ (w : Writing). w .bytes) e) refl)
 
 write-proof-requires : tie.Need-write-proof-requires
 write-proof-requires c κs = search needs
@@ -37,7 +37,7 @@ returns-2 c =
     let a = c .before .before .before .before .before .before .before .before .before .before .before .before .before .args in
     let w = c .before .before .before .write-proof .ensures in
     let e = write-proof-is (a .format) (a .codes .now) (a .ends .now) (a .kinds .now) (length (a .out .now)) (sym (c .before .before .before .before .before .before .before .before .format-in .ensures) ∙ ap asFormat (c .before .before .before .before .before .before .f .given .1)) in
-    (same-answered (ap (λ (w : Writing). w .answer) e ∙ sym (w .0)) (c .wrote-out .ensures), filled-same (a .out .now) 0 (ap (λ (w : Writing). w .bytes) e) (w .1))
+    (same-numbers (plain 1) (ap (λ (w : Writing). w .answer) e ∙ sym (w .0)) (c .wrote-out .ensures), filled-same (a .out .now) 0 (ap (λ (w : Writing). w .bytes) e) (w .1))
 
 pub hz-write-proof-spec : {M : Type 1} → statement M
 hz-write-proof-spec =

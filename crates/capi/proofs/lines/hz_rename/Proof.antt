@@ -1,17 +1,14 @@
-use Rattle.scope.specs.Contract.{Said}
 use mathlib.Core.Path.{_≡_, refl, sym, ap, _∙_}
 use lib.ListN.{length}
 use Rattle.scope.specs.Table.{Table, tableOf}
 use Rattle.scope.specs.Outcome.{Outcome}
-use Rattle.steps.specs.declared.rename.Renamed.{Renamed}
-use Rattle.steps.specs.Answers.{renamed}
-use Rattle.capi.specs.Numbers.{known, asStep}
-use Rattle.capi.specs.Surface.{countsOf}
+use Rattle.numbers.specs.declared.HzStep.{HzStep}
+use Rattle.numbers.specs.Numbers.{known, asStep}
+use Rattle.answers.specs.Surface.{countsOf}
 use Rattle.capi.specs.Lines.{stepOf, wordsAt}
-use Rattle.capi.proofs.NumberLaws.{same-given, refused-given}
-use Rattle.capi.proofs.SurfaceLaws.{told-given, told-accepted, told-refused, told-tail}
+use Rattle.answers.proofs.SurfaceLaws.{same-given, refused-given, told-given}
 use Rattle.capi.proofs.CodecLaws.{filled-same}
-use Rattle.capi.proofs.LineLaws.{rename-is, no-rename-step, step-kept}
+use Rattle.capi.proofs.LineLaws.{rename-is, no-rename-step, stepped-given}
 use borrow.Author.Needs.{needs}
 use Rattle.capi.proofs.lines.hz_rename.Statement.{statement}
 use Rattle.capi.proofs.lines.hz_rename.Tie as tie
@@ -30,16 +27,13 @@ returns c =
     let a = c .before .before .before .before .before .before .before .before .before .before .before .before .before .args in
     let t : Table = tableOf (countsOf (a .c)) (a .gu .now) (a .ug .now) (a .sg .now) (a .gs .now) (a .assignment .now) (a .records .now) in
     let e = no-rename-step (a .step) t (a .solvervars) (a .lits .now) (a .hashes .now) (length (a .out .now)) (length (a .hashout .now)) (sym (c .before .before .step-in .ensures) ∙ ap asStep (c .enum-told .given .1)) in
-    (same-given e refused-given, (filled-same (a .out .now) 0 (ap (λ (o : Outcome). o .words) e) refl, filled-same (a .hashout .now) 0 (ap (λ (o : Outcome). o .more) e) refl))
+    (same-given e (refused-given refl), (refl, (filled-same (a .out .now) 0 (ap (λ (o : Outcome). o .words) e) refl, filled-same (a .hashout .now) 0 (ap (λ (o : Outcome). o .more) e) refl)))
 
 rename-step-requires : tie.Need-rename-step-requires
 rename-step-requires c κs = search needs
 
-enum-known-n : tie.Need-enum-known-n
-enum-known-n c = search needs
-
-enum-known-n-2 : tie.Need-enum-known-n-2
-enum-known-n-2 c = search needs
+renamed-out-requires : tie.Need-renamed-out-requires
+renamed-out-requires c κs = search needs
 
 same-length : tie.Need-same-length
 same-length c = search needs
@@ -49,33 +43,16 @@ same-length-2 c = search needs
 
 returns-2 : tie.Need-returns-2
 returns-2 c =
-    let a = c .before .before .before .before .before .before .before .before .before .before .before .before .before .before .before .before .before .before .before .before .before .before .before .before .args in
+    let a = c .before .before .before .before .before .before .before .before .before .before .before .before .before .before .before .before .before .before .before .before .before .before .args in
     let t : Table = tableOf (countsOf (a .c)) (a .gu .now) (a .ug .now) (a .sg .now) (a .gs .now) (a .assignment .now) (a .records .now) in
-    let w = c .before .before .before .before .before .before .before .rename-step .ensures in
-    let g : stepOf (a .step) ≡ known (c .before .before .before .before .before .before .before .before .before .before .before .s .given .0 .0) = sym (c .before .before .before .before .before .before .before .before .before .before .before .before .before .step-in .ensures) ∙ ap asStep (c .before .before .before .before .before .before .before .before .before .before .before .s .given .1) in
+    let w = c .before .before .before .before .before .rename-step .ensures in
+    let s = c .before .before .before .before .before .before .before .before .before .s .given in
+    let g : stepOf (a .step) ≡ known (s .0 .0) = sym (c .before .before .before .before .before .before .before .before .before .before .before .step-in .ensures) ∙ ap asStep (s .1) in
     let e = rename-is (a .step) t (a .solvervars) (a .lits .now) (a .hashes .now) (length (a .out .now)) (length (a .hashout .now)) g in
-    let r = ap (λ (r : Renamed). renamed r (countsOf (a .c))) (c .before .n .given .1) in
-    let k = step-kept t _ (a .solvervars) (a .lits .now) (a .hashes .now) (length (a .out .now)) (length (a .hashout .now)) (sym (ap (λ (s : Said). s .answer) r) ∙ w .0 .answer) ∙ sym (ap wordsAt g) in (
-      same-given e (told-given (w .0) (told-tail k (told-accepted r refl))),
-      (filled-same (a .out .now) 0 (ap (λ (o : Outcome). o .words) e) (w .1 .0), filled-same (a .hashout .now) 0 (ap (λ (o : Outcome). o .more) e) (w .1 .1)),
-    )
-
-same-length-3 : tie.Need-same-length-3
-same-length-3 c = search needs
-
-same-length-4 : tie.Need-same-length-4
-same-length-4 c = search needs
-
-returns-3 : tie.Need-returns-3
-returns-3 c =
-    let a = c .before .before .before .before .before .before .before .before .before .before .before .before .before .before .before .before .before .before .before .before .before .before .before .before .args in
-    let t : Table = tableOf (countsOf (a .c)) (a .gu .now) (a .ug .now) (a .sg .now) (a .gs .now) (a .assignment .now) (a .records .now) in
-    let w = c .before .before .before .before .before .before .before .rename-step .ensures in
-    let g : stepOf (a .step) ≡ known (c .before .before .before .before .before .before .before .before .before .before .before .s .given .0 .0) = sym (c .before .before .before .before .before .before .before .before .before .before .before .before .before .step-in .ensures) ∙ ap asStep (c .before .before .before .before .before .before .before .before .before .before .before .s .given .1) in
-    let e = rename-is (a .step) t (a .solvervars) (a .lits .now) (a .hashes .now) (length (a .out .now)) (length (a .hashout .now)) g in
-    let r = ap (λ (r : Renamed). renamed r (countsOf (a .c))) (c .before .n2 .given .1) in (
-      same-given e (told-given (w .0) (told-refused _ r refl)),
-      (filled-same (a .out .now) 0 (ap (λ (o : Outcome). o .words) e) (w .1 .0), filled-same (a .hashout .now) 0 (ap (λ (o : Outcome). o .more) e) (w .1 .1)),
+    let o = c .renamed-out .ensures in
+    let ws = sym (ap wordsAt g) in (
+      same-given e (stepped-given t _ (a .solvervars) (a .lits .now) (a .hashes .now) (length (a .out .now)) (length (a .hashout .now)) (ws ∙ sym (ap (λ (z : HzStep). wordsAt (stepOf z)) (o .1))) ws (told-given (w .0) (o .0))),
+      (o .1, (filled-same (a .out .now) 0 (ap (λ (o : Outcome). o .words) e) (w .1 .0), filled-same (a .hashout .now) 0 (ap (λ (o : Outcome). o .more) e) (w .1 .1))),
     )
 
 pub hz-rename-spec : {M : Type 1} → statement M
@@ -87,11 +64,7 @@ hz-rename-spec =
     enum-told
     returns
     rename-step-requires
-    enum-known-n
-    enum-known-n-2
+    renamed-out-requires
     same-length
     same-length-2
-    returns-2
-    same-length-3
-    same-length-4
-    returns-3)
+    returns-2)

@@ -2,10 +2,9 @@ use mathlib.Core.Path.{refl, sym, ap, _∙_}
 use lib.ListN.{length}
 use Rattle.scope.specs.Table.{Table, tableOf}
 use Rattle.scope.specs.Outcome.{Outcome}
-use Rattle.capi.specs.Numbers.{asFormat, asStep}
-use Rattle.capi.specs.Surface.{countsOf}
-use Rattle.capi.proofs.NumberLaws.{same-given, refused-given}
-use Rattle.capi.proofs.SurfaceLaws.{told-given}
+use Rattle.numbers.specs.Numbers.{asFormat, asStep}
+use Rattle.answers.specs.Surface.{countsOf}
+use Rattle.answers.proofs.SurfaceLaws.{same-given, refused-given, told-given}
 use Rattle.capi.proofs.CodecLaws.{filled-same}
 use Rattle.capi.proofs.LineLaws.{write-is, no-write-format, no-write-step}
 use borrow.Author.Needs.{needs}
@@ -26,7 +25,7 @@ returns c =
     let a = c .before .before .before .before .before .before .before .before .before .before .before .before .args in
     let t : Table = tableOf (countsOf (a .c)) (a .gu .now) (a .ug .now) (a .sg .now) (a .gs .now) (a .assignment .now) (a .records .now) in
     let e = no-write-format (a .format) (a .step) t (a .solvervars) (a .lits .now) (a .hashes .now) (length (a .out .now)) (sym (c .before .before .format-in .ensures) ∙ ap asFormat (c .enum-told .given .1)) in
-    (same-given e refused-given, filled-same (a .out .now) 0 (ap (λ (o : Outcome). o .bytes) e) refl)
+    (same-given e (refused-given refl), filled-same (a .out .now) 0 (ap (λ (o : Outcome). o .bytes) e) refl)
 
 step-in-requires : tie.Need-step-in-requires
 step-in-requires c κs = search needs
@@ -42,7 +41,7 @@ returns-2 c =
     let a = c .before .before .before .before .before .before .before .before .before .before .before .before .before .before .before .before .args in
     let t : Table = tableOf (countsOf (a .c)) (a .gu .now) (a .ug .now) (a .sg .now) (a .gs .now) (a .assignment .now) (a .records .now) in
     let e = no-write-step (a .format) (a .step) t (a .solvervars) (a .lits .now) (a .hashes .now) (length (a .out .now)) (sym (c .before .before .before .before .before .before .format-in .ensures) ∙ ap asFormat (c .before .before .before .before .f .given .1)) (sym (c .before .before .step-in .ensures) ∙ ap asStep (c .enum-told2 .given .1)) in
-    (same-given e refused-given, filled-same (a .out .now) 0 (ap (λ (o : Outcome). o .bytes) e) refl)
+    (same-given e (refused-given refl), filled-same (a .out .now) 0 (ap (λ (o : Outcome). o .bytes) e) refl)
 
 write-step-requires : tie.Need-write-step-requires
 write-step-requires c κs = search needs

@@ -1,7 +1,7 @@
-use mathlib.Core.Path.{sym, ap, _∙_}
-use Rattle.capi.specs.Numbers.{asMark}
-use Rattle.capi.proofs.NumberLaws.{known-is, unknown-is, same-given, refused-given}
-use Rattle.capi.proofs.SurfaceLaws.{told-given}
+use mathlib.Core.Path.{refl, sym, ap, _∙_}
+use Rattle.numbers.specs.Numbers.{asMark}
+use Rattle.numbers.proofs.NumberLaws.{known-is, unknown-is}
+use Rattle.answers.proofs.SurfaceLaws.{same-given, refused-given, told-given}
 use borrow.Author.Needs.{needs}
 use Rattle.capi.proofs.marking.hz_mark.Statement.{statement}
 use Rattle.capi.proofs.marking.hz_mark.Tie as tie
@@ -16,7 +16,7 @@ enum-told : tie.Need-enum-told
 enum-told c = search needs
 
 returns : tie.Need-returns
-returns c = same-given (unknown-is _ _ (sym (c .before .before .mark-in .ensures) ∙ ap asMark (c .enum-told .given .1))) refused-given
+returns c = same-given (unknown-is _ _ (sym (c .before .before .mark-in .ensures) ∙ ap asMark (c .enum-told .given .1))) (refused-given refl)
 
 mark-requires : tie.Need-mark-requires
 mark-requires c κs = search needs

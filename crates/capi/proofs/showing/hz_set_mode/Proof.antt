@@ -1,7 +1,7 @@
-use mathlib.Core.Path.{sym, ap, _∙_}
-use Rattle.capi.specs.Numbers.{asMode}
-use Rattle.capi.proofs.NumberLaws.{known-is, unknown-is, same-given, refused-given}
-use Rattle.capi.proofs.SurfaceLaws.{told-given}
+use mathlib.Core.Path.{refl, sym, ap, _∙_}
+use Rattle.numbers.specs.Numbers.{asMode}
+use Rattle.numbers.proofs.NumberLaws.{known-is, unknown-is}
+use Rattle.answers.proofs.SurfaceLaws.{same-given, refused-given, told-given}
 use borrow.Author.Needs.{needs}
 use Rattle.capi.proofs.showing.hz_set_mode.Statement.{statement}
 use Rattle.capi.proofs.showing.hz_set_mode.Tie as tie
@@ -16,7 +16,7 @@ enum-told : tie.Need-enum-told
 enum-told c = search needs
 
 returns : tie.Need-returns
-returns c = same-given (unknown-is _ _ (sym (c .before .before .mode-in .ensures) ∙ ap asMode (c .enum-told .given .1))) refused-given
+returns c = same-given (unknown-is _ _ (sym (c .before .before .mode-in .ensures) ∙ ap asMode (c .enum-told .given .1))) (refused-given refl)
 
 set-sampling-mode-requires : tie.Need-set-sampling-mode-requires
 set-sampling-mode-requires c κs = search needs

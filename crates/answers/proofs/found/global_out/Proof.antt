@@ -1,0 +1,44 @@
+use mathlib.Core.Path.{refl, ap}
+use Rattle.var_map.specs.declared.GotGlobal.{GotGlobal}
+use Rattle.var_map.specs.Answers.{gotGlobal}
+use Rattle.answers.proofs.SurfaceLaws.{told-by}
+use borrow.Author.Needs.{needs}
+use Rattle.answers.proofs.found.global_out.Statement.{statement}
+use Rattle.answers.proofs.found.global_out.Tie as tie
+
+enum-known-r : tie.Need-enum-known-r
+enum-known-r c = search needs
+
+enum-told : tie.Need-enum-told
+enum-told c = search needs
+
+absent-requires : tie.Need-absent-requires
+absent-requires c κs = search needs
+
+enum-known-r-2 : tie.Need-enum-known-r-2
+enum-known-r-2 c = search needs
+
+absent-requires-2 : tie.Need-absent-requires-2
+absent-requires-2 c κs = search needs
+
+returns : tie.Need-returns
+returns c = told-by (ap (λ (r : GotGlobal). gotGlobal r (c .before .before .before .args .c)) (c .before .r .given .1)) refl refl
+
+returns-2 : tie.Need-returns-2
+returns-2 c = told-by (ap (λ (r : GotGlobal). gotGlobal r (c .before .before .before .args .c)) (c .before .enum-told .given .1)) (c .absent .ensures) refl
+
+returns-3 : tie.Need-returns-3
+returns-3 c = told-by (ap (λ (r : GotGlobal). gotGlobal r (c .before .before .before .before .args .c)) (c .before .before .r2 .given .1)) (c .absent2 .ensures) refl
+
+pub global-out-spec : {M : Type 1} → statement M
+global-out-spec =
+    tie.close
+    (tie.spec
+    enum-known-r
+    enum-told
+    absent-requires
+    enum-known-r-2
+    absent-requires-2
+    returns
+    returns-2
+    returns-3)

@@ -1,0 +1,31 @@
+// The answer of Model.
+use model::Modelled;
+use scope::Counts;
+ghost use mathlib.Core.List.{[], _∷_};
+ghost use Rattle.model.specs.Answers.{modelled};
+ghost use Rattle.answers.specs.Surface.{plain, Told};
+
+// How many global words and how many user literals were filled.
+#[repr(C)]
+pub struct HzModelled {
+    pub refusal: u32,
+    pub globals: u32,
+    pub users: u32,
+}
+
+pub fn modelled_out(r: Modelled, c: Counts) -> HzModelled
+    ensures { λ o. ⌜ Told (modelled r c) (plain 2) (o .refusal ∷ o .globals ∷ o .users ∷ []) c ⌝ }
+{
+    match r {
+        Modelled::Done(globals, users) => HzModelled {
+            refusal: 0,
+            globals: globals,
+            users: users,
+        },
+        Modelled::Refused(n) => HzModelled {
+            refusal: n,
+            globals: 0,
+            users: 0,
+        },
+    }
+}

@@ -1,0 +1,27 @@
+// The answer of Observe.
+use crate::counts::counts_out;
+use crate::posed::HzPosed;
+use modes::Observed;
+use scope::Counts;
+ghost use mathlib.Core.List.{[], _∷_};
+ghost use Rattle.modes.specs.Answers.{observed};
+ghost use Rattle.answers.specs.Surface.{countsOf, plain, Told};
+
+pub fn observed_out(r: Observed, c: Counts) -> HzPosed
+    ensures { λ o. ⌜ Told (observed r c) (plain 2) (o .refusal ∷ o .filled ∷ o .notes ∷ []) (countsOf (o .counts)) ⌝ }
+{
+    match r {
+        Observed::Done(k, d, m) => HzPosed {
+            refusal: 0,
+            counts: counts_out(d),
+            filled: k,
+            notes: m,
+        },
+        Observed::Refused(n) => HzPosed {
+            refusal: n,
+            counts: counts_out(c),
+            filled: 0,
+            notes: 0,
+        },
+    }
+}
