@@ -1,6 +1,7 @@
 // Deletion of a global that is used no more.
 use scope::Counts;
 use scope::Global;
+use scope::Note;
 use table::put_note;
 ghost use lib.ListN.{length};
 ghost use Rattle.base.specs.Lent.{old, new};
@@ -37,7 +38,7 @@ pub fn delete_global_if_unused(
     let r = records[g];
     if (ug[g] == 0) & ((sg[g] == 0) & (r / 9 % 2 == 1)) {
         records[g] = r + 36;
-        put_note(notes, at, 2, global.0, 0);
+        put_note(notes, at, Note::Deleted(global));
         return at + 3;
     }
     at

@@ -3,6 +3,7 @@ use deletion::Passed;
 use deletion::delete_global_if_unused;
 use scope::Counts;
 use scope::Global;
+use scope::Note;
 use scope::SamplingMode;
 use scope::User;
 use table::is_sound;
@@ -55,16 +56,6 @@ fn mode_number(mode: SamplingMode) -> u32
     }
 }
 
-// The last word of C: 1 for yes, which is Sample.
-fn sample_word(m: u32) -> u32
-    ensures { λ r. ⌜ r ≡ pick (eqb m 0) 1 0 ⌝ }
-{
-    if m == 0 {
-        return 1;
-    }
-    0
-}
-
 // The least unmapped user index; those below `from` are mapped.
 fn next_user(gu: &[u32], mark: u32, from: u32) -> u32
     requires { ⌜ mark ≤ length (now gu) ⌝ }
@@ -105,14 +96,13 @@ fn show(
     let g = global.0 as usize;
     let next = at + 3;
     let past = at + 6;
-    let sample = sample_word(m);
     let w = records[g];
     records[g] = w / 3 * 3 + m;
     let u = next_user(gu, c.user, from);
     let user = User(u);
     let counts = c.map(gu, ug, user, global);
-    put_note(notes, at, 3, global.0, sample);
-    put_note(notes, next, 0, global.0, u + 1);
+    put_note(notes, at, Note::ModeChanged(global, m == 0));
+    put_note(notes, next, Note::UserGranted(global, user));
     Granted {
         counts,
         user,
@@ -144,7 +134,7 @@ fn hide(
     let w = records[g];
     records[g] = w / 3 * 3 + 2;
     let counts = c.unmap(gu, ug, user, global);
-    put_note(notes, at, 0, global.0, 0);
+    put_note(notes, at, Note::UserWithdrawn(global));
     let past = delete_global_if_unused(
         counts,
         gu,
@@ -181,10 +171,9 @@ fn change(
 {
     let g = global.0 as usize;
     let next = at + 3;
-    let sample = sample_word(m);
     let w = records[g];
     records[g] = w / 3 * 3 + m;
-    put_note(notes, at, 3, global.0, sample);
+    put_note(notes, at, Note::ModeChanged(global, m == 0));
     Passed {
         counts: c,
         at: next,

@@ -2,6 +2,7 @@
 use inner::least_free;
 use scope::Counts;
 use scope::Global;
+use scope::Note;
 use scope::User;
 use table::FoundGlobal;
 use table::global_of;
@@ -108,9 +109,9 @@ fn map_one(
     requires { ⌜ Passed (free (now records)) (c .global) from ⌝ }
     requires { ⌜ user .0 < length (now gu) ⌝ }
     requires { ⌜ user .0 < length (now records) ⌝ }
-    requires { ⌜ user .0 < 4096 ⌝ }
+    requires { ⌜ user .0 < c .capacity ⌝ }
     requires { let g = freeFor (now records) (c .global) (user .0) in
-        ⌜ g < length (now ug) ⌝ ∗ ⌜ g < length (now records) ⌝ ∗ ⌜ g < 4096 ⌝ }
+        ⌜ g < length (now ug) ⌝ ∗ ⌜ g < length (now records) ⌝ ∗ ⌜ g < c .capacity ⌝ }
     requires { ⌜ at + 3 ≤ length (now notes) ⌝ }
     ensures { λ r. let g = freeFor (old records) (c .global) (user .0) in
         ⌜ r .global .0 ≡ g ⌝
@@ -125,10 +126,9 @@ fn map_one(
 {
     let t = global_for(records, c.global, user, from);
     let global = t.global;
-    let g = global.0;
     let next = at + 3;
-    records[g as usize] = 9;
-    put_note(notes, at, 0, g, user.0 + 1);
+    records[global.0 as usize] = 9;
+    put_note(notes, at, Note::UserGranted(global, user));
     let counts = c.map(gu, ug, user, global);
     Reached {
         users: counts.user,

@@ -3,6 +3,7 @@ use deletion::Passed;
 use deletion::delete_global_if_unused;
 use scope::Counts;
 use scope::Global;
+use scope::Note;
 use scope::Solver;
 use table::FoundGlobal;
 use table::holder;
@@ -49,7 +50,7 @@ fn remove_held(
 {
     let next = at + 3;
     let counts = c.remove(sg, gs, global, solver);
-    put_note(notes, at, 1, global.0, 0);
+    put_note(notes, at, Note::SolverWithdrawn(global));
     let past = delete_global_if_unused(
         counts,
         gu,

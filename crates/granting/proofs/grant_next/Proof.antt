@@ -23,10 +23,6 @@ mul-assignment c = search needs
 slice-write-assignment : tie.Need-slice-write-assignment
 slice-write-assignment c = search needs
 
--- src/lib.rt:72:38
-add-put-note : tie.Need-add-put-note
-add-put-note c = search needs
-
 -- src/lib.rt:72:5
 put-note-requires : tie.Need-put-note-requires
 put-note-requires c κs = search needs
@@ -64,7 +60,6 @@ grant-next-spec =
     cast-assignment
     mul-assignment
     slice-write-assignment
-    add-put-note
     put-note-requires
     grant-requires
     same-length
