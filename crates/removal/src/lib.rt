@@ -51,7 +51,7 @@ fn remove_held(
     let next = at + 3;
     let counts = c.remove(sg, gs, global, solver);
     put_note(notes, at, Note::SolverWithdrawn(global));
-    let past = delete_global_if_unused(
+    delete_global_if_unused(
         counts,
         gu,
         ug,
@@ -62,8 +62,7 @@ fn remove_held(
         global,
         next,
         notes,
-    );
-    Passed { counts, at: past }
+    )
 }
 
 // How many notes a removal makes, by the user word and the record of the global.
