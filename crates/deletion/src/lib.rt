@@ -1,6 +1,7 @@
 // Deletion of a global that is used no more.
 use scope::Counts;
 use scope::Global;
+use scope::Note;
 use table::put_note;
 ghost use lib.ListN.{length};
 ghost use Rattle.base.specs.Lent.{old, new};
@@ -14,7 +15,8 @@ pub struct Passed {
     pub at: usize,
 }
 
-// A global with neither user nor solver index that is isolated is deleted: D (01, "Set mode"). The place after the note is returned.
+// A global with neither user nor solver index that is isolated is deleted: D (01, "Set mode"). The counts and the place after the
+// note are returned.
 // Definition: crates/scope/specs/Modes.antt, `deleteIfUnused`.
 pub fn delete_global_if_unused(
     c: Counts,
@@ -27,18 +29,21 @@ pub fn delete_global_if_unused(
     global: Global,
     at: usize,
     notes: &mut [u32],
-) -> usize
+) -> Passed
     requires { ⌜ Live (given c gu ug sg gs assignment records) (global .0) ⌝ }
     requires { ⌜ Room (deleteIfUnused (global .0) (given c gu ug sg gs assignment records)) at (length (now notes)) ⌝ }
-    ensures { λ r. ⌜ Leaves (deleteIfUnused (global .0) (before c gu ug sg gs assignment records)) at r
-        (after c gu ug sg gs assignment records) (old notes) (new notes) ⌝ }
+    ensures { λ r. ⌜ Leaves (deleteIfUnused (global .0) (before c gu ug sg gs assignment records)) at (r .at)
+        (after (r .counts) gu ug sg gs assignment records) (old notes) (new notes) ⌝ }
 {
     let g = global.0 as usize;
     let r = records[g];
     if (ug[g] == 0) & ((sg[g] == 0) & (r / 9 % 2 == 1)) {
         records[g] = r + 36;
-        put_note(notes, at, 2, global.0, 0);
-        return at + 3;
+        put_note(notes, at, Note::Deleted(global));
+        return Passed {
+            counts: c,
+            at: at + 3,
+        };
     }
-    at
+    Passed { counts: c, at }
 }

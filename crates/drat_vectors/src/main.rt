@@ -29,15 +29,17 @@ fn line(name: &[u8], agree: u32, of: u32) {
     io::write_all(1, b"\n");
 }
 
-// A number in LEB128 into six bytes of 170: whether they are then as in the image.
+// A number in LEB128 into six bytes of 170, by the function with which the writer writes a code: whether they are then as in the image.
+// A code takes at most 14 bits. The published numbers 624485 (E5 8E 26), 4294967295 (FF FF FF FF 0F) and 16387 (83 80 01, for DRAT-trim's
+// -8193) take more: nothing here writes them, and they are not tried.
 fn leb(n: u32, image: &[u8]) -> u32
     ensures { λ r. ⌜ r ≤ 1 ⌝ }
 {
-    if n == 0 {
+    if (n == 0) | (16384 <= n) {
         return 0;
     }
     let mut out = [170u8; 6];
-    drat_write::put_leb(n, &mut out, 0);
+    drat_write::put_code(n, &mut out, 0);
     one(check::same(&out, image))
 }
 
@@ -76,12 +78,10 @@ fn leb128() -> u32 {
         + leb(129, b"\x81\x01\xaa\xaa\xaa\xaa")
         + leb(130, b"\x82\x01\xaa\xaa\xaa\xaa")
         + leb(12857, b"\xb9\x64\xaa\xaa\xaa\xaa")
-        + leb(624485, b"\xe5\x8e\x26\xaa\xaa\xaa")
-        + leb(4294967295, b"\xff\xff\xff\xff\x0f\xaa")
 }
 
 // DRAT-trim's example is `d -63 -8193 0` and `129 -8191 0`: 64 7F 83 80 01 00 and 61 82 02 FF 7F 00. Here -8193 and -8191 are
-// out of range, so its numbers are tried apart.
+// out of range as literals: a step with the first is refused, and the number of the second is tried apart.
 fn drat_trim() -> u32 {
     let buf = [125u32, 16385, 256, 16381];
     let none = b"\xaa\xaa\xaa\xaa\xaa\xaa\xaa\xaa\xaa\xaa\xaa\xaa";
@@ -90,7 +90,6 @@ fn drat_trim() -> u32 {
     step(Format::Binary, Kind::Delete, &buf, 0, 1, 105, d63)
         + step(Format::Binary, Kind::Delete, &buf, 0, 2, 3, none)
         + step(Format::Binary, Kind::Add, &buf, 2, 3, 106, a129)
-        + leb(16387, b"\x83\x80\x01\xaa\xaa\xaa")
         + leb(16383, b"\xff\x7f\xaa\xaa\xaa\xaa")
 }
 
@@ -237,8 +236,8 @@ fn codes(f: Format) -> u32 {
 }
 
 fn main() {
-    line(b"leb128: ", leb128(), 8);
-    line(b"drat-trim: ", drat_trim(), 5);
+    line(b"leb128: ", leb128(), 6);
+    line(b"drat-trim: ", drat_trim(), 4);
     line(b"case 6: ", case6(), 2);
     line(b"case 7: ", case7(), 2);
     line(b"case 8: ", case8(), 4);

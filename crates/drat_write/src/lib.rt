@@ -176,26 +176,8 @@ fn put_decimal(n: u32, out: &mut [u8], at: usize) -> usize
     put4(n, out, at)
 }
 
-// Writes any number above 0 in LEB128, and gives the place after it.
-pub fn put_leb(n: u32, out: &mut [u8], at: usize) -> usize
-    requires { ⌜ 0 < n ⌝ }
-    requires { ⌜ at + length (bytesOf leb128 n) ≤ length (now out) ⌝ }
-    ensures { λ r. ⌜ r ≡ at + length (bytesOf leb128 n) ⌝ }
-    ensures { λ _. ⌜ Fills out at (bytesOf leb128 n) ⌝ }
-{
-    let mut m = n;
-    let mut p = at;
-    while 128 <= m {
-        out[p] = (128 + m % 128) as u8;
-        m = m / 128;
-        p += 1;
-    }
-    out[p] = m as u8;
-    p + 1
-}
-
 // Writes a code + 2 in LEB128: one byte or two.
-fn put_code(n: u32, out: &mut [u8], at: usize) -> usize
+pub fn put_code(n: u32, out: &mut [u8], at: usize) -> usize
     requires { ⌜ (0 < n) × (n < 16384) ⌝ }
     requires { ⌜ at + length (bytesOf leb128 n) ≤ length (now out) ⌝ }
     ensures { λ r. ⌜ r ≡ at + length (bytesOf leb128 n) ⌝ }

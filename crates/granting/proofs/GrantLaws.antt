@@ -54,10 +54,10 @@ NextAsks t g from at room =
     (t .counts .solver ≤ length (t .globalFromSolver))
     × ((Passed (λ i. eqb (getD (t .globalFromSolver) i 0) 0) (t .counts .solver) from)
     × ((g < length (t .solverFromGlobal))
-    × ((g < 4096)
+    × ((g < t .counts .capacity)
     × ((s < length (t .globalFromSolver))
     × ((s < length (t .assignment))
-    × ((s < 4096)
+    × ((s < t .counts .capacity)
     × (at + 3 ≤ room)))))))
 
 pub next-asks : (t : Table) (g from at room : ℕ) → Fresh t g at room → Passed (λ i. eqb (getD (t .globalFromSolver) i 0) 0) (t .counts .solver) from → NextAsks t g from at room
@@ -73,7 +73,7 @@ abbrev pub NextLeft : Table → ℕ → ℕ → ℕ → Solver → Counts → �
 NextLeft t g unit at solver c from next sg gs a notes noted =
     let s = leastFree (t .globalFromSolver) (t .counts .solver) in
     (solver .0 ≡ s)
-    × ((c ≡ coverSolver (t .counts) s)
+    × ((c ≡ coverSolver (t .counts) s g)
     × ((from ≡ s)
     × ((next ≡ at + 3)
     × ((sg ≡ set (t .solverFromGlobal) g (s + 1))

@@ -2,6 +2,7 @@
 use inner::least_free;
 use scope::Counts;
 use scope::Global;
+use scope::Note;
 use scope::Solver;
 use table::FoundSolver;
 use table::is_sound;
@@ -51,13 +52,13 @@ fn grant_next(
     requires { ⌜ c .solver ≤ length (now gs) ⌝ }
     requires { ⌜ Passed (λ i. eqb (getD (now gs) i 0) 0) (c .solver) from ⌝ }
     requires { ⌜ global .0 < length (now sg) ⌝ }
-    requires { ⌜ global .0 < 4096 ⌝ }
+    requires { ⌜ global .0 < c .capacity ⌝ }
     requires { let s = leastFree (now gs) (c .solver) in
-        ⌜ s < length (now gs) ⌝ ∗ ⌜ s < length (now assignment) ⌝ ∗ ⌜ s < 4096 ⌝ }
+        ⌜ s < length (now gs) ⌝ ∗ ⌜ s < length (now assignment) ⌝ ∗ ⌜ s < c .capacity ⌝ }
     requires { ⌜ at + 3 ≤ length (now notes) ⌝ }
     ensures { λ r. let s = leastFree (old gs) (c .solver) in
         ⌜ r .solver .0 ≡ s ⌝
-        ∗ ⌜ r .counts ≡ coverSolver c s ⌝
+        ∗ ⌜ r .counts ≡ coverSolver c s (global .0) ⌝
         ∗ ⌜ r .from ≡ s ⌝
         ∗ ⌜ r .at ≡ at + 3 ⌝ }
     ensures { λ _. let s = leastFree (old gs) (c .solver) in
@@ -70,7 +71,7 @@ fn grant_next(
     let solver = Solver(s);
     let next = at + 3;
     assignment[s as usize] = unit;
-    put_note(notes, at, 1, global.0, s + 1);
+    put_note(notes, at, Note::SolverGranted(global, solver));
     let counts = c.grant(sg, gs, global, solver);
     Held {
         counts,

@@ -1,6 +1,7 @@
 -- A change of mode: C between Sample and Witness; C and U from Hide; U(g,-), and D if unused, to Hide.
 use Prim.Native.Nat.{ℕ, _+_, _*_, _/_, _-_, _≤_, _<_, _^_}
 use mathlib.Core.Path.{_≡_, sym, ap, _∙_, subst}
+use mathlib.Core.Bool.{Bool, true, false}
 use mathlib.Core.List.{List, [], _∷_}
 use native.Mathlib.Omega.{arith}
 use lib.Dec.{eqb}
@@ -20,7 +21,7 @@ use Rattle.scope.proofs.ModeLaws.{next-user-below}
 use Rattle.deletion.specs.Leaving.{Leaves, Room, Live}
 use Rattle.deletion.proofs.LeavingLaws.{leaves-then}
 use Rattle.deletion.proofs.DeletionLaws.{record-read}
-use Rattle.modes.specs.Asks.{Taken, There, Shows, Hides, Changes}
+use Rattle.modes.specs.Asks.{AllMapped, There, Shows, Hides, Changes}
 use Rattle.modes.proofs.NotesLaws.{there-live}
 
 -- the record with another mode, as the code reads it
@@ -34,6 +35,11 @@ module _ (t : Table) (g : ℕ) (h : There t g) where
   mode-read : (m : ℕ) → set (t .records) g (getD (t .records) g 0 / 3 * 3 + m) ≡ set (t .records) g (withMode (recordOf t g) m)
   mode-read m = ap (λ (r : ℕ). set (t .records) g (withMode r m)) (record-read t g (there-live t g h .words))
 
+-- the last word of C fits
+pub yes-fits : (yes : Bool) → pick yes 1 0 < 2 ^ 32
+yes-fits true = omega arith
+yes-fits false = omega arith
+
 -- ---- C
 
 module _ (t : Table) (g m : ℕ) where
@@ -41,13 +47,13 @@ module _ (t : Table) (g m : ℕ) where
   unfolding change
   change-room at room r = let a = r .words in omega arith
 
-  pub change-leaves : Changes t g m → (at sample : ℕ) (words words2 : List ℕ) → sample ≡ pick (eqb m 0) 1 0 → words2 ≡ sets words at (3 ∷ g ∷ sample ∷ [])
+  pub change-leaves : Changes t g m → (at : ℕ) (words words2 : List ℕ) → words2 ≡ sets words at (3 ∷ g ∷ pick (eqb m 0) 1 0 ∷ [])
       → Leaves (change g m t) at (at + 3)
       (tableOf (t .counts) (t .globalFromUser) (t .userFromGlobal) (t .solverFromGlobal) (t .globalFromSolver) (t .assignment) (set (t .records) g (getD (t .records) g 0 / 3 * 3 + m))) words words2
   unfolding change putRecord notesWords
-  change-leaves h at sample words words2 s q = record {
+  change-leaves h at words words2 q = record {
     table = ap (λ (l : List ℕ). tableOf (t .counts) (t .globalFromUser) (t .userFromGlobal) (t .solverFromGlobal) (t .globalFromSolver) (t .assignment) l) (mode-read t g (h .there) m);
-    noted = q ∙ ap (λ (x : ℕ). sets words at (3 ∷ g ∷ x ∷ [])) s;
+    noted = q;
     moved = omega arith;
   }
 
@@ -58,8 +64,8 @@ module _ (t : Table) (g m : ℕ) where
   unfolding show
   show-room at room r = let a = r .words in omega arith
 
-  pub show-next : (from : ℕ) → Shows t g m from → (t .counts .user ≤ length (t .globalFromUser)) × Taken (t .globalFromUser) (t .counts .user) from
-  show-next from h = let z = h .there .sound .sizes in (omega arith, h .taken)
+  pub show-next : (from : ℕ) → Shows t g m from → (t .counts .user ≤ length (t .globalFromUser)) × AllMapped (t .globalFromUser) (t .counts .user) from
+  show-next from h = let z = h .there .sound .sizes in (omega arith, h .mapped)
 
   module _ (from : ℕ) (h : Shows t g m from) (u : ℕ) (e : u ≡ leastFree (t .globalFromUser) (t .counts .user)) where
     pub show-user : u ≡ nextUser t
@@ -67,7 +73,7 @@ module _ (t : Table) (g m : ℕ) where
     show-user = e
 
     -- user indices never run out first
-    pub show-asks : (u < length (t .globalFromUser)) × ((g < length (t .userFromGlobal)) × ((u < 4096) × (g < 4096)))
+    pub show-asks : (u < length (t .globalFromUser)) × ((g < length (t .userFromGlobal)) × ((u < t .counts .capacity) × (g < t .counts .capacity)))
     show-asks =
         let w = h .there in
         let z = w .sound .sizes in
@@ -81,15 +87,14 @@ module _ (t : Table) (g m : ℕ) where
       unfolding giveUser
       shown-is = λ i. tableOf (p .0 i) (p .1 .0 i) (p .1 .1 i) (t .solverFromGlobal) (t .globalFromSolver) (t .assignment) (mode-read t g (h .there) m i)
 
-      pub show-leaves : (at sample : ℕ) (words words2 words3 : List ℕ) → sample ≡ pick (eqb m 0) 1 0 → words2 ≡ sets words at (3 ∷ g ∷ sample ∷ []) → words3 ≡ sets words2 (at + 3) (0 ∷ g ∷ (u + 1) ∷ [])
+      pub show-leaves : (at : ℕ) (words words2 words3 : List ℕ) → words2 ≡ sets words at (3 ∷ g ∷ pick (eqb m 0) 1 0 ∷ []) → words3 ≡ sets words2 (at + 3) (0 ∷ g ∷ (u + 1) ∷ [])
           → Leaves (show g m t) at (at + 6) (tableOf d gu ug (t .solverFromGlobal) (t .globalFromSolver) (t .assignment) (set (t .records) g (getD (t .records) g 0 / 3 * 3 + m))) words words3
       unfolding show notesWords
-      show-leaves at sample words words2 words3 s q r = record {
+      show-leaves at words words2 words3 q r = record {
         table = shown-is ∙ ap (λ (v : ℕ). giveUser g v (withMode (recordOf t g) m) t) show-user;
         noted = r
             ∙ ap (λ (l : List ℕ). sets l (at + 3) (0 ∷ g ∷ (u + 1) ∷ [])) q
-            ∙ sym (sets-append (3 ∷ g ∷ sample ∷ []) (0 ∷ g ∷ (u + 1) ∷ []) words at)
-            ∙ ap (λ (x : ℕ). sets words at (3 ∷ g ∷ x ∷ 0 ∷ g ∷ (u + 1) ∷ [])) s
+            ∙ sym (sets-append (3 ∷ g ∷ pick (eqb m 0) 1 0 ∷ []) (0 ∷ g ∷ (u + 1) ∷ []) words at)
             ∙ ap (λ (v : ℕ). sets words at (3 ∷ g ∷ pick (eqb m 0) 1 0 ∷ 0 ∷ g ∷ (v + 1) ∷ [])) show-user;
         moved = omega arith;
       }

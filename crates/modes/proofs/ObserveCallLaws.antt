@@ -24,10 +24,10 @@ use Rattle.scope.proofs.ModeLaws.{Observed as Seen, observe-passed}
 use Rattle.deletion.specs.Leaving.{Leaves, Room}
 use Rattle.deletion.proofs.LeavingLaws.{leaves-length, turns-none, turns-more, turns-room}
 use Rattle.deletion.proofs.CallLaws.{call-refused, call-accepted, refused-words, accepted-words}
-use Rattle.modes.specs.Asks.{Taken, Filled, Observes, ObservesAll}
+use Rattle.modes.specs.Asks.{AllMapped, Filled, Observes, ObservesAll}
 use Rattle.modes.specs.declared.Observed.the-variants.{Done, Refused}
 use Rattle.modes.specs.Answers.{observed}
-use Rattle.modes.proofs.CursorLaws.{taken-none}
+use Rattle.inner.proofs.CursorLaws.{passed-none}
 use Rattle.modes.proofs.HiddenLaws.{fine, hiddenAt}
 use Rattle.modes.proofs.ObserveLaws.{observe-count, filled-none, filled-more, values-up, values-more}
 
@@ -69,11 +69,11 @@ module _ (t : Table) (outs room : ℕ) where
 pub record Observing (t : Table) (g from n at : ℕ) (left : Table) (users users2 words words2 : List ℕ) : Type 0 where
   pub leaves : Leaves (each g observeOne t) 0 at left words words2
   pub filled : Filled (each g observeOne t) 0 n users users2
-  pub taken : Taken (left .globalFromUser) (left .counts .user) from
+  pub mapped : AllMapped (left .globalFromUser) (left .counts .user) from
 
 pub observing-none : (t : Table) (users words : List ℕ) → Observing t 0 0 0 0 t users users words words
 observing-none t users words =
-    record { leaves = turns-none observeOne t words; filled = filled-none t users; taken = taken-none (t .globalFromUser) (t .counts .user) }
+    record { leaves = turns-none observeOne t words; filled = filled-none t users; mapped = passed-none _ _ }
 
 -- the lengths are as they were
 pub record SameSizes (t left : Table) (users users2 words words2 : List ℕ) : Type 0 where
@@ -85,19 +85,19 @@ pub record SameSizes (t left : Table) (users users2 words words2 : List ℕ) : T
 
 module _ (t : Table) (g from n at : ℕ) (left : Table) (users users2 words words2 : List ℕ) (h : Observing t g from n at left users users2 words words2) where
   pub observing-more : (from2 n2 at2 : ℕ) (left2 : Table) (users3 words3 : List ℕ)
-      → Leaves (observeOne g left) at at2 left2 words2 words3 × (Filled (observeOne g left) n n2 users2 users3 × Taken (left2 .globalFromUser) (left2 .counts .user) from2)
+      → Leaves (observeOne g left) at at2 left2 words2 words3 × (Filled (observeOne g left) n n2 users2 users3 × AllMapped (left2 .globalFromUser) (left2 .counts .user) from2)
       → Observing t (g + 1) from2 n2 at2 left2 users users3 words words3
   observing-more from2 n2 at2 left2 users3 words3 k = record {
     leaves = turns-more g observeOne t at at2 left left2 words words2 words3 (h .leaves) (k .0);
     filled = filled-more t g n n2 left users users2 users3 (h .leaves .table) (h .filled) (k .1 .0);
-    taken = k .1 .1;
+    mapped = k .1 .1;
   }
 
   module _ (outs room : ℕ) (a : ObservesAll t outs room) where
     pub observing-asks : outs ≡ length users → room ≡ length words → g < t .counts .global → Observes left g from n (length users2) × Room (observeOne g left) at (length words2)
     unfolding observe
     observing-asks eo er l = (
-      record { sound = subst (λ (s : Table). Sound s) (sym (h .leaves .table)) (o .sound); below = below; taken = h .taken; words = room-users },
+      record { sound = subst (λ (s : Table). Sound s) (sym (h .leaves .table)) (o .sound); below = below; mapped = h .mapped; words = room-users },
       turns-room g (t .counts .global) observeOne t at left words words2 (record { words = let w = a .words in omega arith }) l (h .leaves),
     )
       where

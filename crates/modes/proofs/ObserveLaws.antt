@@ -22,8 +22,8 @@ use Rattle.scope.proofs.ModeLaws.{hidden-of, next-user-below, observe-passed}
 use Rattle.deletion.specs.Leaving.{Leaves, Room}
 use Rattle.deletion.proofs.LeavingLaws.{leaves-stay}
 use Rattle.deletion.proofs.DeletionLaws.{record-read}
-use Rattle.modes.specs.Asks.{Taken, There, Shows, Filled, Observes}
-use Rattle.modes.proofs.CursorLaws.{taken-more}
+use Rattle.modes.specs.Asks.{AllMapped, There, Shows, Filled, Observes}
+use Rattle.modes.proofs.CursorLaws.{mapped-more}
 use Rattle.modes.proofs.HiddenLaws.{one, hiddenAt, count-next}
 
 -- ---- how many
@@ -111,10 +111,10 @@ module _ (t : Table) (g from n outs : ℕ) (h : Observes t g from n outs) where
     unfolding observeOne
     stays q = choose-else _ _ _ (hidden-is ∙ q)
 
-    pub one-stays : b ≡ false → (at : ℕ) (words users : List ℕ) → Leaves (observeOne g t) at at t words words × (Filled (observeOne g t) n n users users × Taken (t .globalFromUser) (t .counts .user) from)
+    pub one-stays : b ≡ false → (at : ℕ) (words users : List ℕ) → Leaves (observeOne g t) at at t words words × (Filled (observeOne g t) n n users users × AllMapped (t .globalFromUser) (t .counts .user) from)
     one-stays q at words users = (
       subst (λ (x : Result (List ℕ)). Leaves x at at t words words) (sym (stays q)) (leaves-stay t at words),
-      (subst (λ (x : Result (List ℕ)). Filled x n n users users) (sym (stays q)) (record { values = refl; moved = omega arith }), h .taken),
+      (subst (λ (x : Result (List ℕ)). Filled x n n users users) (sym (stays q)) (record { values = refl; moved = omega arith }), h .mapped),
     )
 
     module _ (q : b ≡ true) where
@@ -127,7 +127,7 @@ module _ (t : Table) (g from n outs : ℕ) (h : Observes t g from n outs) where
 
       pub one-asks : (at room : ℕ) → Room (observeOne g t) at room → Shows t g 1 from × Room (show g 1 t) at room
       one-asks at room r = (
-        record { there = there; hidden = hidden-of (recordOf t g) (hidden-is ∙ q) .1; mode = omega arith; taken = h .taken },
+        record { there = there; hidden = hidden-of (recordOf t g) (hidden-is ∙ q) .1; mode = omega arith; mapped = h .mapped },
         subst (λ (x : Result (List ℕ)). Room x at room) shows r,
       )
 
@@ -145,12 +145,12 @@ module _ (t : Table) (g from n outs : ℕ) (h : Observes t g from n outs) where
       pub one-fits : (u : ℕ) → u ≡ nextUser t → u + 1 < 2 ^ 32
       one-fits u p = let l = next-small in omega arith
 
-      after-taken : (u : ℕ) (left : Table) → u ≡ nextUser t → left ≡ show g 1 t .table → Taken (left .globalFromUser) (left .counts .user) (u + 1)
+      after-mapped : (u : ℕ) (left : Table) → u ≡ nextUser t → left ≡ show g 1 t .table → AllMapped (left .globalFromUser) (left .counts .user) (u + 1)
       unfolding show giveUser nextUser
-      after-taken u left p k =
-          subst (λ (s : Table). Taken (s .globalFromUser) (s .counts .user) (u + 1)) (sym k)
-          (subst (λ (v : ℕ). Taken (set (t .globalFromUser) v (g + 1)) (max (t .counts .user) (v + 1)) (u + 1)) p
-          (taken-more (t .globalFromUser) (t .counts .user) u g p (small u p)))
+      after-mapped u left p k =
+          subst (λ (s : Table). AllMapped (s .globalFromUser) (s .counts .user) (u + 1)) (sym k)
+          (subst (λ (v : ℕ). AllMapped (set (t .globalFromUser) v (g + 1)) (max (t .counts .user) (v + 1)) (u + 1)) p
+          (mapped-more (t .globalFromUser) (t .counts .user) u g p (small u p)))
         where
           small : (u : ℕ) → u ≡ leastFree (t .globalFromUser) (t .counts .user) → u < length (t .globalFromUser)
           small u p =
@@ -159,13 +159,13 @@ module _ (t : Table) (g from n outs : ℕ) (h : Observes t g from n outs) where
               omega arith
 
       pub one-shows : (at next u : ℕ) (left : Table) (words words2 users : List ℕ) → Leaves (show g 1 t) at next left words words2 → u ≡ nextUser t
-          → Leaves (observeOne g t) at next left words words2 × (Filled (observeOne g t) n (n + 1) users (set users n u) × Taken (left .globalFromUser) (left .counts .user) (u + 1))
+          → Leaves (observeOne g t) at next left words words2 × (Filled (observeOne g t) n (n + 1) users (set users n u) × AllMapped (left .globalFromUser) (left .counts .user) (u + 1))
       unfolding show
       one-shows at next u left words words2 users k p = (
         subst (λ (x : Result (List ℕ)). Leaves x at next left words words2) (sym shows) k,
         (
           subst (λ (x : Result (List ℕ)). Filled x n (n + 1) users (set users n u)) (sym shows)
               (record { values = ap (λ (v : ℕ). set users n v) p; moved = refl }),
-          after-taken u left p (k .table),
+          after-mapped u left p (k .table),
         ),
       )

@@ -23,6 +23,7 @@ use Rattle.deletion.specs.Leaving.{Leaves, Room}
 use Rattle.deletion.proofs.LeavingLaws.{leaves-stay}
 use Rattle.deletion.proofs.CallLaws.{call-refused, call-accepted, call-noted}
 use Rattle.deletion.proofs.DeletionLaws.{record-read}
+use Rattle.inner.proofs.CursorLaws.{passed-none}
 use Rattle.modes.specs.Asks.{There, Shows, Hides, Changes, Sets}
 use Rattle.modes.specs.Counting.{modeNotes}
 use Rattle.modes.specs.declared.ModeSet.the-variants.{Done, Shown, Refused}
@@ -172,7 +173,7 @@ module _ (t : Table) (g m room : ℕ) (h : Sets t g m room) where
 
         pub show-asks : Shows t g m 0 × Room (show g m t) 0 room
         show-asks = (
-          record { there = h .there; hidden = sym old-mode ∙ e; mode = let l = h .mode in omega arith; taken = record { within = omega arith; before = λ i l. absurd (omega arith) } },
+          record { there = h .there; hidden = sym old-mode ∙ e; mode = let l = h .mode in omega arith; mapped = passed-none _ _ },
           room-of (show g m t) show-is,
         )
 

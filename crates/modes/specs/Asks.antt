@@ -3,17 +3,18 @@ use Prim.Native.Nat.{ℕ, _+_, _*_, _≤_, _<_}
 use mathlib.Core.Path.{_≡_}
 use mathlib.Core.List.{List}
 use mathlib.Core.Logic.{_≢_}
+use lib.Dec.{eqb}
 use lib.ListN.{length, getD}
 use lib.Seq.{sets}
 use Rattle.scope.specs.Table.{Table, modeOf, recordOf}
 use Rattle.scope.specs.Sound.{Sound}
 use Rattle.scope.specs.Outcome.{Result}
 use Rattle.scope.specs.Modes.{setMode, observeOne, observe}
+use Rattle.inner.specs.Cursor.{Passed}
 
 -- Below the place `from`, which is at most the watermark, every index is mapped.
-pub record Taken (xs : List ℕ) (mark from : ℕ) : Type 0 where
-  pub within : from ≤ mark
-  pub before : (k : ℕ) → k < from → getD xs k 0 ≢ 0
+abbrev pub AllMapped : List ℕ → ℕ → ℕ → Type 0
+AllMapped xs mark from = Passed (λ i. eqb (getD xs i 0) 0) mark from
 
 -- A sound table with an undeleted global.
 pub record There (t : Table) (g : ℕ) : Type 0 where
@@ -25,7 +26,7 @@ pub record Shows (t : Table) (g m from : ℕ) : Type 0 where
   pub there : There t g
   pub hidden : modeOf (recordOf t g) ≡ 2
   pub mode : m < 2
-  pub taken : Taken (t .globalFromUser) (t .counts .user) from
+  pub mapped : AllMapped (t .globalFromUser) (t .counts .user) from
 
 -- The global is not hidden.
 pub record Hides (t : Table) (g : ℕ) : Type 0 where
@@ -53,7 +54,7 @@ pub record Filled (x : Result (List ℕ)) (n next : ℕ) (words words' : List �
 pub record Observes (t : Table) (g from n outs : ℕ) : Type 0 where
   pub sound : Sound t
   pub below : g < t .counts .global
-  pub taken : Taken (t .globalFromUser) (t .counts .user) from
+  pub mapped : AllMapped (t .globalFromUser) (t .counts .user) from
   pub words : n + length (observeOne g t .value) ≤ outs
 
 -- A sound table, with room for the users and for the notes.

@@ -1,8 +1,10 @@
 // Set mode and Observe. How the contracts read: crates/scope/specs/Contract.antt, and inside a call crates/deletion/specs/Leaving.antt.
 use deletion::Passed;
 use deletion::delete_global_if_unused;
+use inner::least_free;
 use scope::Counts;
 use scope::Global;
+use scope::Note;
 use scope::SamplingMode;
 use scope::User;
 use table::is_sound;
@@ -18,10 +20,10 @@ ghost use Rattle.base.specs.Lent.{old, new, Fills};
 ghost use Rattle.scope.specs.Contract.{given, before, after, lent, Does, Meets};
 ghost use Rattle.scope.specs.Table.{assumedOf};
 ghost use Rattle.scope.specs.Outcome.{noting};
-ghost use Rattle.scope.specs.Map.{leastFree, nextUser};
+ghost use Rattle.scope.specs.Map.{nextUser};
 ghost use Rattle.scope.specs.Modes.{modeNumber, show, hide, change, setMode, setModeRefusal, setModeOf, isHidden, observeOne, observe, observeRefusal, observeOf};
 ghost use Rattle.deletion.specs.Leaving.{Leaves, Room};
-ghost use Rattle.modes.specs.Asks.{Taken, Shows, Changes, Hides, Sets, Filled, Observes, ObservesAll};
+ghost use Rattle.modes.specs.Asks.{AllMapped, Shows, Changes, Hides, Sets, Filled, Observes, ObservesAll};
 ghost use Rattle.modes.specs.Counting.{modeNotes};
 ghost use Rattle.modes.specs.Answers.{modeSet, observed};
 
@@ -55,32 +57,6 @@ fn mode_number(mode: SamplingMode) -> u32
     }
 }
 
-// The last word of C: 1 for yes, which is Sample.
-fn sample_word(m: u32) -> u32
-    ensures { λ r. ⌜ r ≡ pick (eqb m 0) 1 0 ⌝ }
-{
-    if m == 0 {
-        return 1;
-    }
-    0
-}
-
-// The least unmapped user index; those below `from` are mapped.
-fn next_user(gu: &[u32], mark: u32, from: u32) -> u32
-    requires { ⌜ mark ≤ length (now gu) ⌝ }
-    requires { ⌜ Taken (now gu) mark from ⌝ }
-    ensures { λ r. ⌜ r ≡ leastFree (old gu) mark ⌝ }
-{
-    let mut i = from;
-    while i < mark {
-        if gu[i as usize] == 0 {
-            return i;
-        }
-        i += 1;
-    }
-    i
-}
-
 // From Hide to mode m: C, then U with the least unmapped user index.
 fn show(
     c: Counts,
@@ -105,14 +81,12 @@ fn show(
     let g = global.0 as usize;
     let next = at + 3;
     let past = at + 6;
-    let sample = sample_word(m);
     let w = records[g];
     records[g] = w / 3 * 3 + m;
-    let u = next_user(gu, c.user, from);
-    let user = User(u);
+    let user = User(least_free(gu, c.user, from));
     let counts = c.map(gu, ug, user, global);
-    put_note(notes, at, 3, global.0, sample);
-    put_note(notes, next, 0, global.0, u + 1);
+    put_note(notes, at, Note::ModeChanged(global, m == 0));
+    put_note(notes, next, Note::UserGranted(global, user));
     Granted {
         counts,
         user,
@@ -144,8 +118,8 @@ fn hide(
     let w = records[g];
     records[g] = w / 3 * 3 + 2;
     let counts = c.unmap(gu, ug, user, global);
-    put_note(notes, at, 0, global.0, 0);
-    let past = delete_global_if_unused(
+    put_note(notes, at, Note::UserWithdrawn(global));
+    delete_global_if_unused(
         counts,
         gu,
         ug,
@@ -156,8 +130,7 @@ fn hide(
         global,
         next,
         notes,
-    );
-    Passed { counts, at: past }
+    )
 }
 
 // Between Sample and Witness: C.
@@ -181,10 +154,9 @@ fn change(
 {
     let g = global.0 as usize;
     let next = at + 3;
-    let sample = sample_word(m);
     let w = records[g];
     records[g] = w / 3 * 3 + m;
-    put_note(notes, at, 3, global.0, sample);
+    put_note(notes, at, Note::ModeChanged(global, m == 0));
     Passed {
         counts: c,
         at: next,
@@ -433,7 +405,7 @@ fn observe_one(
     ensures { λ r. ⌜ Leaves (observeOne (global .0) (before c gu ug sg gs assignment records)) at (r .at)
         (after (r .counts) gu ug sg gs assignment records) (old notes) (new notes) ⌝ }
     ensures { λ r. ⌜ Filled (observeOne (global .0) (before c gu ug sg gs assignment records)) filled (r .filled) (old users) (new users) ⌝ }
-    ensures { λ r. ⌜ Taken (new gu) (r .counts .user) (r .from) ⌝ }
+    ensures { λ r. ⌜ AllMapped (new gu) (r .counts .user) (r .from) ⌝ }
 {
     if !is_hidden(records[global.0 as usize]) {
         return Seen {

@@ -13,12 +13,11 @@ use Rattle.base.specs.Bounded.{least, count}
 use Rattle.base.proofs.Truth.{same}
 use Rattle.base.proofs.CountLaws.{count-up, count-stay}
 use Rattle.base.proofs.MemberLaws.{getD-default}
-use Rattle.scope.specs.declared.Counts.{Counts}
-use Rattle.scope.specs.Table.{modeOf, coverUser}
+use Rattle.scope.specs.Table.{modeOf}
 use Rattle.scope.proofs.ResultLaws.{word-none, word-some}
 use Rattle.inner.specs.Cursor.{Passed}
 use Rattle.inner.proofs.CursorLaws.{passed-more, passed-found, passed-end, passed-least, passed-kept}
-use Rattle.naming.specs.Maps.{free, alive, freeFor, isUnsampled, Inside, marks}
+use Rattle.naming.specs.Maps.{free, alive, freeFor, isUnsampled, Inside}
 
 -- ---- the least deleted global
 
@@ -58,10 +57,6 @@ taken-passed records mark mark′ g from b m h =
     (λ (e : k ≡ g). rw (e, getD-set-same records g 9 47 b))
     (λ (e : k ≡ g → ⊥). rw (getD-set-other records g k 9 47 e) n)
     (same k g))
-
--- the counts after it, as numbers
-pub marks-cover : (c d : Counts) (u g : ℕ) → d ≡ coverUser c u g → marks (c .capacity) (d .user) (d .global) (c .solver) ≡ coverUser c u g
-marks-cover c d u g e = ap (λ (k : Counts). marks (c .capacity) (k .user) (k .global) (c .solver)) e
 
 -- ---- the counts of a refusal
 

@@ -172,10 +172,10 @@ OneAsks s u from at room =
     × ((Passed (free (s .records)) (s .counts .global) from)
     × ((u < length (s .globalFromUser))
     × ((u < length (s .records))
-    × ((u < 4096)
+    × ((u < s .counts .capacity)
     × ((g < length (s .userFromGlobal))
     × ((g < length (s .records))
-    × ((g < 4096)
+    × ((g < s .counts .capacity)
     × (at + 3 ≤ room))))))))
 
 -- and what it leaves

@@ -48,9 +48,6 @@ pub record MapAsks (t : Table) (u at room : ℕ) : Type 0 where
 
 -- ---- the inner mapping reads and writes only the maps of users and the records
 
-abbrev pub marks : ℕ → ℕ → ℕ → ℕ → Counts
-marks capacity users globals solvers = record { capacity = capacity; user = users; global = globals; solver = solvers }
-
 -- the lists that it leaves alone
 pub record Solvers : Type 0 where
   pub solverFromGlobal : List ℕ

@@ -2,6 +2,7 @@
 use inner::least_free;
 use scope::Counts;
 use scope::Global;
+use scope::Note;
 use scope::User;
 use table::FoundGlobal;
 use table::global_of;
@@ -18,7 +19,7 @@ ghost use Rattle.scope.specs.Table.{word, coverUser};
 ghost use Rattle.scope.specs.Map.{mapUser, mapRefusal, mapOf, newUserRefusal, newUserOf};
 ghost use Rattle.inner.specs.Cursor.{Passed};
 ghost use Rattle.inner.specs.Leaves.{Leaves};
-ghost use Rattle.naming.specs.Maps.{free, alive, freeFor, isUnsampled, Inside, marks, MapAsks, UpAsks, UpLeaves, userMapped, newUserMapped};
+ghost use Rattle.naming.specs.Maps.{free, alive, freeFor, isUnsampled, Inside, MapAsks, UpAsks, UpLeaves, userMapped, newUserMapped};
 
 // A global and the cursor of free globals after its search.
 pub struct Taken {
@@ -26,16 +27,7 @@ pub struct Taken {
     pub from: u32,
 }
 
-// A user's global, with the watermarks of users and globals, the cursor of free globals and the place in the notes after it.
-pub struct Reached {
-    pub users: u32,
-    pub globals: u32,
-    pub global: Global,
-    pub from: u32,
-    pub at: usize,
-}
-
-// The same with all counts.
+// A user's global, with the counts, the cursor of free globals and the place in the notes after it.
 pub struct Mapped {
     pub counts: Counts,
     pub global: Global,
@@ -103,18 +95,18 @@ fn map_one(
     from: u32,
     at: usize,
     notes: &mut [u32],
-) -> Reached
+) -> Mapped
     requires { ⌜ c .global ≤ length (now records) ⌝ }
     requires { ⌜ Passed (free (now records)) (c .global) from ⌝ }
     requires { ⌜ user .0 < length (now gu) ⌝ }
     requires { ⌜ user .0 < length (now records) ⌝ }
-    requires { ⌜ user .0 < 4096 ⌝ }
+    requires { ⌜ user .0 < c .capacity ⌝ }
     requires { let g = freeFor (now records) (c .global) (user .0) in
-        ⌜ g < length (now ug) ⌝ ∗ ⌜ g < length (now records) ⌝ ∗ ⌜ g < 4096 ⌝ }
+        ⌜ g < length (now ug) ⌝ ∗ ⌜ g < length (now records) ⌝ ∗ ⌜ g < c .capacity ⌝ }
     requires { ⌜ at + 3 ≤ length (now notes) ⌝ }
     ensures { λ r. let g = freeFor (old records) (c .global) (user .0) in
         ⌜ r .global .0 ≡ g ⌝
-        ∗ ⌜ marks (c .capacity) (r .users) (r .globals) (c .solver) ≡ coverUser c (user .0) g ⌝
+        ∗ ⌜ r .counts ≡ coverUser c (user .0) g ⌝
         ∗ ⌜ Passed (free (old records)) (c .global) (r .from) ⌝
         ∗ ⌜ r .at ≡ at + 3 ⌝ }
     ensures { λ _. let g = freeFor (old records) (c .global) (user .0) in
@@ -125,27 +117,22 @@ fn map_one(
 {
     let t = global_for(records, c.global, user, from);
     let global = t.global;
-    let g = global.0;
     let next = at + 3;
-    records[g as usize] = 9;
-    put_note(notes, at, 0, g, user.0 + 1);
+    records[global.0 as usize] = 9;
+    put_note(notes, at, Note::UserGranted(global, user));
     let counts = c.map(gu, ug, user, global);
-    Reached {
-        users: counts.user,
-        globals: counts.global,
+    Mapped {
+        counts,
         global,
         from: t.from,
         at: next,
     }
 }
 
-// The global of a user: the one it has, else, after the gap below it, a free one, searched from the cursor on. The counts are plain numbers
-// here, so that a turn of the loop hands them on in registers.
+// The global of a user: the one it has, else, after the gap below it, a free one, searched from the cursor on. The counts go through each
+// turn by value and come back new.
 fn map_up(
-    capacity: u32,
-    users: u32,
-    globals: u32,
-    solvers: u32,
+    c: Counts,
     gu: &mut [u32],
     ug: &mut [u32],
     records: &mut [u32],
@@ -153,39 +140,30 @@ fn map_up(
     from: u32,
     at: usize,
     notes: &mut [u32],
-) -> Reached
-    requires { ⌜ UpAsks (marks capacity users globals solvers) (now gu) (now ug) (now records) (user .0) at (length (now notes)) ⌝ }
-    requires { ⌜ Passed (free (now records)) globals from ⌝ }
-    ensures { λ r. ⌜ UpLeaves (marks capacity users globals solvers) (old gu) (old ug) (old records) (user .0) at (r .global .0) (r .at)
-        (marks capacity (r .users) (r .globals) solvers) (new gu) (new ug) (new records) (old notes) (new notes) ⌝ }
-    ensures { λ r. ⌜ Passed (free (new records)) (r .globals) (r .from) ⌝ }
+) -> Mapped
+    requires { ⌜ UpAsks c (now gu) (now ug) (now records) (user .0) at (length (now notes)) ⌝ }
+    requires { ⌜ Passed (free (now records)) (c .global) from ⌝ }
+    ensures { λ r. ⌜ UpLeaves c (old gu) (old ug) (old records) (user .0) at (r .global .0) (r .at)
+        (r .counts) (new gu) (new ug) (new records) (old notes) (new notes) ⌝ }
+    ensures { λ r. ⌜ Passed (free (new records)) (r .counts .global) (r .from) ⌝ }
 {
-    let mut m = users;
-    let mut n = globals;
+    let mut cur = c;
     let mut k = from;
     let mut next = at;
-    let mut i = users;
+    let mut i = c.user;
     while i < user.0 {
         let v = User(i);
-        let r = map_up(capacity, m, n, solvers, gu, ug, records, v, k, next, notes);
-        m = r.users;
-        n = r.globals;
-        k = r.from;
-        next = r.at;
+        let m = map_up(cur, gu, ug, records, v, k, next, notes);
+        cur = m.counts;
+        k = m.from;
+        next = m.at;
         i += 1;
     }
     let FoundGlobal::At(global) = global_of(gu, user) else {
-        let c = Counts {
-            capacity,
-            user: m,
-            global: n,
-            solver: solvers,
-        };
-        return map_one(c, gu, ug, records, user, k, next, notes);
+        return map_one(cur, gu, ug, records, user, k, next, notes);
     };
-    Reached {
-        users: m,
-        globals: n,
+    Mapped {
+        counts: cur,
         global,
         from: k,
         at: next,
@@ -212,32 +190,7 @@ pub fn map_user(
         (after (r .counts) gu ug sg gs assignment records) (old notes) (new notes) ⌝ }
     ensures { λ r. ⌜ Passed (free (new records)) (r .counts .global) (r .from) ⌝ }
 {
-    let r = map_up(
-        c.capacity,
-        c.user,
-        c.global,
-        c.solver,
-        gu,
-        ug,
-        records,
-        user,
-        from,
-        at,
-        notes,
-    );
-    let global = r.global;
-    let counts = Counts {
-        capacity: c.capacity,
-        user: r.users,
-        global: r.globals,
-        solver: c.solver,
-    };
-    Mapped {
-        counts,
-        global,
-        from: r.from,
-        at: r.at,
-    }
+    map_up(c, gu, ug, records, user, from, at, notes)
 }
 
 // How many globals are not deleted.

@@ -3,6 +3,7 @@ use deletion::Passed;
 use deletion::delete_global_if_unused;
 use scope::Counts;
 use scope::Global;
+use scope::Note;
 use scope::Solver;
 use table::FoundGlobal;
 use table::holder;
@@ -49,8 +50,8 @@ fn remove_held(
 {
     let next = at + 3;
     let counts = c.remove(sg, gs, global, solver);
-    put_note(notes, at, 1, global.0, 0);
-    let past = delete_global_if_unused(
+    put_note(notes, at, Note::SolverWithdrawn(global));
+    delete_global_if_unused(
         counts,
         gu,
         ug,
@@ -61,8 +62,7 @@ fn remove_held(
         global,
         next,
         notes,
-    );
-    Passed { counts, at: past }
+    )
 }
 
 // How many notes a removal makes, by the user word and the record of the global.

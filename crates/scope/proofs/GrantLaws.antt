@@ -76,7 +76,7 @@ grant-one-granted t g p h e =
     record {
       good = r;
       sound = reach-sound r p;
-      same = record { capacity = refl; user = refl; global = refl; globalFromUser = refl; userFromGlobal = refl; records = refl };
+      same = record { capacity = refl; user = refl; global = omega arith; globalFromUser = refl; userFromGlobal = refl; records = refl };
       holds = getD-set-same (t .globalFromSolver) (nextSolver t) (g + 1) 0 (omega arith);
       has = getD-set-same (t .solverFromGlobal) g (nextSolver t + 1) 0 (omega arith);
       below = m;

@@ -174,10 +174,10 @@ give-solver-sound t g s p l =
     let ha : s < length (t .assignment) = rw (z .assignment) (omega arith) in
     record {
       sizes = omega (arith, length-set (t .solverFromGlobal) g (s + 1), length-set (t .globalFromSolver) s (g + 1), length-set (t .assignment) s (unitOf (recordOf t g)));
-      user = p .user;
-      solver = pair-link (max (t .counts .solver) (s + 1)) (t .counts .global) s g (p .solver) hs hg (l .noGlobal) (l .noSolver) (omega arith) (omega arith) (omega arith) gg;
+      user = pair-grow (max (t .counts .global) (g + 1)) (p .user) (omega arith);
+      solver = pair-link (max (t .counts .solver) (s + 1)) (max (t .counts .global) (g + 1)) s g (p .solver) hs hg (l .noGlobal) (l .noSolver) (omega arith) (omega arith) (omega arith) (omega arith);
       rows =
-          rows-at (t .counts .global) g (p .rows) (off-same 47 g (t .records)) (off-same 0 g (t .userFromGlobal)) (off-set 0 g (s + 1) (t .solverFromGlobal)) (omega arith) gg
+          rows-at (max (t .counts .global) (g + 1)) g (p .rows) (off-same 47 g (t .records)) (off-same 0 g (t .userFromGlobal)) (off-set 0 g (s + 1) (t .solverFromGlobal)) (omega arith) (omega arith)
           (row-solver (recordOf t g) (getD (t .userFromGlobal) g 0) (getD (t .solverFromGlobal) g 0) (getD (set (t .solverFromGlobal) g (s + 1)) g 0) (l .undeleted) (p .rows .row g));
       values = values-put (max (t .counts .solver) (s + 1)) s (unitOf (recordOf t g)) (p .values) ha (omega arith) (omega arith) (omega arith);
     }

@@ -80,8 +80,8 @@ recordOf t g = getD (t .records) g freshRecord
 abbrev pub coverUser : Counts → ℕ → ℕ → Counts
 coverUser c u g = record { capacity = c .capacity; user = max (c .user) (u + 1); global = max (c .global) (g + 1); solver = c .solver }
 
-abbrev pub coverSolver : Counts → ℕ → Counts
-coverSolver c s = record { capacity = c .capacity; user = c .user; global = c .global; solver = max (c .solver) (s + 1) }
+abbrev pub coverSolver : Counts → ℕ → ℕ → Counts
+coverSolver c s g = record { capacity = c .capacity; user = c .user; global = max (c .global) (g + 1); solver = max (c .solver) (s + 1) }
 
 -- the user u and the record r go to the global g
 unfoldable pub giveUser : ℕ → ℕ → ℕ → Table → Table
@@ -110,7 +110,7 @@ takeUser g u r t =
 unfoldable pub giveSolver : ℕ → ℕ → Table → Table
 giveSolver g s t =
     tableOf
-    (coverSolver (t .counts) s)
+    (coverSolver (t .counts) s g)
     (t .globalFromUser)
     (t .userFromGlobal)
     (set (t .solverFromGlobal) g (s + 1))

@@ -1,6 +1,6 @@
 // The types of document 01, and how the counts go through a single change. Its definitions are in specs/, their laws in proofs/.
 ghost use mathlib.Core.Path.{_≡_};
-ghost use Prim.Native.Nat.{_+_, _≤_, _<_, max};
+ghost use Prim.Native.Nat.{_+_, _^_, _≤_, _<_, max};
 ghost use lib.ListN.{length, set};
 ghost use Rattle.base.specs.Lent.{old, new};
 ghost use Rattle.scope.specs.Table.{coverUser, coverSolver};
@@ -18,8 +18,8 @@ pub struct Counts {
 fn link(a: &mut [u32], b: &mut [u32], i: u32, j: u32)
     requires { ⌜ i < length (now a) ⌝ }
     requires { ⌜ j < length (now b) ⌝ }
-    requires { ⌜ i < 4096 ⌝ }
-    requires { ⌜ j < 4096 ⌝ }
+    requires { ⌜ i + 1 < 2 ^ 32 ⌝ }
+    requires { ⌜ j + 1 < 2 ^ 32 ⌝ }
     ensures { λ _. ⌜ new a ≡ set (old a) i (j + 1) ⌝ }
     ensures { λ _. ⌜ new b ≡ set (old b) j (i + 1) ⌝ }
 {
@@ -65,34 +65,37 @@ fn index_in(n: Name) -> u32
     }
 }
 
-fn cover_user(c: Counts, u: u32, g: u32) -> Counts
-    requires { ⌜ u < 4096 ⌝ }
-    requires { ⌜ g < 4096 ⌝ }
-    ensures { λ r. ⌜ r ≡ coverUser c u g ⌝ }
+fn cover_user(c: Counts, u: User, g: Global) -> Counts
+    requires { ⌜ u .0 < c .capacity ⌝ }
+    requires { ⌜ g .0 < c .capacity ⌝ }
+    ensures { λ r. ⌜ r ≡ coverUser c (u .0) (g .0) ⌝ }
 {
     let mut next = c;
-    next.user = larger(c.user, u + 1);
-    next.global = larger(c.global, g + 1);
+    next.user = larger(c.user, u.0 + 1);
+    next.global = larger(c.global, g.0 + 1);
     next
 }
 
-fn cover_solver(c: Counts, s: u32) -> Counts
-    requires { ⌜ s < 4096 ⌝ }
-    ensures { λ r. ⌜ r ≡ coverSolver c s ⌝ }
+fn cover_solver(c: Counts, s: Solver, g: Global) -> Counts
+    requires { ⌜ s .0 < c .capacity ⌝ }
+    requires { ⌜ g .0 < c .capacity ⌝ }
+    ensures { λ r. ⌜ r ≡ coverSolver c (s .0) (g .0) ⌝ }
 {
     let mut next = c;
-    next.solver = larger(c.solver, s + 1);
+    next.solver = larger(c.solver, s.0 + 1);
+    next.global = larger(c.global, g.0 + 1);
     next
 }
 
-fn cover(c: Counts, n: Name, g: u32) -> Counts
-    requires { ⌜ indexIn n < 4096 ⌝ }
-    requires { ⌜ g < 4096 ⌝ }
-    ensures { λ r. ⌜ r ≡ coverName n c g ⌝ }
+// The counts that cover a name and its global.
+fn cover(c: Counts, n: Name, g: Global) -> Counts
+    requires { ⌜ indexIn n < c .capacity ⌝ }
+    requires { ⌜ g .0 < c .capacity ⌝ }
+    ensures { λ r. ⌜ r ≡ coverName n c (g .0) ⌝ }
 {
     match n {
-        Name::User(u) => cover_user(c, u.0, g),
-        Name::Solver(s) => cover_solver(c, s.0),
+        Name::User(u) => cover_user(c, u, g),
+        Name::Solver(s) => cover_solver(c, s, g),
     }
 }
 
@@ -102,13 +105,16 @@ fn put_pair(c: Counts, fwd: &mut [u32], bwd: &mut [u32], n: Name, g: Global) -> 
 {
     let i = index_in(n);
     let j = g.0;
-    if !((i < 4096) & (j < 4096) & ((i as usize) < fwd.len()) & ((j as usize) < bwd.len())) {
+    if !((i < c.capacity)
+        & (j < c.capacity)
+        & ((i as usize) < fwd.len())
+        & ((j as usize) < bwd.len())) {
         return Put {
             refusal: 3,
             counts: c,
         };
     }
-    let counts = cover(c, n, j);
+    let counts = cover(c, n, g);
     link(fwd, bwd, i, j);
     Put { refusal: 0, counts }
 }
@@ -139,8 +145,8 @@ impl Counts {
     pub fn map(mut self, gu: &mut [u32], ug: &mut [u32], user: User, global: Global) -> Counts
         requires { ⌜ user .0 < length (now gu) ⌝ }
         requires { ⌜ global .0 < length (now ug) ⌝ }
-        requires { ⌜ user .0 < 4096 ⌝ }
-        requires { ⌜ global .0 < 4096 ⌝ }
+        requires { ⌜ user .0 < self .capacity ⌝ }
+        requires { ⌜ global .0 < self .capacity ⌝ }
         ensures { λ r. ⌜ r ≡ coverUser self (user .0) (global .0) ⌝ }
         ensures { λ _. ⌜ new gu ≡ set (old gu) (user .0) (global .0 + 1) ⌝ }
         ensures { λ _. ⌜ new ug ≡ set (old ug) (global .0) (user .0 + 1) ⌝ }
@@ -166,9 +172,9 @@ impl Counts {
     pub fn grant(mut self, sg: &mut [u32], gs: &mut [u32], global: Global, solver: Solver) -> Counts
         requires { ⌜ global .0 < length (now sg) ⌝ }
         requires { ⌜ solver .0 < length (now gs) ⌝ }
-        requires { ⌜ global .0 < 4096 ⌝ }
-        requires { ⌜ solver .0 < 4096 ⌝ }
-        ensures { λ r. ⌜ r ≡ coverSolver self (solver .0) ⌝ }
+        requires { ⌜ global .0 < self .capacity ⌝ }
+        requires { ⌜ solver .0 < self .capacity ⌝ }
+        ensures { λ r. ⌜ r ≡ coverSolver self (solver .0) (global .0) ⌝ }
         ensures { λ _. ⌜ new sg ≡ set (old sg) (global .0) (solver .0 + 1) ⌝ }
         ensures { λ _. ⌜ new gs ≡ set (old gs) (solver .0) (global .0 + 1) ⌝ }
     {
@@ -221,6 +227,17 @@ pub enum DeleteClauseProof {
     Redundant,
     Satisfied,
     Simplified,
+}
+
+// A note, by the names that it tells of: a user or a solver index granted to a global or withdrawn, a global deleted, its mode changed,
+// with yes for Sample.
+pub enum Note {
+    UserGranted(Global, User),
+    UserWithdrawn(Global),
+    SolverGranted(Global, Solver),
+    SolverWithdrawn(Global),
+    Deleted(Global),
+    ModeChanged(Global, bool),
 }
 
 // The thirteen step kinds. Literals and hashes stand in slices beside the step. The second word of a naming step is the index + 1,

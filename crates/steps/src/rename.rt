@@ -93,6 +93,16 @@ pub fn rename_lit(gs: &[u32], solvervars: bool, code: u32) -> u32
     2 * (w - 1) + code % 2
 }
 
+// A unit, a part of the buffer of literals, under its global name.
+fn rename_unit(gs: &[u32], solvervars: bool, unit: &[u32]) -> u32
+    requires { ⌜ length (now unit) ≡ 1 ⌝ }
+    requires { ⌜ getD (now gs) (getD (now unit) 0 0 / 2) 0 ≤ 4096 ⌝ }
+    requires { ⌜ (solvervars ≡ true → getD (now gs) (getD (now unit) 0 0 / 2) 0 ≢ 0) ⌝ }
+    ensures { λ r. ⌜ r ≡ renameLit (λ s. getD (old gs) s 0) solvervars (getD (old unit) 0 0) ⌝ }
+{
+    rename_lit(gs, solvervars, unit[0])
+}
+
 // Literals of a sound table under global names, from the start of `out`.
 pub fn rename_lits(
     c: Counts,
@@ -113,7 +123,7 @@ pub fn rename_lits(
 {
     let mut i = 0;
     while i < lits.len() {
-        out[i] = rename_lit(gs, solvervars, lits[i]);
+        out[i] = rename_unit(gs, solvervars, &lits[i..i + 1]);
         i += 1;
     }
 }

@@ -1,5 +1,6 @@
 // The tests of one list, or of two, of which soundness is made. Tails are tested first: at or above a watermark the other tests then hold.
-// No loop branches on a word: the time depends on the watermarks and not on what the table holds.
+// No loop stops at a fault, so that most of them are done several words at a time. The time does depend on what the table holds: a test that
+// fails leaves out those after it, and the second map of a pair is read where the words of the first point.
 use scope::Counts;
 ghost use mathlib.Core.Path.{_≡_};
 ghost use mathlib.Core.Bool.{true, _&&_, not};

@@ -8,16 +8,27 @@ use checks::rows_ok;
 use checks::tails_ok;
 use scope::Counts;
 use scope::Global;
+use scope::Note;
 use scope::Solver;
 use scope::User;
 ghost use mathlib.Core.Path.{_≡_};
 ghost use mathlib.Core.List.{_∷_, []};
-ghost use Prim.Native.Nat.{_+_, _≤_};
+ghost use Prim.Native.Nat.{_+_, _^_, _≤_, _<_};
 ghost use lib.ListN.{length, getD};
+ghost use Rattle.base.specs.Choice.{pick};
 ghost use Rattle.base.specs.Lent.{old, Fills};
 ghost use Rattle.scope.specs.Contract.{before};
+ghost use Rattle.scope.specs.Notes.{noteWords};
 ghost use Rattle.scope.specs.Sound.{sizesb, soundb};
 ghost use Rattle.table.specs.Found.{foundUser, foundGlobal, foundSolver};
+ghost use Rattle.table.specs.Noted.{noteOf, lastOf};
+
+// The three words of a note.
+struct NoteWords {
+    kind: u32,
+    global: u32,
+    last: u32,
+}
 
 pub enum FoundUser {
     At(User),
@@ -89,14 +100,61 @@ pub fn holder(gs: &[u32], solver: Solver) -> FoundGlobal
     FoundGlobal::At(Global(w - 1))
 }
 
-// A note: three words from `at` on.
-pub fn put_note(notes: &mut [u32], at: usize, kind: u32, global: u32, last: u32)
-    requires { ⌜ at + 3 ≤ length (now notes) ⌝ }
-    ensures { λ _. ⌜ Fills notes at (kind ∷ global ∷ last ∷ []) ⌝ }
+fn yes_word(yes: bool) -> u32
+    ensures { λ r. ⌜ r ≡ pick yes 1 0 ⌝ }
 {
-    notes[at] = kind;
-    notes[at + 1] = global;
-    notes[at + 2] = last;
+    if yes { 1 } else { 0 }
+}
+
+// The words of a note. The kinds' numbers stand here and nowhere else in the code.
+fn words_of(note: Note) -> NoteWords
+    requires { ⌜ lastOf note < 2 ^ 32 ⌝ }
+    ensures { λ r. ⌜ r .kind ∷ r .global ∷ r .last ∷ [] ≡ noteWords (noteOf note) ⌝ }
+{
+    match note {
+        Note::UserGranted(g, u) => NoteWords {
+            kind: 0,
+            global: g.0,
+            last: u.0 + 1,
+        },
+        Note::UserWithdrawn(g) => NoteWords {
+            kind: 0,
+            global: g.0,
+            last: 0,
+        },
+        Note::SolverGranted(g, s) => NoteWords {
+            kind: 1,
+            global: g.0,
+            last: s.0 + 1,
+        },
+        Note::SolverWithdrawn(g) => NoteWords {
+            kind: 1,
+            global: g.0,
+            last: 0,
+        },
+        Note::Deleted(g) => NoteWords {
+            kind: 2,
+            global: g.0,
+            last: 0,
+        },
+        Note::ModeChanged(g, sample) => NoteWords {
+            kind: 3,
+            global: g.0,
+            last: yes_word(sample),
+        },
+    }
+}
+
+// A note: three words from `at` on.
+pub fn put_note(notes: &mut [u32], at: usize, note: Note)
+    requires { ⌜ at + 3 ≤ length (now notes) ⌝ }
+    requires { ⌜ lastOf note < 2 ^ 32 ⌝ }
+    ensures { λ _. ⌜ Fills notes at (noteWords (noteOf note)) ⌝ }
+{
+    let w = words_of(note);
+    notes[at] = w.kind;
+    notes[at + 1] = w.global;
+    notes[at + 2] = w.last;
 }
 
 // The capacity is 1 to 4,096 and every slice has its length.

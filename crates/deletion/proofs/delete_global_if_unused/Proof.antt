@@ -1,5 +1,6 @@
 use Rattle.deletion.proofs.DeletionLaws.{delete-fits, delete-room, delete-leaves, keep-leaves}
 use mathlib.Core.Path.{refl}
+use native.Mathlib.Omega.{arith}
 use borrow.Author.Needs.{needs}
 use Rattle.deletion.proofs.delete_global_if_unused.Statement.{statement}
 use Rattle.deletion.proofs.delete_global_if_unused.Tie as tie
@@ -35,10 +36,10 @@ slice-write-records : tie.Need-slice-write-records
 slice-write-records c = search needs
 
 put-note-requires : tie.Need-put-note-requires
-put-note-requires c κs = delete-room _ _ (c .before .before .before .before .before .before .before .before .before .before .before .before .before .pre .0) (c .before .if1 .taken) _ _ (c .before .before .before .before .before .before .before .before .before .before .before .before .before .pre .1)
+put-note-requires c κs = (delete-room _ _ (c .before .before .before .before .before .before .before .before .before .before .before .before .before .pre .0) (c .before .if1 .taken) _ _ (c .before .before .before .before .before .before .before .before .before .before .before .before .before .pre .1), omega arith)
 
-add-result : tie.Need-add-result
-add-result c = search needs
+add-t28 : tie.Need-add-t28
+add-t28 c = search needs
 
 same-length : tie.Need-same-length
 same-length c = search needs
@@ -67,7 +68,7 @@ delete-global-if-unused-spec =
     mul-records
     slice-write-records
     put-note-requires
-    add-result
+    add-t28
     same-length
     same-length-2
     returns

@@ -8,14 +8,14 @@ use Rattle.drat_vectors.proofs.leb.Tie as tie
 returns : tie.Need-returns
 returns c = search needs
 
-slice-aggregate-put-leb : tie.Need-slice-aggregate-put-leb
-slice-aggregate-put-leb c = search needs
+slice-aggregate-put-code : tie.Need-slice-aggregate-put-code
+slice-aggregate-put-code c = search needs
 
-put-leb-requires : tie.Need-put-leb-requires
-put-leb-requires c κs =
+put-code-requires : tie.Need-put-code-requires
+put-code-requires c κs =
     let a = c .before .before .before .args in
     let p : 0 < a .n = omega arith in
-    (p, omega (arith, leb-most (a .n) p (omega arith)))
+    ((p, omega arith), omega (arith, leb-most (a .n) p (omega arith)))
 
 slice-aggregate-same : tie.Need-slice-aggregate-same
 slice-aggregate-same c = search needs
@@ -34,8 +34,8 @@ leb-spec =
     tie.close
     (tie.spec
     returns
-    slice-aggregate-put-leb
-    put-leb-requires
+    slice-aggregate-put-code
+    put-code-requires
     slice-aggregate-same
     same-requires
     one-requires

@@ -5,59 +5,45 @@ use borrow.Author.Needs.{needs}
 use Rattle.granting.proofs.grant_index.Statement.{statement}
 use Rattle.granting.proofs.grant_index.Tie as tie
 
--- src/lib.rt:102:35
 solver-of-requires : tie.Need-solver-of-requires
 solver-of-requires c κs = search needs
 
--- src/lib.rt:102:25
 enum-known-solver : tie.Need-enum-known-solver
 enum-known-solver c = search needs
 
--- src/lib.rt:103:28
 enum-told : tie.Need-enum-told
 enum-told c = search needs
 
--- src/lib.rt:103:28
 cast-unit : tie.Need-cast-unit
 cast-unit c = search needs
 
--- src/lib.rt:103:20
 mul-unit : tie.Need-mul-unit
 mul-unit c = search needs
 
--- src/lib.rt:103:20
 shared-slice-read-unit : tie.Need-shared-slice-read-unit
 shared-slice-read-unit c = reads-below _ _ _ _ (c .before .before .before .before .before .before .before .before .before .before .before .before .before .pre .0)
 
--- src/lib.rt:104:9
 grant-next-requires : tie.Need-grant-next-requires
 grant-next-requires c κs = next-asks _ _ _ _ _ (fresh-of _ _ _ _ (c .before .before .before .before .before .before .before .before .before .before .before .before .before .before .before .before .before .pre .0) ((solver-word _ _ (c .before .before .before .before .before .before .before .before .solver-of .ensures) ∙ ap solverWord (c .before .before .before .before .before .before .enum-told .given .1)))) (c .before .before .before .before .before .before .before .before .before .before .before .before .before .before .before .before .before .pre .1)
 
--- src/lib.rt:104:9
 same-length : tie.Need-same-length
 same-length c = search needs
 
--- src/lib.rt:104:9
 same-length-2 : tie.Need-same-length-2
 same-length-2 c = search needs
 
--- src/lib.rt:104:9
 same-length-3 : tie.Need-same-length-3
 same-length-3 c = search needs
 
--- src/lib.rt:104:9
 same-length-4 : tie.Need-same-length-4
 same-length-4 c = search needs
 
--- src/lib.rt:104:9
 returns : tie.Need-returns
 returns c = next-done _ _ _ _ _ _ _ _ _ _ _ _ _ (c .before .before .before .before .before .before .before .before .before .before .before .before .before .before .before .before .before .before .before .before .before .before .before .before .before .before .pre .0) ((solver-word _ _ (c .before .before .before .before .before .before .before .before .before .before .before .before .before .before .before .before .before .solver-of .ensures) ∙ ap solverWord (c .before .before .before .before .before .before .before .before .before .before .before .before .before .before .before .enum-told .given .1))) (c .before .before .before .before .before .before .before .before .grant-next .ensures)
 
--- src/lib.rt:83:1
 same-length-5 : tie.Need-same-length-5
 same-length-5 c = search needs
 
--- src/lib.rt:83:1
 returns-2 : tie.Need-returns-2
 returns-2 c = (kept-leaves _ _ _ _ _ ((solver-word _ _ (c .before .before .before .solver-of .ensures) ∙ ap solverWord (c .before .solver .given .1))), c .before .before .before .before .before .before .before .before .before .before .before .before .pre .1)
 

@@ -4,47 +4,36 @@ use borrow.Author.Needs.{needs}
 use Rattle.granting.proofs.grant_refusal.Statement.{statement}
 use Rattle.granting.proofs.grant_refusal.Tie as tie
 
--- src/lib.rt:129:9
 is-sound-requires : tie.Need-is-sound-requires
 is-sound-requires c κs = search needs
 
--- src/lib.rt:130:9
 returns : tie.Need-returns
 returns c = refuse-1 _ _ _ (no-of (c .before .is-sound .ensures) (c .if1 .taken))
 
--- src/lib.rt:133:9
 returns-2 : tie.Need-returns-2
 returns-2 c = refuse-3 _ _ _ (yes-of (c .before .before .before .before .is-sound .ensures) (c .before .before .before .if1 .left)) (c .if2 .taken)
 
--- src/lib.rt:135:13
 cast-g : tie.Need-cast-g
 cast-g c = search needs
 
--- src/lib.rt:136:14
 mul-if3 : tie.Need-mul-if3
 mul-if3 c = search needs
 
--- src/lib.rt:136:14
 shared-slice-read-if3 : tie.Need-shared-slice-read-if3
 shared-slice-read-if3 c = below-records _ _ 0 (yes-of (c .before .before .before .before .before .before .is-sound .ensures) (c .before .before .before .before .before .if1 .left)) (c .before .before .if2 .left)
 
--- src/lib.rt:137:9
 returns-3 : tie.Need-returns-3
 returns-3 c = refuse-6 _ _ _ (yes-of (c .before .before .before .before .before .before .before .is-sound .ensures) (c .before .before .before .before .before .before .if1 .left)) (c .before .before .before .if2 .left) (c .if3 .taken)
 
--- src/lib.rt:139:9
 mul-if4 : tie.Need-mul-if4
 mul-if4 c = search needs
 
--- src/lib.rt:139:9
 shared-slice-read-if4 : tie.Need-shared-slice-read-if4
 shared-slice-read-if4 c = below-solvers _ _ 0 (yes-of (c .before .before .before .before .before .before .before .before .is-sound .ensures) (c .before .before .before .before .before .before .before .if1 .left)) (c .before .before .before .before .if2 .left)
 
--- src/lib.rt:140:9
 returns-4 : tie.Need-returns-4
 returns-4 c = refuse-2 _ _ _ (yes-of (c .before .before .before .before .before .before .before .before .before .is-sound .ensures) (c .before .before .before .before .before .before .before .before .if1 .left)) (c .before .before .before .before .before .if2 .left) (c .before .before .if3 .left) (c .if4 .taken)
 
--- src/lib.rt:116:1
 returns-5 : tie.Need-returns-5
 returns-5 c = refuse-0 _ _ _ (yes-of (c .before .before .before .before .before .before .before .before .before .is-sound .ensures) (c .before .before .before .before .before .before .before .before .if1 .left)) (c .before .before .before .before .before .if2 .left) (c .before .before .if3 .left) (c .if4 .left)
 

@@ -4,51 +4,39 @@ use borrow.Author.Needs.{needs}
 use Rattle.granting.proofs.solver_from_global.Statement.{statement}
 use Rattle.granting.proofs.solver_from_global.Tie as tie
 
--- src/lib.rt:161:9
 grant-refusal-requires : tie.Need-grant-refusal-requires
 grant-refusal-requires c κs = search needs
 
--- src/lib.rt:173:9
 same-length : tie.Need-same-length
 same-length c = search needs
 
--- src/lib.rt:173:9
 same-length-2 : tie.Need-same-length-2
 same-length-2 c = search needs
 
--- src/lib.rt:173:9
 same-length-3 : tie.Need-same-length-3
 same-length-3 c = search needs
 
--- src/lib.rt:173:9
 returns : tie.Need-returns
 returns c = grant-refused _ _ _ _ (c .before .grant-refusal .ensures) (c .if1 .taken)
 
--- src/lib.rt:175:9
 grant-index-requires : tie.Need-grant-index-requires
 grant-index-requires c κs = (asks-of _ _ _ _ (c .before .before .before .before .before .grant-refusal .ensures) (c .before .before .before .before .if1 .left), passed-none _ _)
 
--- src/lib.rt:180:35
 cast-t30 : tie.Need-cast-t30
 cast-t30 c = record { fits = count-small _ _ _ _ _ _ _ (c .before .before .before .before .before .before .before .before .before .before .before .grant-index .ensures .0) }
 
--- src/lib.rt:147:1
 same-length-4 : tie.Need-same-length-4
 same-length-4 c = search needs
 
--- src/lib.rt:147:1
 same-length-5 : tie.Need-same-length-5
 same-length-5 c = search needs
 
--- src/lib.rt:147:1
 same-length-6 : tie.Need-same-length-6
 same-length-6 c = search needs
 
--- src/lib.rt:147:1
 same-length-7 : tie.Need-same-length-7
 same-length-7 c = search needs
 
--- src/lib.rt:147:1
 returns-2 : tie.Need-returns-2
 returns-2 c = grant-done _ _ _ _ _ _ _ _ (c .before .before .before .before .before .before .before .before .before .before .before .before .before .before .before .before .before .grant-refusal .ensures) (c .before .before .before .before .before .before .before .before .before .before .before .before .before .before .before .before .if1 .left) (c .before .before .before .before .before .before .before .before .before .before .before .grant-index .ensures .0)
 

@@ -1,6 +1,7 @@
-use Rattle.modes.proofs.ChangeLaws.{base-fits, mode-fits, show-next, show-asks, show-room, show-leaves, show-user}
+use Rattle.modes.proofs.ChangeLaws.{yes-fits, base-fits, mode-fits, show-next, show-asks, show-room, show-leaves, show-user}
 use Rattle.modes.proofs.NotesLaws.{there-live}
 use native.Mathlib.Omega.{arith}
+use lib.Dec.{eqb}
 use borrow.Author.Needs.{needs}
 use Rattle.modes.proofs.show.Statement.{statement}
 use Rattle.modes.proofs.show.Tie as tie
@@ -14,41 +15,35 @@ add-next c = search needs
 add-past : tie.Need-add-past
 add-past c = search needs
 
-sample-word-requires : tie.Need-sample-word-requires
-sample-word-requires c κs = search needs
-
 mul-w : tie.Need-mul-w
 mul-w c = search needs
 
 slice-read-w : tie.Need-slice-read-w
-slice-read-w c = there-live _ _ (c .before .before .before .before .before .before .before .before .before .before .pre .0 .there) .words
+slice-read-w c = there-live _ _ (c .before .before .before .before .before .before .before .before .before .pre .0 .there) .words
 
 mul-records : tie.Need-mul-records
-mul-records c = record { fits = base-fits _ _ (c .before .before .before .before .before .before .before .before .before .before .pre .0 .there) }
+mul-records c = record { fits = base-fits _ _ (c .before .before .before .before .before .before .before .before .before .pre .0 .there) }
 
 add-records : tie.Need-add-records
-add-records c = record { fits = mode-fits _ _ (c .before .before .before .before .before .before .before .before .before .before .pre .0 .there) _ (let l = (c .before .before .before .before .before .before .before .before .before .before .pre .0 .mode) in omega arith) }
+add-records c = record { fits = mode-fits _ _ (c .before .before .before .before .before .before .before .before .before .pre .0 .there) _ (let l = (c .before .before .before .before .before .before .before .before .before .pre .0 .mode) in omega arith) }
 
 mul-records-2 : tie.Need-mul-records-2
-mul-records-2 c = let l = there-live _ _ (c .before .before .before .before .before .before .before .before .before .before .pre .0 .there) .small in omega arith
+mul-records-2 c = let l = there-live _ _ (c .before .before .before .before .before .before .before .before .before .pre .0 .there) .small in omega arith
 
 slice-write-records : tie.Need-slice-write-records
-slice-write-records c = there-live _ _ (c .before .before .before .before .before .before .before .before .before .before .pre .0 .there) .words
+slice-write-records c = there-live _ _ (c .before .before .before .before .before .before .before .before .before .pre .0 .there) .words
 
-next-user-requires : tie.Need-next-user-requires
-next-user-requires c κs = show-next _ _ _ _ (c .before .before .before .before .before .before .before .before .before .before .before .pre .0)
+least-free-requires : tie.Need-least-free-requires
+least-free-requires c κs = show-next _ _ _ _ (c .before .before .before .before .before .before .before .before .before .before .pre .0)
 
 map-requires : tie.Need-map-requires
-map-requires c κs = show-asks _ _ _ _ (c .before .before .before .before .before .before .before .before .before .before .before .before .before .before .pre .0) _ (c .before .before .next-user .ensures)
+map-requires c κs = show-asks _ _ _ _ (c .before .before .before .before .before .before .before .before .before .before .before .before .before .pre .0) _ (c .before .before .least-free .ensures)
 
 put-note-requires : tie.Need-put-note-requires
-put-note-requires c κs = let r = show-room _ _ _ _ _ (c .before .before .before .before .before .before .before .before .before .before .before .before .before .before .before .before .before .before .before .before .pre .1) in omega arith
-
-add-put-note : tie.Need-add-put-note
-add-put-note c = let l = show-asks _ _ _ _ (c .before .before .before .before .before .before .before .before .before .before .before .before .before .before .before .before .before .before .before .before .before .before .before .before .pre .0) _ (c .before .before .before .before .before .before .before .before .before .before .before .before .next-user .ensures) in omega arith
+put-note-requires c κs = (let r = show-room _ _ _ _ _ (c .before .before .before .before .before .before .before .before .before .before .before .before .before .before .before .before .before .before .before .pre .1) in omega arith, yes-fits (eqb (c .before .before .before .before .before .before .before .before .before .before .before .before .before .before .before .before .before .before .before .args .m) 0))
 
 put-note-requires-2 : tie.Need-put-note-requires-2
-put-note-requires-2 c κs = let r = show-room _ _ _ _ _ (c .before .before .before .before .before .before .before .before .before .before .before .before .before .before .before .before .before .before .before .before .before .before .before .before .pre .1) in let k = (c .before .before .before .put-note .kept .0) in omega arith
+put-note-requires-2 c κs = (let r = show-room _ _ _ _ _ (c .before .before .before .before .before .before .before .before .before .before .before .before .before .before .before .before .before .before .before .before .before .before .before .pre .1) in let k = (c .before .before .before .put-note .kept .0) in omega arith, let l = show-asks _ _ _ _ (c .before .before .before .before .before .before .before .before .before .before .before .before .before .before .before .before .before .before .before .before .before .before .before .pre .0) _ (c .before .before .before .before .before .before .before .before .before .before .before .before .least-free .ensures) in let z = c .before .before .before .before .before .before .before .before .before .before .before .before .before .before .before .before .before .before .before .before .before .before .before .pre .0 .there .sound .sizes in omega arith)
 
 same-length : tie.Need-same-length
 same-length c = search needs
@@ -63,7 +58,7 @@ same-length-4 : tie.Need-same-length-4
 same-length-4 c = search needs
 
 returns : tie.Need-returns
-returns c = (show-leaves _ _ _ _ (c .before .before .before .before .before .before .before .before .before .before .before .before .before .before .before .before .before .before .before .before .before .before .before .before .before .before .before .pre .0) _ (c .before .before .before .before .before .before .before .before .before .before .before .before .before .before .before .next-user .ensures) _ _ _ (c .before .before .before .before .before .before .before .before .before .before .before .before .map .ensures) _ _ _ _ _ (c .before .before .before .before .before .before .before .before .before .before .before .before .before .before .before .before .before .before .sample-word .ensures) (c .before .before .before .before .before .before .put-note .ensures) (c .before .before .put-note2 .ensures), show-user _ _ _ _ (c .before .before .before .before .before .before .before .before .before .before .before .before .before .before .before .before .before .before .before .before .before .before .before .before .before .before .before .pre .0) _ (c .before .before .before .before .before .before .before .before .before .before .before .before .before .before .before .next-user .ensures))
+returns c = (show-leaves _ _ _ _ (c .before .before .before .before .before .before .before .before .before .before .before .before .before .before .before .before .before .before .before .before .before .before .before .before .before .before .pre .0) _ (c .before .before .before .before .before .before .before .before .before .before .before .before .before .before .before .least-free .ensures) _ _ _ (c .before .before .before .before .before .before .before .before .before .before .before .before .map .ensures) _ _ _ _ (c .before .before .before .before .before .before .put-note .ensures) (c .before .before .put-note2 .ensures), show-user _ _ _ _ (c .before .before .before .before .before .before .before .before .before .before .before .before .before .before .before .before .before .before .before .before .before .before .before .before .before .before .pre .0) _ (c .before .before .before .before .before .before .before .before .before .before .before .before .before .before .before .least-free .ensures))
 
 pub show-spec : {M : Type 1} → statement M
 show-spec =
@@ -72,17 +67,15 @@ show-spec =
     cast-g
     add-next
     add-past
-    sample-word-requires
     mul-w
     slice-read-w
     mul-records
     add-records
     mul-records-2
     slice-write-records
-    next-user-requires
+    least-free-requires
     map-requires
     put-note-requires
-    add-put-note
     put-note-requires-2
     same-length
     same-length-2

@@ -1,6 +1,6 @@
 use Rattle.table.proofs.FoundLaws.{globalWord, global-word}
 use Rattle.naming.proofs.GapLaws.{GapWith, user-small, gap-start, gap-asks, gap-more, gap-sizes, gap-kept, last-asks, last-done, last-sizes}
-use Rattle.naming.specs.Maps.{free, marks}
+use Rattle.naming.specs.Maps.{free}
 use Rattle.inner.specs.Cursor.{Passed}
 use native.Mathlib.Omega.{arith}
 use mathlib.Core.Path.{_∙_, ap}
@@ -17,7 +17,7 @@ use Rattle.naming.proofs.+map_up.{statement}
 use Rattle.naming.proofs.+map_up.Tie.{close}
 
 abbrev μ-map-up : Measures 4 map-up-kinds.ps ℕ
-μ-map-up κs a = a .1 .1 .1 .1 .1 .1 .1 .0 .0
+μ-map-up κs a = a .1 .1 .1 .1 .0 .0
 
 abbrev map-up-at : ℕ → In 4 map-up-kinds.ps
 map-up-at t = and 4 map-up-kinds.ps (is 4 map-up-kinds.ps μ-map-up t) map-up.Pre
@@ -26,15 +26,14 @@ abbrev map-up-below : ℕ → In 4 map-up-kinds.ps
 map-up-below t = and 4 map-up-kinds.ps (falls 4 map-up-kinds.ps _<_ μ-map-up t) map-up.Pre
 
 abbrev map-up-Inv-loop : map-up-lts.InvT-loop
-map-up-Inv-loop capacity users globals solvers gu₀ ug₀ records₀ user from at notes₀ m₀ n₀ k₀ next₀ i₀ gu ug records notes m n k next i =
-    GapWith (marks capacity users globals solvers) gu₀ ug₀ records₀ (user .0) at i next (marks capacity m n solvers) gu ug records notes₀ notes
-    × Passed (free records) n k
+map-up-Inv-loop gu₀ ug₀ records₀ user from at notes₀ cur₀ k₀ next₀ i₀ gu ug records notes cur k next i =
+    GapWith cur₀ gu₀ ug₀ records₀ (user .0) at i next cur gu ug records notes₀ notes
+    × Passed (free records) (cur .global) k
 
 abbrev map-up-μ-loop : map-up-lts.MeasureT-loop
-map-up-μ-loop capacity users globals solvers gu₀ ug₀ records₀ user from at notes₀ m₀ n₀ k₀ next₀ i₀ gu ug records notes m n k next i =
+map-up-μ-loop gu₀ ug₀ records₀ user from at notes₀ cur₀ k₀ next₀ i₀ gu ug records notes cur k next i =
     user .0 - i
 
--- src/lib.rt:168:5
 map-up-loop-holds : (t : ℕ) → map-up-lts.Need-loop-holds (
   map-up-below t,
   map-up.Post,
@@ -45,7 +44,6 @@ map-up-loop-holds : (t : ℕ) → map-up-lts.Need-loop-holds (
 ) (map-up-at t) map-up.Post map-up-Inv-loop map-up-μ-loop
 map-up-loop-holds t c = (record { with = λ x h. gap-start _ _ _ _ }, c .before .before .before .before .pre .1 .1)
 
--- src/lib.rt:169:13
 map-up-map-up-requires : (t : ℕ) → map-up-lts.Need-map-up-requires (
   map-up-below t,
   map-up.Post,
@@ -56,7 +54,6 @@ map-up-map-up-requires : (t : ℕ) → map-up-lts.Need-map-up-requires (
 ) (map-up-at t) map-up.Post map-up-Inv-loop map-up-μ-loop
 map-up-map-up-requires t c κs = (let l = c .before .before .before .before .if1 .taken in let e = c .before .before .before .before .before .before .before .before .before .before .before .pre .0 in omega arith, (record { solvers = c .before .before .before .before .before .before .before .before .before .before .before .pre .1 .0 .solvers; asks = gap-asks _ _ _ _ _ _ _ _ (c .before .before .before .before .before .before .before .before .before .before .before .pre .1 .0 .asks) (c .before .before .before .before .before .before .loop .inv .0 .with _ (c .before .before .before .before .before .before .before .before .before .before .before .pre .1 .0 .asks)) (c .before .before .before .before .if1 .taken) }, c .before .before .before .before .before .before .loop .inv .1))
 
--- src/lib.rt:186:9
 map-up-add-i : (t : ℕ) → map-up-lts.Need-add-i (
   map-up-below t,
   map-up.Post,
@@ -65,9 +62,8 @@ map-up-add-i : (t : ℕ) → map-up-lts.Need-add-i (
   map-one-reads.Asked,
   map-one-reads.Learnt,
 ) (map-up-at t) map-up.Post map-up-Inv-loop map-up-μ-loop
-map-up-add-i t c = let l = c .before .before .before .before .before .before .before .before .before .before .before .before .before .if1 .taken in let w = user-small _ _ _ _ (c .before .before .before .before .before .before .before .before .before .before .before .before .before .before .before .before .before .before .before .before .pre .1 .0 .asks) in omega arith
+map-up-add-i t c = let l = c .before .before .before .before .before .before .before .before .before .before .before .before .before .before .if1 .taken in let w = user-small _ _ _ _ (c .before .before .before .before .before .before .before .before .before .before .before .before .before .before .before .before .before .before .before .before .before .pre .1 .0 .asks) in omega arith
 
--- src/lib.rt:168:5
 map-up-loop-less : (t : ℕ) → map-up-lts.Need-loop-less (
   map-up-below t,
   map-up.Post,
@@ -76,9 +72,8 @@ map-up-loop-less : (t : ℕ) → map-up-lts.Need-loop-less (
   map-one-reads.Asked,
   map-one-reads.Learnt,
 ) (map-up-at t) map-up.Post map-up-Inv-loop map-up-μ-loop
-map-up-loop-less t c = let l = c .before .before .before .before .before .before .before .before .before .before .before .before .before .if1 .taken in omega arith
+map-up-loop-less t c = let l = c .before .before .before .before .before .before .before .before .before .before .before .before .before .before .if1 .taken in omega arith
 
--- src/lib.rt:168:5
 map-up-loop-again : (t : ℕ) → map-up-lts.Need-loop-again (
   map-up-below t,
   map-up.Post,
@@ -87,9 +82,8 @@ map-up-loop-again : (t : ℕ) → map-up-lts.Need-loop-again (
   map-one-reads.Asked,
   map-one-reads.Learnt,
 ) (map-up-at t) map-up.Post map-up-Inv-loop map-up-μ-loop
-map-up-loop-again t c = (record { with = λ x h. gap-more _ _ _ _ _ _ _ _ _ _ _ _ h (c .before .before .before .before .before .before .before .before .before .before .before .before .before .before .before .loop .inv .0 .with x h) (c .before .before .before .before .before .before .before .before .before .before .before .before .before .if1 .taken) (c .before .before .before .before .before .before .before .before .map-up .ensures .0 .with x (gap-asks _ _ _ _ _ _ _ _ h (c .before .before .before .before .before .before .before .before .before .before .before .before .before .before .before .loop .inv .0 .with x h) (c .before .before .before .before .before .before .before .before .before .before .before .before .before .if1 .taken))) }, c .before .before .before .before .before .before .before .before .map-up .ensures .1)
+map-up-loop-again t c = (record { with = λ x h. gap-more _ _ _ _ _ _ _ _ _ _ _ _ h (c .before .before .before .before .before .before .before .before .before .before .before .before .before .before .before .before .loop .inv .0 .with x h) (c .before .before .before .before .before .before .before .before .before .before .before .before .before .before .if1 .taken) (c .before .before .before .before .before .before .before .before .before .map-up .ensures .0 .with x (gap-asks _ _ _ _ _ _ _ _ h (c .before .before .before .before .before .before .before .before .before .before .before .before .before .before .before .before .loop .inv .0 .with x h) (c .before .before .before .before .before .before .before .before .before .before .before .before .before .before .if1 .taken))) }, c .before .before .before .before .before .before .before .before .before .map-up .ensures .1)
 
--- src/lib.rt:188:35
 map-up-global-of-requires : (t : ℕ) → map-up-lts.Need-global-of-requires (
   map-up-below t,
   map-up.Post,
@@ -100,7 +94,6 @@ map-up-global-of-requires : (t : ℕ) → map-up-lts.Need-global-of-requires (
 ) (map-up-at t) map-up.Post map-up-Inv-loop map-up-μ-loop
 map-up-global-of-requires t c κs = search needs
 
--- src/lib.rt:188:25
 map-up-enum-known-global : (t : ℕ) → map-up-lts.Need-enum-known-global (
   map-up-below t,
   map-up.Post,
@@ -111,7 +104,6 @@ map-up-enum-known-global : (t : ℕ) → map-up-lts.Need-enum-known-global (
 ) (map-up-at t) map-up.Post map-up-Inv-loop map-up-μ-loop
 map-up-enum-known-global t c = search needs
 
--- src/lib.rt:189:13
 map-up-enum-told : (t : ℕ) → map-up-lts.Need-enum-told (
   map-up-below t,
   map-up.Post,
@@ -122,7 +114,6 @@ map-up-enum-told : (t : ℕ) → map-up-lts.Need-enum-told (
 ) (map-up-at t) map-up.Post map-up-Inv-loop map-up-μ-loop
 map-up-enum-told t c = search needs
 
--- src/lib.rt:195:9
 map-up-map-one-requires : (t : ℕ) → map-up-lts.Need-map-one-requires (
   map-up-below t,
   map-up.Post,
@@ -133,7 +124,6 @@ map-up-map-one-requires : (t : ℕ) → map-up-lts.Need-map-one-requires (
 ) (map-up-at t) map-up.Post map-up-Inv-loop map-up-μ-loop
 map-up-map-one-requires t c κs = last-asks _ _ _ _ _ _ _ _ (c .before .before .before .before .before .before .before .before .before .before .before .before .before .before .before .pre .1 .0 .asks) (c .before .before .before .before .before .before .before .before .before .before .loop .inv .0 .with _ (c .before .before .before .before .before .before .before .before .before .before .before .before .before .before .before .pre .1 .0 .asks)) (c .before .before .before .before .before .before .before .before .if1 .left) ((global-word _ _ (c .before .before .before .before .before .before .global-of .ensures) ∙ ap globalWord (c .before .before .before .before .enum-told .given .1))) _ (c .before .before .before .before .before .before .before .before .before .before .loop .inv .1)
 
--- src/lib.rt:195:9
 map-up-same-length : (t : ℕ) → map-up-lts.Need-same-length (
   map-up-below t,
   map-up.Post,
@@ -144,7 +134,6 @@ map-up-same-length : (t : ℕ) → map-up-lts.Need-same-length (
 ) (map-up-at t) map-up.Post map-up-Inv-loop map-up-μ-loop
 map-up-same-length t c = last-sizes _ _ _ _ _ _ _ _ (c .before .before .before .before .before .before .before .before .before .before .before .before .before .before .before .before .before .before .before .before .before .before .before .before .pre .1 .0 .asks) (c .before .before .before .before .before .before .before .before .before .before .before .before .before .before .before .before .before .before .before .loop .inv .0 .with _ (c .before .before .before .before .before .before .before .before .before .before .before .before .before .before .before .before .before .before .before .before .before .before .before .before .pre .1 .0 .asks)) (c .before .before .before .before .before .before .before .before .before .before .before .before .before .before .before .before .before .if1 .left) ((global-word _ _ (c .before .before .before .before .before .before .before .before .before .before .before .before .before .before .before .global-of .ensures) ∙ ap globalWord (c .before .before .before .before .before .before .before .before .before .before .before .before .before .enum-told .given .1))) _ _ _ _ _ _ _ _ (c .before .before .before .before .before .before .before .before .map-one .ensures) .globalFromUser
 
--- src/lib.rt:195:9
 map-up-same-length-2 : (t : ℕ) → map-up-lts.Need-same-length-2 (
   map-up-below t,
   map-up.Post,
@@ -155,7 +144,6 @@ map-up-same-length-2 : (t : ℕ) → map-up-lts.Need-same-length-2 (
 ) (map-up-at t) map-up.Post map-up-Inv-loop map-up-μ-loop
 map-up-same-length-2 t c = last-sizes _ _ _ _ _ _ _ _ (c .before .before .before .before .before .before .before .before .before .before .before .before .before .before .before .before .before .before .before .before .before .before .before .before .pre .1 .0 .asks) (c .before .before .before .before .before .before .before .before .before .before .before .before .before .before .before .before .before .before .before .loop .inv .0 .with _ (c .before .before .before .before .before .before .before .before .before .before .before .before .before .before .before .before .before .before .before .before .before .before .before .before .pre .1 .0 .asks)) (c .before .before .before .before .before .before .before .before .before .before .before .before .before .before .before .before .before .if1 .left) ((global-word _ _ (c .before .before .before .before .before .before .before .before .before .before .before .before .before .before .before .global-of .ensures) ∙ ap globalWord (c .before .before .before .before .before .before .before .before .before .before .before .before .before .enum-told .given .1))) _ _ _ _ _ _ _ _ (c .before .before .before .before .before .before .before .before .map-one .ensures) .userFromGlobal
 
--- src/lib.rt:195:9
 map-up-same-length-3 : (t : ℕ) → map-up-lts.Need-same-length-3 (
   map-up-below t,
   map-up.Post,
@@ -166,7 +154,6 @@ map-up-same-length-3 : (t : ℕ) → map-up-lts.Need-same-length-3 (
 ) (map-up-at t) map-up.Post map-up-Inv-loop map-up-μ-loop
 map-up-same-length-3 t c = last-sizes _ _ _ _ _ _ _ _ (c .before .before .before .before .before .before .before .before .before .before .before .before .before .before .before .before .before .before .before .before .before .before .before .before .pre .1 .0 .asks) (c .before .before .before .before .before .before .before .before .before .before .before .before .before .before .before .before .before .before .before .loop .inv .0 .with _ (c .before .before .before .before .before .before .before .before .before .before .before .before .before .before .before .before .before .before .before .before .before .before .before .before .pre .1 .0 .asks)) (c .before .before .before .before .before .before .before .before .before .before .before .before .before .before .before .before .before .if1 .left) ((global-word _ _ (c .before .before .before .before .before .before .before .before .before .before .before .before .before .before .before .global-of .ensures) ∙ ap globalWord (c .before .before .before .before .before .before .before .before .before .before .before .before .before .enum-told .given .1))) _ _ _ _ _ _ _ _ (c .before .before .before .before .before .before .before .before .map-one .ensures) .records
 
--- src/lib.rt:195:9
 map-up-same-length-4 : (t : ℕ) → map-up-lts.Need-same-length-4 (
   map-up-below t,
   map-up.Post,
@@ -177,7 +164,6 @@ map-up-same-length-4 : (t : ℕ) → map-up-lts.Need-same-length-4 (
 ) (map-up-at t) map-up.Post map-up-Inv-loop map-up-μ-loop
 map-up-same-length-4 t c = last-sizes _ _ _ _ _ _ _ _ (c .before .before .before .before .before .before .before .before .before .before .before .before .before .before .before .before .before .before .before .before .before .before .before .before .pre .1 .0 .asks) (c .before .before .before .before .before .before .before .before .before .before .before .before .before .before .before .before .before .before .before .loop .inv .0 .with _ (c .before .before .before .before .before .before .before .before .before .before .before .before .before .before .before .before .before .before .before .before .before .before .before .before .pre .1 .0 .asks)) (c .before .before .before .before .before .before .before .before .before .before .before .before .before .before .before .before .before .if1 .left) ((global-word _ _ (c .before .before .before .before .before .before .before .before .before .before .before .before .before .before .before .global-of .ensures) ∙ ap globalWord (c .before .before .before .before .before .before .before .before .before .before .before .before .before .enum-told .given .1))) _ _ _ _ _ _ _ _ (c .before .before .before .before .before .before .before .before .map-one .ensures) .notes
 
--- src/lib.rt:195:9
 map-up-returns : (t : ℕ) → map-up-lts.Need-returns (
   map-up-below t,
   map-up.Post,
@@ -188,7 +174,6 @@ map-up-returns : (t : ℕ) → map-up-lts.Need-returns (
 ) (map-up-at t) map-up.Post map-up-Inv-loop map-up-μ-loop
 map-up-returns t c = (record { with = λ x h. last-done _ _ _ _ _ _ _ _ h (c .before .before .before .before .before .before .before .before .before .before .before .before .before .before .before .before .before .before .before .loop .inv .0 .with x h) (c .before .before .before .before .before .before .before .before .before .before .before .before .before .before .before .before .before .if1 .left) ((global-word _ _ (c .before .before .before .before .before .before .before .before .before .before .before .before .before .before .before .global-of .ensures) ∙ ap globalWord (c .before .before .before .before .before .before .before .before .before .before .before .before .before .enum-told .given .1))) _ _ _ _ _ _ _ _ (c .before .before .before .before .before .before .before .before .map-one .ensures) .0 }, last-done _ _ _ _ _ _ _ _ (c .before .before .before .before .before .before .before .before .before .before .before .before .before .before .before .before .before .before .before .before .before .before .before .before .pre .1 .0 .asks) (c .before .before .before .before .before .before .before .before .before .before .before .before .before .before .before .before .before .before .before .loop .inv .0 .with _ (c .before .before .before .before .before .before .before .before .before .before .before .before .before .before .before .before .before .before .before .before .before .before .before .before .pre .1 .0 .asks)) (c .before .before .before .before .before .before .before .before .before .before .before .before .before .before .before .before .before .if1 .left) ((global-word _ _ (c .before .before .before .before .before .before .before .before .before .before .before .before .before .before .before .global-of .ensures) ∙ ap globalWord (c .before .before .before .before .before .before .before .before .before .before .before .before .before .enum-told .given .1))) _ _ _ _ _ _ _ _ (c .before .before .before .before .before .before .before .before .map-one .ensures) .1)
 
--- src/lib.rt:144:1
 map-up-same-length-5 : (t : ℕ) → map-up-lts.Need-same-length-5 (
   map-up-below t,
   map-up.Post,
@@ -199,7 +184,6 @@ map-up-same-length-5 : (t : ℕ) → map-up-lts.Need-same-length-5 (
 ) (map-up-at t) map-up.Post map-up-Inv-loop map-up-μ-loop
 map-up-same-length-5 t c = gap-sizes _ _ _ _ _ _ _ _ (c .before .before .before .before .before .before .before .before .before .before .before .before .pre .1 .0 .asks) (c .before .before .before .before .before .before .before .loop .inv .0 .with _ (c .before .before .before .before .before .before .before .before .before .before .before .before .pre .1 .0 .asks)) .globalFromUser
 
--- src/lib.rt:144:1
 map-up-same-length-6 : (t : ℕ) → map-up-lts.Need-same-length-6 (
   map-up-below t,
   map-up.Post,
@@ -210,7 +194,6 @@ map-up-same-length-6 : (t : ℕ) → map-up-lts.Need-same-length-6 (
 ) (map-up-at t) map-up.Post map-up-Inv-loop map-up-μ-loop
 map-up-same-length-6 t c = gap-sizes _ _ _ _ _ _ _ _ (c .before .before .before .before .before .before .before .before .before .before .before .before .pre .1 .0 .asks) (c .before .before .before .before .before .before .before .loop .inv .0 .with _ (c .before .before .before .before .before .before .before .before .before .before .before .before .pre .1 .0 .asks)) .userFromGlobal
 
--- src/lib.rt:144:1
 map-up-same-length-7 : (t : ℕ) → map-up-lts.Need-same-length-7 (
   map-up-below t,
   map-up.Post,
@@ -221,7 +204,6 @@ map-up-same-length-7 : (t : ℕ) → map-up-lts.Need-same-length-7 (
 ) (map-up-at t) map-up.Post map-up-Inv-loop map-up-μ-loop
 map-up-same-length-7 t c = gap-sizes _ _ _ _ _ _ _ _ (c .before .before .before .before .before .before .before .before .before .before .before .before .pre .1 .0 .asks) (c .before .before .before .before .before .before .before .loop .inv .0 .with _ (c .before .before .before .before .before .before .before .before .before .before .before .before .pre .1 .0 .asks)) .records
 
--- src/lib.rt:144:1
 map-up-same-length-8 : (t : ℕ) → map-up-lts.Need-same-length-8 (
   map-up-below t,
   map-up.Post,
@@ -232,7 +214,6 @@ map-up-same-length-8 : (t : ℕ) → map-up-lts.Need-same-length-8 (
 ) (map-up-at t) map-up.Post map-up-Inv-loop map-up-μ-loop
 map-up-same-length-8 t c = gap-sizes _ _ _ _ _ _ _ _ (c .before .before .before .before .before .before .before .before .before .before .before .before .pre .1 .0 .asks) (c .before .before .before .before .before .before .before .loop .inv .0 .with _ (c .before .before .before .before .before .before .before .before .before .before .before .before .pre .1 .0 .asks)) .notes
 
--- src/lib.rt:144:1
 map-up-returns-2 : (t : ℕ) → map-up-lts.Need-returns-2 (
   map-up-below t,
   map-up.Post,

@@ -17,36 +17,28 @@ Inv-loop records n₀ i₀ n i = (i ≤ length records) × (n ≤ i) × (n ≡ c
 abbrev μ-loop : tie.MeasureT-loop
 μ-loop records n₀ i₀ n i = length records - i
 
--- src/lib.rt:183:5
 loop-holds : tie.Need-loop-holds Inv-loop μ-loop
 loop-holds c = (omega arith, omega arith, sym (count-none _))
 
--- src/lib.rt:184:12
 mul-if1 : tie.Need-mul-if1 Inv-loop μ-loop
 mul-if1 c = search needs
 
--- src/lib.rt:184:12
 shared-slice-read-if1 : tie.Need-shared-slice-read-if1 Inv-loop μ-loop
 shared-slice-read-if1 c = search needs
 
--- src/lib.rt:185:13
 add-n : tie.Need-add-n Inv-loop μ-loop
 add-n c = search needs
 
--- src/lib.rt:187:9
 add-i : tie.Need-add-i Inv-loop μ-loop
 add-i c = search needs
 
--- src/lib.rt:183:5
 loop-less : tie.Need-loop-less Inv-loop μ-loop
 loop-less c = search needs
 
--- src/lib.rt:183:5
 loop-again : tie.Need-loop-again Inv-loop μ-loop
 loop-again c = ⊎-elim (λ w. (omega arith, omega arith, undeleted-step _ _ _ _ (c .before .before .loop-test .taken) (c .before .before .before .loop .inv .2) (w .0 .taken) (w .1)))
     (λ w. (omega arith, omega arith, undeleted-stay _ _ _ _ (c .before .before .loop-test .taken) (c .before .before .before .loop .inv .2) (w .0 .left) (w .1))) (c .if1 .came)
 
--- src/lib.rt:177:1
 returns : tie.Need-returns Inv-loop μ-loop
 returns c = count-end _ _ _ _ (c .before .loop .inv .2) (let x = c .before .loop .inv .0 in let y = c .loop-test .left in omega arith)
 

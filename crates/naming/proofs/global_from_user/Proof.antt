@@ -4,51 +4,39 @@ use borrow.Author.Needs.{needs}
 use Rattle.naming.proofs.global_from_user.Statement.{statement}
 use Rattle.naming.proofs.global_from_user.Tie as tie
 
--- src/lib.rt:277:9
 map-refusal-requires : tie.Need-map-refusal-requires
 map-refusal-requires c κs = search needs
 
--- src/lib.rt:279:9
 same-length : tie.Need-same-length
 same-length c = search needs
 
--- src/lib.rt:279:9
 same-length-2 : tie.Need-same-length-2
 same-length-2 c = search needs
 
--- src/lib.rt:279:9
 same-length-3 : tie.Need-same-length-3
 same-length-3 c = search needs
 
--- src/lib.rt:279:9
 returns : tie.Need-returns
 returns c = map-refused _ _ _ _ _ (c .before .map-refusal .ensures) (c .if1 .taken)
 
--- src/lib.rt:281:9
 map-user-requires : tie.Need-map-user-requires
 map-user-requires c κs = (map-asks _ _ _ _ _ (c .before .before .before .before .before .map-refusal .ensures) (c .before .before .before .before .if1 .left), passed-none _ _)
 
--- src/lib.rt:284:38
 cast-t31 : tie.Need-cast-t31
 cast-t31 c = record { fits = count-small _ _ _ _ _ _ _ _ (map-asks _ _ _ _ _ (c .before .before .before .before .before .before .before .before .before .before .before .before .before .before .before .before .before .map-refusal .ensures) (c .before .before .before .before .before .before .before .before .before .before .before .before .before .before .before .before .if1 .left)) (c .before .before .before .before .before .before .before .before .before .before .before .map-user .ensures .0) }
 
--- src/lib.rt:262:1
 same-length-4 : tie.Need-same-length-4
 same-length-4 c = search needs
 
--- src/lib.rt:262:1
 same-length-5 : tie.Need-same-length-5
 same-length-5 c = search needs
 
--- src/lib.rt:262:1
 same-length-6 : tie.Need-same-length-6
 same-length-6 c = search needs
 
--- src/lib.rt:262:1
 same-length-7 : tie.Need-same-length-7
 same-length-7 c = search needs
 
--- src/lib.rt:262:1
 returns-2 : tie.Need-returns-2
 returns-2 c = map-done _ _ _ _ _ _ _ _ _ (c .before .before .before .before .before .before .before .before .before .before .before .before .before .before .before .before .before .map-refusal .ensures) (c .before .before .before .before .before .before .before .before .before .before .before .before .before .before .before .before .if1 .left) (c .before .before .before .before .before .before .before .before .before .before .before .map-user .ensures .0)
 

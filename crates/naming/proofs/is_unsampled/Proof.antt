@@ -5,35 +5,27 @@ use borrow.Author.Needs.{needs}
 use Rattle.naming.proofs.is_unsampled.Statement.{statement}
 use Rattle.naming.proofs.is_unsampled.Tie as tie
 
--- src/lib.rt:197:30
 global-of-requires : tie.Need-global-of-requires
 global-of-requires c κs = search needs
 
--- src/lib.rt:197:25
 enum-known-g : tie.Need-enum-known-g
 enum-known-g c = search needs
 
--- src/lib.rt:198:9
 enum-told : tie.Need-enum-told
 enum-told c = search needs
 
--- src/lib.rt:198:9
 returns : tie.Need-returns
 returns c = unsampled-none _ _ _ ((global-word _ _ (c .before .before .global-of .ensures) ∙ ap globalWord (c .enum-told .given .1)))
 
--- src/lib.rt:200:13
 cast-result : tie.Need-cast-result
 cast-result c = search needs
 
--- src/lib.rt:200:5
 mul-result : tie.Need-mul-result
 mul-result c = search needs
 
--- src/lib.rt:200:5
 shared-slice-read-result : tie.Need-shared-slice-read-result
 shared-slice-read-result c = inside-below _ _ _ _ (c .before .before .before .before .before .before .before .before .pre) ((global-word _ _ (c .before .before .before .before .before .global-of .ensures) ∙ ap globalWord (c .before .before .before .g .given .1)))
 
--- src/lib.rt:193:1
 returns-2 : tie.Need-returns-2
 returns-2 c = unsampled-some _ _ _ _ (c .before .before .before .before .before .before .before .before .pre) ((global-word _ _ (c .before .before .before .before .before .global-of .ensures) ∙ ap globalWord (c .before .before .before .g .given .1)))
 

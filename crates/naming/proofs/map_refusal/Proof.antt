@@ -5,55 +5,42 @@ use borrow.Author.Needs.{needs}
 use Rattle.naming.proofs.map_refusal.Statement.{statement}
 use Rattle.naming.proofs.map_refusal.Tie as tie
 
--- src/lib.rt:240:9
 is-sound-requires : tie.Need-is-sound-requires
 is-sound-requires c κs = search needs
 
--- src/lib.rt:241:9
 returns : tie.Need-returns
 returns c = map-1 _ _ _ _ (no-of (c .before .is-sound .ensures) (c .if1 .taken))
 
--- src/lib.rt:244:9
 returns-2 : tie.Need-returns-2
 returns-2 c = map-3 _ _ _ _ (yes-of (c .before .before .before .before .is-sound .ensures) (c .before .before .before .if1 .left)) (c .if2 .taken)
 
--- src/lib.rt:246:19
 is-unsampled-requires : tie.Need-is-unsampled-requires
 is-unsampled-requires c κs = inside _ (yes-of (c .before .before .before .before .is-sound .ensures) (c .before .before .before .if1 .left))
 
--- src/lib.rt:247:9
 returns-3 : tie.Need-returns-3
 returns-3 c = map-4 _ _ _ _ (yes-of (c .before .before .before .before .before .before .is-sound .ensures) (c .before .before .before .before .before .if1 .left)) (c .before .before .if2 .left) _ (c .before .is-unsampled .ensures) (c .if3 .taken)
 
--- src/lib.rt:249:9
 count-undeleted-requires : tie.Need-count-undeleted-requires
 count-undeleted-requires c κs = records-small _ (yes-of (c .before .before .before .before .before .before .is-sound .ensures) (c .before .before .before .before .before .if1 .left))
 
--- src/lib.rt:250:9
 to-map-requires : tie.Need-to-map-requires
 to-map-requires c κs = user-small _ _ (yes-of (c .before .before .before .before .before .before .before .is-sound .ensures) (c .before .before .before .before .before .before .if1 .left)) (c .before .before .before .if2 .left)
 
--- src/lib.rt:251:21
 add-if4 : tie.Need-add-if4
 add-if4 c = let k = (counted _ _ _ _ (yes-of (c .before .before .before .before .before .before .before .before .is-sound .ensures) (c .before .before .before .before .before .before .before .if1 .left)) (c .before .count-undeleted .ensures) (c .to-map .ensures)) in let w = user-small _ _ (yes-of (c .before .before .before .before .before .before .before .before .is-sound .ensures) (c .before .before .before .before .before .before .before .if1 .left)) (c .before .before .before .before .if2 .left) in omega arith
 
--- src/lib.rt:252:9
 returns-4 : tie.Need-returns-4
 returns-4 c = map-5 _ _ _ _ (yes-of (c .before .before .before .before .before .before .before .before .before .before .is-sound .ensures) (c .before .before .before .before .before .before .before .before .before .if1 .left)) (c .before .before .before .before .before .before .if2 .left) _ (c .before .before .before .before .before .is-unsampled .ensures) (c .before .before .before .before .if3 .left) _ _ (counted _ _ _ _ (yes-of (c .before .before .before .before .before .before .before .before .before .before .is-sound .ensures) (c .before .before .before .before .before .before .before .before .before .if1 .left)) (c .before .before .before .count-undeleted .ensures) (c .before .before .to-map .ensures)) (c .if4 .taken)
 
--- src/lib.rt:254:20
 cast-if5 : tie.Need-cast-if5
 cast-if5 c = search needs
 
--- src/lib.rt:254:15
 mul-if5 : tie.Need-mul-if5
 mul-if5 c = search needs
 
--- src/lib.rt:255:9
 returns-5 : tie.Need-returns-5
 returns-5 c = map-2 _ _ _ _ (yes-of (c .before .before .before .before .before .before .before .before .before .before .before .is-sound .ensures) (c .before .before .before .before .before .before .before .before .before .before .if1 .left)) (c .before .before .before .before .before .before .before .if2 .left) _ (c .before .before .before .before .before .before .is-unsampled .ensures) (c .before .before .before .before .before .if3 .left) _ _ (counted _ _ _ _ (yes-of (c .before .before .before .before .before .before .before .before .before .before .before .is-sound .ensures) (c .before .before .before .before .before .before .before .before .before .before .if1 .left)) (c .before .before .before .before .count-undeleted .ensures) (c .before .before .before .to-map .ensures)) (c .before .if4 .left) (c .if5 .taken)
 
--- src/lib.rt:226:1
 returns-6 : tie.Need-returns-6
 returns-6 c = map-0 _ _ _ _ (yes-of (c .before .before .before .before .before .before .before .before .before .before .before .is-sound .ensures) (c .before .before .before .before .before .before .before .before .before .before .if1 .left)) (c .before .before .before .before .before .before .before .if2 .left) _ (c .before .before .before .before .before .before .is-unsampled .ensures) (c .before .before .before .before .before .if3 .left) _ _ (counted _ _ _ _ (yes-of (c .before .before .before .before .before .before .before .before .before .before .before .is-sound .ensures) (c .before .before .before .before .before .before .before .before .before .before .if1 .left)) (c .before .before .before .before .count-undeleted .ensures) (c .before .before .before .to-map .ensures)) (c .before .if4 .left) (c .if5 .left)
 

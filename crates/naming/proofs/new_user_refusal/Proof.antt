@@ -5,31 +5,24 @@ use borrow.Author.Needs.{needs}
 use Rattle.naming.proofs.new_user_refusal.Statement.{statement}
 use Rattle.naming.proofs.new_user_refusal.Tie as tie
 
--- src/lib.rt:300:9
 is-sound-requires : tie.Need-is-sound-requires
 is-sound-requires c κs = search needs
 
--- src/lib.rt:301:9
 returns : tie.Need-returns
 returns c = new-1 _ _ (no-of (c .before .is-sound .ensures) (c .if1 .taken))
 
--- src/lib.rt:303:21
 count-undeleted-requires : tie.Need-count-undeleted-requires
 count-undeleted-requires c κs = records-small _ (yes-of (c .before .is-sound .ensures) (c .if1 .left))
 
--- src/lib.rt:303:21
 add-if2 : tie.Need-add-if2
 add-if2 c = let k = used-small _ _ (yes-of (c .before .before .is-sound .ensures) (c .before .if1 .left)) (c .count-undeleted .ensures) in omega arith
 
--- src/lib.rt:304:9
 returns-2 : tie.Need-returns-2
 returns-2 c = new-5 _ _ (yes-of (c .before .before .before .before .is-sound .ensures) (c .before .before .before .if1 .left)) _ (undeleted-is _ _ (yes-of (c .before .before .before .before .is-sound .ensures) (c .before .before .before .if1 .left)) (c .before .before .count-undeleted .ensures)) (c .if2 .taken)
 
--- src/lib.rt:307:9
 returns-3 : tie.Need-returns-3
 returns-3 c = new-2 _ _ (yes-of (c .before .before .before .before .before .is-sound .ensures) (c .before .before .before .before .if1 .left)) _ (undeleted-is _ _ (yes-of (c .before .before .before .before .before .is-sound .ensures) (c .before .before .before .before .if1 .left)) (c .before .before .before .count-undeleted .ensures)) (c .before .if2 .left) (c .if3 .taken)
 
--- src/lib.rt:288:1
 returns-4 : tie.Need-returns-4
 returns-4 c = new-0 _ _ (yes-of (c .before .before .before .before .before .is-sound .ensures) (c .before .before .before .before .if1 .left)) _ (undeleted-is _ _ (yes-of (c .before .before .before .before .before .is-sound .ensures) (c .before .before .before .before .if1 .left)) (c .before .before .before .count-undeleted .ensures)) (c .before .if2 .left) (c .if3 .left)
 

@@ -4,55 +4,42 @@ use borrow.Author.Needs.{needs}
 use Rattle.naming.proofs.new_user_var.Statement.{statement}
 use Rattle.naming.proofs.new_user_var.Tie as tie
 
--- src/lib.rt:327:9
 new-user-refusal-requires : tie.Need-new-user-refusal-requires
 new-user-refusal-requires c κs = search needs
 
--- src/lib.rt:329:9
 same-length : tie.Need-same-length
 same-length c = search needs
 
--- src/lib.rt:329:9
 same-length-2 : tie.Need-same-length-2
 same-length-2 c = search needs
 
--- src/lib.rt:329:9
 same-length-3 : tie.Need-same-length-3
 same-length-3 c = search needs
 
--- src/lib.rt:329:9
 returns : tie.Need-returns
 returns c = new-refused _ _ _ (c .before .new-user-refusal .ensures) (c .if1 .taken)
 
--- src/lib.rt:331:21
 least-free-requires : tie.Need-least-free-requires
 least-free-requires c κs = ((new-asks _ _ _ (c .before .before .new-user-refusal .ensures) (c .before .if1 .left)) .marked, passed-none _ _)
 
--- src/lib.rt:332:9
 map-user-requires : tie.Need-map-user-requires
 map-user-requires c κs = (found-asks _ _ _ (new-asks _ _ _ (c .before .before .before .before .before .before .before .new-user-refusal .ensures) (c .before .before .before .before .before .before .if1 .left)) (c .before .before .before .before .least-free .ensures), passed-none _ _)
 
--- src/lib.rt:335:41
 cast-t22 : tie.Need-cast-t22
 cast-t22 c = record { fits = count-small _ _ _ _ _ _ _ _ (found-asks _ _ _ (new-asks _ _ _ (c .before .before .before .before .before .before .before .before .before .before .before .before .before .before .before .before .before .before .before .new-user-refusal .ensures) (c .before .before .before .before .before .before .before .before .before .before .before .before .before .before .before .before .before .before .if1 .left)) (c .before .before .before .before .before .before .before .before .before .before .before .before .before .before .before .before .least-free .ensures)) (c .before .before .before .before .before .before .before .before .before .before .before .map-user .ensures .0) }
 
--- src/lib.rt:314:1
 same-length-4 : tie.Need-same-length-4
 same-length-4 c = search needs
 
--- src/lib.rt:314:1
 same-length-5 : tie.Need-same-length-5
 same-length-5 c = search needs
 
--- src/lib.rt:314:1
 same-length-6 : tie.Need-same-length-6
 same-length-6 c = search needs
 
--- src/lib.rt:314:1
 same-length-7 : tie.Need-same-length-7
 same-length-7 c = search needs
 
--- src/lib.rt:314:1
 returns-2 : tie.Need-returns-2
 returns-2 c = new-done _ _ _ _ _ _ _ _ (c .before .before .before .before .before .before .before .before .before .before .before .before .before .before .before .before .before .before .before .new-user-refusal .ensures) (c .before .before .before .before .before .before .before .before .before .before .before .before .before .before .before .before .before .before .if1 .left) (c .before .before .before .before .before .before .before .before .before .before .before .before .before .before .before .before .least-free .ensures) (c .before .before .before .before .before .before .before .before .before .before .before .map-user .ensures .0)
 

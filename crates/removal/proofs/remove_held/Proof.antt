@@ -1,4 +1,5 @@
 use Rattle.removal.proofs.RemoveLaws.{remove-room, remove-asks, remove-leaves}
+use native.Mathlib.Omega.{arith}
 use borrow.Author.Needs.{needs}
 use Rattle.removal.proofs.remove_held.Statement.{statement}
 use Rattle.removal.proofs.remove_held.Tie as tie
@@ -10,7 +11,7 @@ remove-requires : tie.Need-remove-requires
 remove-requires c κs = search needs
 
 put-note-requires : tie.Need-put-note-requires
-put-note-requires c κs = remove-room _ _ _ _ _ (c .before .before .before .before .before .before .before .before .before .before .before .before .before .before .before .pre .1)
+put-note-requires c κs = (remove-room _ _ _ _ _ (c .before .before .before .before .before .before .before .before .before .before .before .before .before .before .before .pre .1), omega arith)
 
 delete-global-if-unused-requires : tie.Need-delete-global-if-unused-requires
 delete-global-if-unused-requires c κs = remove-asks _ _ _ _ _ _ (c .before .before .before .before .before .before .before .before .before .before .before .before .remove .ensures) _ _ _ (c .before .before .before .before .before .before .before .before .before .before .before .before .before .before .before .before .before .before .before .before .before .before .pre .0) (c .before .before .before .before .before .before .before .before .before .before .before .before .before .before .before .before .before .before .before .before .before .before .pre .1) (c .before .before .before .before .before .before .put-note .kept .0)

@@ -10,29 +10,23 @@ use Rattle.scope.proofs.cover.Lts as lts
 use Rattle.scope.proofs.cover_solver.Reads as cover-solver-reads
 use Rattle.scope.proofs.cover_user.Reads as cover-user-reads
 
--- src/lib.rt:94:20
 enum-known-n : tie.Need-enum-known-n
 enum-known-n c = search needs
 
--- src/lib.rt:94:26
 cover-user-requires : tie.Need-cover-user-requires
-cover-user-requires c κs = (subst (λ (n : Name). indexIn n < 4096) (c .before .n .given .1) (c .before .before .before .pre .0), c .before .before .before .pre .1)
+cover-user-requires c κs = (subst (λ (n : Name). indexIn n < c .before .before .before .args .c .capacity) (c .before .n .given .1) (c .before .before .before .pre .0), c .before .before .before .pre .1)
 
--- src/lib.rt:95:22
 enum-known-n-2 : tie.Need-enum-known-n-2
 enum-known-n-2 c = search needs
 
--- src/lib.rt:95:28
 cover-solver-requires : tie.Need-cover-solver-requires
-cover-solver-requires c κs = subst (λ (n : Name). indexIn n < 4096) (c .before .n2 .given .1) (c .before .before .before .pre .0)
+cover-solver-requires c κs = (subst (λ (n : Name). indexIn n < c .before .before .before .args .c .capacity) (c .before .n2 .given .1) (c .before .before .before .pre .0), c .before .before .before .pre .1)
 
--- src/lib.rt:88:1
 returns : tie.Need-returns
-returns c = c .cover-user .ensures ∙ sym (ap (λ (n : Name). coverName n (c .before .before .before .before .args .c) (c .before .before .before .before .args .g)) (c .before .before .n .given .1))
+returns c = c .cover-user .ensures ∙ sym (ap (λ (n : Name). coverName n (c .before .before .before .before .args .c) (c .before .before .before .before .args .g .0)) (c .before .before .n .given .1))
 
--- src/lib.rt:88:1
 returns-2 : tie.Need-returns-2
-returns-2 c = c .cover-solver .ensures ∙ sym (ap (λ (n : Name). coverName n (c .before .before .before .before .args .c) (c .before .before .before .before .args .g)) (c .before .before .n2 .given .1))
+returns-2 c = c .cover-solver .ensures ∙ sym (ap (λ (n : Name). coverName n (c .before .before .before .before .args .c) (c .before .before .before .before .args .g .0)) (c .before .before .n2 .given .1))
 
 pub cover-spec : {M : Type 1} → statement M
 cover-spec =

@@ -1,3 +1,4 @@
+use native.Mathlib.Omega.{arith}
 use Rattle.scope.proofs.CountsLaws.{cover-solver-is}
 use borrow.Author.Needs.{needs}
 use Rattle.scope.proofs.cover_solver.Statement.{statement}
@@ -6,17 +7,25 @@ use Rattle.scope.proofs.cover_solver.Reads as reads
 use Rattle.scope.proofs.cover_solver.Lts as lts
 use Rattle.scope.proofs.larger.Reads as larger-reads
 
--- src/lib.rt:84:36
 add-larger : tie.Need-add-larger
 add-larger c = search needs
 
--- src/lib.rt:84:5
 larger-requires : tie.Need-larger-requires
 larger-requires c κs = search needs
 
--- src/lib.rt:79:1
+add-larger-2 : tie.Need-add-larger-2
+add-larger-2 c = search needs
+
+larger-requires-2 : tie.Need-larger-requires-2
+larger-requires-2 c κs = search needs
+
 returns : tie.Need-returns
-returns c = cover-solver-is _ _ _ (c .larger .ensures)
+returns c = cover-solver-is _ _ _ _ _ (let l = c .before .before .larger .ensures in omega arith) (let l = c .larger2 .ensures in omega arith)
 
 pub cover-solver-spec : {M : Type 1} → statement M
-cover-solver-spec = tie.close (tie.spec add-larger larger-requires returns)
+cover-solver-spec = tie.close (tie.spec
+    add-larger
+    larger-requires
+    add-larger-2
+    larger-requires-2
+    returns)

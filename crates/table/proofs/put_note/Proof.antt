@@ -5,6 +5,9 @@ use borrow.Author.Needs.{needs}
 use Rattle.table.proofs.put_note.Statement.{statement}
 use Rattle.table.proofs.put_note.Tie as tie
 
+words-of-requires : tie.Need-words-of-requires
+words-of-requires c κs = c .before .pre .1
+
 mul-notes : tie.Need-mul-notes
 mul-notes c = search needs
 
@@ -33,12 +36,13 @@ same-length : tie.Need-same-length
 same-length c = search needs
 
 returns : tie.Need-returns
-returns c = simp towards-suc
+returns c = rw (← c .words-of .ensures) (simp towards-suc)
 
 pub put-note-spec : {M : Type 1} → statement M
 put-note-spec =
     tie.close
     (tie.spec
+    words-of-requires
     mul-notes
     slice-write-notes
     add-notes

@@ -7,23 +7,23 @@ use Rattle.scope.proofs.Counts.grant.Reads as reads
 use Rattle.scope.proofs.Counts.grant.Lts as lts
 use Rattle.scope.proofs.inserted.Reads as inserted-reads
 
--- src/lib.rt:175:13
 inserted-requires : tie.Need-inserted-requires
 inserted-requires c κs = search needs
 
--- src/lib.rt:166:5
 same-length : tie.Need-same-length
 same-length c = search needs
 
--- src/lib.rt:166:5
 same-length-2 : tie.Need-same-length-2
 same-length-2 c = search needs
 
--- src/lib.rt:166:5
 returns : tie.Need-returns
 returns c =
     let p = insert-done _ _ _ _ _ _ (Solver (c .before .before .before .before .before .before .before .before .before .before .args .solver)) _ _ (record { index = c .before .before .before .before .before .before .before .before .before .before .pre .1 .1 .1; global = c .before .before .before .before .before .before .before .before .before .before .pre .1 .1 .0; forward = c .before .before .before .before .before .before .before .before .before .before .pre .1 .0; backward = c .before .before .before .before .before .before .before .before .before .before .pre .0 }) (c .before .before .before .before .before .inserted .ensures) in
     (p .counts, (p .backward, p .forward))
 
 pub grant-spec : {M : Type 1} → statement M
-grant-spec = tie.close (tie.spec inserted-requires same-length same-length-2 returns)
+grant-spec = tie.close (tie.spec
+    inserted-requires
+    same-length
+    same-length-2
+    returns)

@@ -5,6 +5,7 @@ use lib.ListN.{length, getD}
 use mathlib.Core.Path.{_≡_}
 use native.Mathlib.Omega.{arith}
 use Rattle.steps.proofs.StoreLaws.{copied, copy-start, copy-next, copy-end, copy-kept, copy-there}
+use Rattle.steps.proofs.UnitLaws.{unit-asks, unit-named}
 use borrow.Author.Needs.{needs}
 use Rattle.steps.proofs.rename.rename_lits.Statement.{statement}
 use Rattle.steps.proofs.rename.rename_lits.Tie as tie
@@ -19,14 +20,28 @@ abbrev μ-loop : tie.MeasureT-loop
 loop-holds : tie.Need-loop-holds Inv-loop μ-loop
 loop-holds c = (omega arith, copy-start (renameLit (λ s. getD (c .before .before .before .before .before .before .before .before .args .gs .now) s 0) (c .before .before .before .before .before .before .before .before .args .solvervars)) (c .before .before .before .before .before .before .before .before .args .out .now) (c .before .before .before .before .before .before .before .before .args .lits .now))
 
-mul-rename-lit : tie.Need-mul-rename-lit Inv-loop μ-loop
-mul-rename-lit c = search needs
+add-rename-unit : tie.Need-add-rename-unit Inv-loop μ-loop
+add-rename-unit c = search needs
 
-shared-slice-read-rename-lit : tie.Need-shared-slice-read-rename-lit Inv-loop μ-loop
-shared-slice-read-rename-lit c = search needs
+mul-rename-unit : tie.Need-mul-rename-unit Inv-loop μ-loop
+mul-rename-unit c = search needs
 
-rename-lit-requires : tie.Need-rename-lit-requires Inv-loop μ-loop
-rename-lit-requires c κs = (word-small _ (c .before .before .before .before .before .before .before .before .before .before .before .pre .0) _, held-at _ _ _ _ (c .before .before .before .before .before .before .before .before .before .before .before .pre .1 .0) (c .before .loop-test .taken))
+sub-rename-unit : tie.Need-sub-rename-unit Inv-loop μ-loop
+sub-rename-unit c = search needs
+
+part-rename-unit-start : tie.Need-part-rename-unit-start Inv-loop μ-loop
+part-rename-unit-start c = search needs
+
+part-rename-unit-end : tie.Need-part-rename-unit-end Inv-loop μ-loop
+part-rename-unit-end c = search needs
+
+rename-unit-requires : tie.Need-rename-unit-requires Inv-loop μ-loop
+rename-unit-requires c κs =
+    let start = c .before .before .before .before .before .before .before .before .before .before .before in
+    let l = c .before .loop-test .taken in
+    unit-asks (start .args .gs .now) (start .args .solvervars) (start .args .lits .now) (c .before .before .loop .i) l
+    (word-small _ (start .pre .0) _)
+    (held-at _ _ _ _ (start .pre .1 .0) l)
 
 mul-out : tie.Need-mul-out Inv-loop μ-loop
 mul-out c = omega arith
@@ -41,7 +56,7 @@ loop-less : tie.Need-loop-less Inv-loop μ-loop
 loop-less c = omega arith
 
 loop-again : tie.Need-loop-again Inv-loop μ-loop
-loop-again c = (omega arith, copy-next (renameLit (λ s. getD (c .before .before .before .before .before .before .before .before .before .before .before .before .args .gs .now) s 0) (c .before .before .before .before .before .before .before .before .before .before .before .before .args .solvervars)) (c .before .before .before .before .before .before .before .before .before .before .before .before .args .out .now) (c .before .before .before .before .before .before .before .before .before .before .before .before .args .lits .now) _ _ _ (c .before .before .loop-test .taken) (c .before .before .before .loop .inv .1) (c .rename-lit .ensures))
+loop-again c = (omega arith, copy-next (renameLit (λ s. getD (c .before .before .before .before .before .before .before .before .before .before .before .before .args .gs .now) s 0) (c .before .before .before .before .before .before .before .before .before .before .before .before .args .solvervars)) (c .before .before .before .before .before .before .before .before .before .before .before .before .args .out .now) (c .before .before .before .before .before .before .before .before .before .before .before .before .args .lits .now) _ _ _ (c .before .before .loop-test .taken) (c .before .before .before .loop .inv .1) (unit-named (renameLit (λ s. getD (c .before .before .before .before .before .before .before .before .before .before .before .before .args .gs .now) s 0) (c .before .before .before .before .before .before .before .before .before .before .before .before .args .solvervars)) (c .before .before .before .before .before .before .before .before .before .before .before .before .args .lits .now) (c .before .before .before .loop .i) _ (c .before .before .loop-test .taken) (c .rename-unit .ensures)))
 
 same-length : tie.Need-same-length Inv-loop μ-loop
 same-length c = copy-kept (renameLit (λ s. getD (c .before .before .before .before .before .before .before .before .before .before .args .gs .now) s 0) (c .before .before .before .before .before .before .before .before .before .before .args .solvervars)) (c .before .before .before .before .before .before .before .before .before .before .args .out .now) (c .before .before .before .before .before .before .before .before .before .before .args .lits .now) _ (c .before .loop .i) (c .before .loop .inv .1)
@@ -57,9 +72,12 @@ rename-lits-spec =
     Inv-loop
     μ-loop
     loop-holds
-    mul-rename-lit
-    shared-slice-read-rename-lit
-    rename-lit-requires
+    add-rename-unit
+    mul-rename-unit
+    sub-rename-unit
+    part-rename-unit-start
+    part-rename-unit-end
+    rename-unit-requires
     mul-out
     slice-write-out
     add-i
