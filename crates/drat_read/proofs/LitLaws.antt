@@ -17,6 +17,10 @@ use Rattle.drat.specs.declared.Format.{Format}
 use Rattle.drat.specs.declared.Token.the-variants.{Lit, Stop, Bad}
 use Rattle.drat.specs.declared.Token.{Token}
 
+-- a literal's code may be written as any sum that it is
+pub lit-code : (x : Token) (c k j : ℕ) → x ≡ Lit c j → k ≡ c → x ≡ Lit k j
+lit-code x c k j e h = e ∙ ap (λ (i : ℕ). Lit i j) (sym h)
+
 lit-bad : (c j : ℕ) → Bad ≡ Lit c j → ⊥
 lit-bad c j e = let z : _≡_ {A = ℕ} 0 1 = cc in omega arith
 

@@ -155,9 +155,13 @@ count-room t u v k l e z q =
 pub fill-start : (t : Table) (l : List ℕ) → l ≡ sets l 0 (usersTo t 0)
 fill-start t l = rw (users-start t)
 
-pub fill-some : (t : Table) (l m : List ℕ) (u v k : ℕ) → m ≡ sets l 0 (usersTo t u) → k ≡ length (usersTo t u) → v ≡ userValue t u → (v ≡ 0 → ⊥)
+fill-code : (t : Table) (l m : List ℕ) (u v k : ℕ) → m ≡ sets l 0 (usersTo t u) → k ≡ length (usersTo t u) → v ≡ userValue t u → (v ≡ 0 → ⊥)
     → set m k (codeOf u (2 - v)) ≡ sets l 0 (usersTo t (u + 1))
-fill-some t l m u v k e q p n = rw (e, users-some t u v p n) (store-next l (usersTo t u) k (codeOf u (2 - v)) q)
+fill-code t l m u v k e q p n = rw (e, users-some t u v p n) (store-next l (usersTo t u) k (codeOf u (2 - v)) q)
+
+pub fill-some : (t : Table) (l m : List ℕ) (u v k w : ℕ) → m ≡ sets l 0 (usersTo t u) → k ≡ length (usersTo t u) → v ≡ userValue t u → (v ≡ 0 → ⊥)
+    → w ≡ codeOf u (2 - v) → set m k w ≡ sets l 0 (usersTo t (u + 1))
+fill-some t l m u v k w e q p n h = ap (λ (x : ℕ). set m k x) h ∙ fill-code t l m u v k e q p n
 
 pub fill-none : (t : Table) (l m : List ℕ) (u v : ℕ) → m ≡ sets l 0 (usersTo t u) → v ≡ userValue t u → v ≡ 0 → m ≡ sets l 0 (usersTo t (u + 1))
 fill-none t l m u v e p z = e ∙ sym (ap (sets l 0) (users-none t u v p z))

@@ -142,8 +142,8 @@ module _ (t : Table) (g from n outs : ℕ) (h : Observes t g from n outs) where
           let z = h .sound .sizes in
           omega arith
 
-      pub one-fits : (u : ℕ) → u ≡ nextUser t → u + 1 < 2 ^ 32
-      one-fits u p = let l = next-small in omega arith
+      pub one-small : (u : ℕ) → u ≡ nextUser t → u < 4096
+      one-small u p = let l = next-small in omega arith
 
       after-mapped : (u : ℕ) (left : Table) → u ≡ nextUser t → left ≡ show g 1 t .table → AllMapped (left .globalFromUser) (left .counts .user) (u + 1)
       unfolding show giveUser nextUser
@@ -158,14 +158,14 @@ module _ (t : Table) (g from n outs : ℕ) (h : Observes t g from n outs) where
               let z = h .sound .sizes in
               omega arith
 
-      pub one-shows : (at next u : ℕ) (left : Table) (words words2 users : List ℕ) → Leaves (show g 1 t) at next left words words2 → u ≡ nextUser t
-          → Leaves (observeOne g t) at next left words words2 × (Filled (observeOne g t) n (n + 1) users (set users n u) × AllMapped (left .globalFromUser) (left .counts .user) (u + 1))
+      pub one-shows : (at next u from : ℕ) (left : Table) (words words2 users : List ℕ) → Leaves (show g 1 t) at next left words words2 → u ≡ nextUser t → from ≡ u + 1
+          → Leaves (observeOne g t) at next left words words2 × (Filled (observeOne g t) n (n + 1) users (set users n u) × AllMapped (left .globalFromUser) (left .counts .user) from)
       unfolding show
-      one-shows at next u left words words2 users k p = (
+      one-shows at next u from left words words2 users k p e = (
         subst (λ (x : Result (List ℕ)). Leaves x at next left words words2) (sym shows) k,
         (
           subst (λ (x : Result (List ℕ)). Filled x n (n + 1) users (set users n u)) (sym shows)
               (record { values = ap (λ (v : ℕ). set users n v) p; moved = refl }),
-          after-mapped u left p (k .table),
+          subst (λ (v : ℕ). AllMapped (left .globalFromUser) (left .counts .user) v) (sym e) (after-mapped u left p (k .table)),
         ),
       )

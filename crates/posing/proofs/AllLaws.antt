@@ -79,13 +79,13 @@ turn-small t lits outs i at v next s s2 words words1 words2 out out' h l d m =
     let e : v ≡ placed (indexOf (getD lits i 0)) (each i (poseStep lits) t .table) .value = m .value ∙ ap (λ (y : Table). placed (indexOf (getD lits i 0)) y .value) (d .step .table) in
     omega arith
 
-pub done-more : (t : Table) (lits : List ℕ) (i at v next : ℕ) (s s2 : Table) (words words1 words2 out out1 out2 : List ℕ) → i < length lits
+pub done-more : (t : Table) (lits : List ℕ) (i at v next w : ℕ) (s s2 : Table) (words words1 words2 out out1 : List ℕ) → i < length lits
     → Done t lits i at s words words1 out out1
     → Leaves (placed (indexOf (getD lits i 0)) s) at v next s2 words1 words2
-    → out2 ≡ set out1 i (codeOf v (signOf (getD lits i 0)))
-    → Done t lits (i + 1) next s2 words words2 out out2
+    → w ≡ codeOf v (signOf (getD lits i 0))
+    → Done t lits (i + 1) next s2 words words2 out (set out1 i w)
 unfolding poseOne
-done-more t lits i at v next s s2 words words1 words2 out out1 out2 l d m q =
+done-more t lits i at v next w s s2 words words1 words2 out out1 l d m q =
     let c = getD lits i 0 in
     let a = leaves-giving (λ (k : ℕ). k ∷ []) (leaves-giving (λ (k : ℕ). codeOf k (signOf c)) m) in
     let b = leaves-joined (each i (poseStep lits) t) (poseStep lits i) 0 _ at _ next s s2 words words1 words2 (d .step) a in
@@ -94,7 +94,7 @@ done-more t lits i at v next s s2 words words1 words2 out out1 out2 l d m q =
     record {
       most = omega arith;
       step = record { value = refl; table = k .table; noted = k .noted; moved = k .moved };
-      filled = q
+      filled = ap (λ (j : ℕ). set out1 i j) q
           ∙ ap (λ (x : List ℕ). set x i (codeOf v (signOf c))) (d .filled)
           ∙ ap (λ (j : ℕ). sets (sets out 0 (each i (poseStep lits) t .value)) j (codeOf v (signOf c) ∷ [])) (place (pose-part-words t lits i))
           ∙ sym (sets-append (each i (poseStep lits) t .value) (codeOf v (signOf c) ∷ []) out 0)

@@ -1,6 +1,7 @@
-use Rattle.deletion.proofs.DeletionLaws.{delete-fits, delete-room, delete-leaves, keep-leaves}
+use Rattle.deletion.proofs.DeletionLaws.{false-of, delete-fits, delete-room, delete-leaves, keep-leaves}
 use mathlib.Core.Path.{refl}
 use native.Mathlib.Omega.{arith}
+use Rattle.base.proofs.Truth.{truth}
 use borrow.Author.Needs.{needs}
 use Rattle.deletion.proofs.delete_global_if_unused.Statement.{statement}
 use Rattle.deletion.proofs.delete_global_if_unused.Tie as tie
@@ -36,7 +37,9 @@ slice-write-records : tie.Need-slice-write-records
 slice-write-records c = search needs
 
 put-note-requires : tie.Need-put-note-requires
-put-note-requires c κs = (delete-room _ _ (c .before .before .before .before .before .before .before .before .before .before .before .before .before .pre .0) (c .before .if1 .taken) _ _ (c .before .before .before .before .before .before .before .before .before .before .before .before .before .pre .1), omega arith)
+put-note-requires c κs =
+    let k = simp truth at (c .before .if1 .taken) in
+    (delete-room _ _ (c .before .before .before .before .before .before .before .before .before .before .before .before .before .pre .0) (simp truth (omega arith)) _ _ (c .before .before .before .before .before .before .before .before .before .before .before .before .before .pre .1), omega arith)
 
 add-t28 : tie.Need-add-t28
 add-t28 c = search needs
@@ -48,10 +51,12 @@ same-length-2 : tie.Need-same-length-2
 same-length-2 c = search needs
 
 returns : tie.Need-returns
-returns c = delete-leaves _ _ (c .before .before .before .before .before .before .before .before .before .before .before .before .before .before .before .before .pre .0) (c .before .before .before .before .if1 .taken) _ _ _ _ refl (c .before .before .put-note .ensures)
+returns c =
+    let k = simp truth at (c .before .before .before .before .if1 .taken) in
+    delete-leaves _ _ (c .before .before .before .before .before .before .before .before .before .before .before .before .before .before .before .before .pre .0) (simp truth (omega arith)) _ _ _ _ refl (c .before .before .put-note .ensures)
 
 returns-2 : tie.Need-returns-2
-returns-2 c = keep-leaves _ _ (c .before .before .before .before .before .before .before .before .before .before .before .before .pre .0) (c .if1 .left) _ _
+returns-2 c = keep-leaves _ _ (c .before .before .before .before .before .before .before .before .before .before .before .before .pre .0) (false-of _ _ (λ h. let k = simp truth at h in simp truth (omega arith)) (c .if1 .left)) _ _
 
 pub delete-global-if-unused-spec : {M : Type 1} → statement M
 delete-global-if-unused-spec =

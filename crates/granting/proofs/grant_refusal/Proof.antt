@@ -1,5 +1,6 @@
 use Rattle.table.proofs.CheckLaws.{yes-of, no-of}
 use Rattle.granting.proofs.GrantLaws.{refuse-1, refuse-3, below-records, refuse-6, below-solvers, refuse-2, refuse-0}
+use native.Mathlib.Omega.{arith}
 use borrow.Author.Needs.{needs}
 use Rattle.granting.proofs.grant_refusal.Statement.{statement}
 use Rattle.granting.proofs.grant_refusal.Tie as tie
@@ -23,7 +24,9 @@ shared-slice-read-if3 : tie.Need-shared-slice-read-if3
 shared-slice-read-if3 c = below-records _ _ 0 (yes-of (c .before .before .before .before .before .before .is-sound .ensures) (c .before .before .before .before .before .if1 .left)) (c .before .before .if2 .left)
 
 returns-3 : tie.Need-returns-3
-returns-3 c = refuse-6 _ _ _ (yes-of (c .before .before .before .before .before .before .before .is-sound .ensures) (c .before .before .before .before .before .before .if1 .left)) (c .before .before .before .if2 .left) (c .if3 .taken)
+returns-3 c =
+    let e = refuse-6 _ _ (c .before .before .before .before .before .before .before .before .before .before .before .before .before .before .args .room) (yes-of (c .before .before .before .before .before .before .before .is-sound .ensures) (c .before .before .before .before .before .before .if1 .left)) (c .before .before .before .if2 .left) (c .if3 .taken) in
+    omega (arith, e)
 
 mul-if4 : tie.Need-mul-if4
 mul-if4 c = search needs

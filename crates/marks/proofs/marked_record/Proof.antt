@@ -1,6 +1,7 @@
 use Rattle.scope.specs.Marks.{marked}
 use Rattle.scope.specs.declared.Mark.{Mark}
-use mathlib.Core.Path.{sym, ap}
+use mathlib.Core.Path.{ap}
+use native.Mathlib.Omega.{arith}
 use borrow.Author.Needs.{needs}
 use Rattle.marks.proofs.marked_record.Statement.{statement}
 use Rattle.marks.proofs.marked_record.Tie as tie
@@ -36,13 +37,13 @@ add-result-4 : tie.Need-add-result-4
 add-result-4 c = search needs
 
 returns : tie.Need-returns
-returns c = sym (ap (λ (m : Mark). marked m (c .before .before .args .w)) (c .enum-told .given .1))
+returns c = let e = ap (λ (m : Mark). marked m (c .before .before .args .w)) (c .enum-told .given .1) in omega (arith, e)
 
 returns-2 : tie.Need-returns-2
-returns-2 c = sym (ap (λ (m : Mark). marked m (c .before .before .args .w)) (c .enum-told2 .given .1))
+returns-2 c = let e = ap (λ (m : Mark). marked m (c .before .before .args .w)) (c .enum-told2 .given .1) in omega (arith, e)
 
 returns-3 : tie.Need-returns-3
-returns-3 c = sym (ap (λ (m : Mark). marked m (c .before .before .args .w)) (c .enum-told3 .given .1))
+returns-3 c = let e = ap (λ (m : Mark). marked m (c .before .before .args .w)) (c .enum-told3 .given .1) in omega (arith, e)
 
 pub marked-record-spec : {M : Type 1} → statement M
 marked-record-spec =

@@ -51,7 +51,7 @@ loop-less : tie.Need-loop-less Inv-loop μ-loop
 loop-less c = omega arith
 
 loop-again : tie.Need-loop-again Inv-loop μ-loop
-loop-again c = ⊎-elim (λ w. (omega arith, w .2 ∙ count-some _ _ _ _ (c .before .user-value .ensures .0) (w .0 .taken) (c .before .before .before .before .loop .inv .1), w .1 ∙ fill-some _ _ _ _ _ _ (c .before .before .before .before .loop .inv .2) (c .before .before .before .before .loop .inv .1) (c .before .user-value .ensures .0) (w .0 .taken))) (λ w. (omega arith, w .2 ∙ count-none _ _ _ _ (c .before .user-value .ensures .0) (w .0 .left) (c .before .before .before .before .loop .inv .1), w .1 ∙ fill-none _ _ _ _ _ (c .before .before .before .before .loop .inv .2) (c .before .user-value .ensures .0) (w .0 .left))) (c .if2 .came)
+loop-again c = ⊎-elim (λ w. (omega arith, w .2 ∙ count-some _ _ _ _ (c .before .user-value .ensures .0) (w .0 .taken) (c .before .before .before .before .loop .inv .1), w .1 ∙ fill-some _ _ _ _ _ _ _ (c .before .before .before .before .loop .inv .2) (c .before .before .before .before .loop .inv .1) (c .before .user-value .ensures .0) (w .0 .taken) (omega arith))) (λ w. (omega arith, w .2 ∙ count-none _ _ _ _ (c .before .user-value .ensures .0) (w .0 .left) (c .before .before .before .before .loop .inv .1), w .1 ∙ fill-none _ _ _ _ _ (c .before .before .before .before .loop .inv .2) (c .before .user-value .ensures .0) (w .0 .left))) (c .if2 .came)
 
 same-length : tie.Need-same-length Inv-loop μ-loop
 same-length c = fill-kept _ _ _ _ (c .before .before .loop .inv .2)

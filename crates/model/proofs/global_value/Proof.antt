@@ -14,7 +14,7 @@ shared-slice-read-x : tie.Need-shared-slice-read-x
 shared-slice-read-x c = global-there _ (c .before .before .pre .0) _ (c .before .before .pre .1) .0
 
 returns : tie.Need-returns
-returns c = (value-deleted _ (c .before .before .before .pre .0) _ (c .before .before .before .pre .1) (c .if1 .taken), omega arith)
+returns c = (value-deleted _ (c .before .before .before .pre .0) _ (c .before .before .before .pre .1) (omega arith), omega arith)
 
 mul-w : tie.Need-mul-w
 mul-w c = search needs
@@ -35,13 +35,15 @@ shared-slice-read-result : tie.Need-shared-slice-read-result
 shared-slice-read-result c = held-there _ (c .before .before .before .before .before .before .pre .0) _ (c .before .if2 .taken)
 
 returns-2 : tie.Need-returns-2
-returns-2 c = (value-held _ (c .before .before .before .before .before .before .pre .0) _ (c .before .before .before .before .before .before .pre .1) (c .before .before .before .if1 .left) (c .before .if2 .taken), value-small _ (c .before .before .before .before .before .before .pre .0) _)
+returns-2 c = (value-held _ (c .before .before .before .before .before .before .pre .0) _ (c .before .before .before .before .before .before .pre .1) (omega arith) (c .before .if2 .taken), value-small _ (c .before .before .before .before .before .before .pre .0) _)
 
 returns-3 : tie.Need-returns-3
-returns-3 c = (value-false _ (c .before .before .before .before .before .before .pre .0) _ (c .before .before .before .before .before .before .pre .1) (c .before .before .before .if1 .left) (c .before .if2 .left) (c .if3 .taken), omega arith)
+returns-3 c =
+    let e = value-false _ (c .before .before .before .before .before .before .pre .0) _ (c .before .before .before .before .before .before .pre .1) (omega arith) (c .before .if2 .left) (c .if3 .taken) in
+    (omega (arith, e), omega arith)
 
 returns-4 : tie.Need-returns-4
-returns-4 c = (value-own _ (c .before .before .before .before .before .before .pre .0) _ (c .before .before .before .before .before .before .pre .1) (c .before .before .before .if1 .left) (c .before .if2 .left) (c .if3 .left), omega arith)
+returns-4 c = (value-own _ (c .before .before .before .before .before .before .pre .0) _ (c .before .before .before .before .before .before .pre .1) (omega arith) (c .before .if2 .left) (c .if3 .left), omega arith)
 
 pub global-value-spec : {M : Type 1} → statement M
 global-value-spec =

@@ -1,4 +1,5 @@
 use Rattle.removal.proofs.SweepOneLaws.{learnt-none, learnt-some}
+use native.Mathlib.Omega.{arith}
 use borrow.Author.Needs.{needs}
 use Rattle.removal.proofs.learnt_record.Statement.{statement}
 use Rattle.removal.proofs.learnt_record.Tie as tie
@@ -22,7 +23,7 @@ add-result-3 : tie.Need-add-result-3
 add-result-3 c = search needs
 
 returns-2 : tie.Need-returns-2
-returns-2 c = learnt-some _ _ (c .if1 .left)
+returns-2 c = let e = learnt-some (c .before .args .w) _ (c .if1 .left) in omega (arith, e)
 
 pub learnt-record-spec : {M : Type 1} → statement M
 learnt-record-spec =

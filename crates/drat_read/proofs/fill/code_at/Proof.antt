@@ -3,7 +3,7 @@ use Prim.Native.Nat.{_+_, _-_}
 use mathlib.Core.Path.{sym, _∙_}
 use native.Mathlib.Omega.{arith}
 use Rattle.drat.specs.declared.Format.the-variants.{Binary}
-use Rattle.drat_read.proofs.LitLaws.{token-inside, binary-literal, leb-one, leb-two}
+use Rattle.drat_read.proofs.LitLaws.{token-inside, binary-literal, leb-one, leb-two, lit-code}
 use Rattle.drat_read.proofs.fill.code_at.Statement.{statement}
 use Rattle.drat_read.proofs.fill.code_at.Tie as tie
 
@@ -149,7 +149,7 @@ returns-2 c =
     let b = binary-literal s (a .at) h (c .before .before .before .pre .0) in
     let e = sym b ∙ t in
     let d = leb-two s (a .at) (c .before .before .before .pre .1 .code) (c .before .before .before .pre .1 .next) e (c .before .if1 .left) in
-    b ∙ d .2
+    lit-code _ _ _ _ (b ∙ d .2) (omega arith)
 
 pub code-at-spec : {M : Type 1} → statement M
 code-at-spec =

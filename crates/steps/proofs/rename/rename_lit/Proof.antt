@@ -28,7 +28,9 @@ add-result : tie.Need-add-result
 add-result c = omega (arith, (c .before .before .pre .0))
 
 returns-2 : tie.Need-returns-2
-returns-2 c = name-solver (λ s. getD (c .before .before .args .gs .now) s 0) (c .before .before .args .solvervars) _ (not-false (c .before .before .args .solvervars) (c .before .if1 .left))
+returns-2 c =
+    let e = name-solver (λ s. getD (c .before .before .args .gs .now) s 0) (c .before .before .args .solvervars) (c .before .before .args .code) (not-false (c .before .before .args .solvervars) (c .before .if1 .left)) in
+    omega (arith, e)
 
 pub rename-lit-spec : {M : Type 1} → statement M
 rename-lit-spec =
