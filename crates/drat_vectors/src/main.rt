@@ -35,7 +35,10 @@ fn line(name: &[u8], agree: u32, of: u32) {
 fn leb(n: u32, image: &[u8]) -> u32
     ensures { λ r. ⌜ r ≤ 1 ⌝ }
 {
-    if (n == 0) | (16384 <= n) {
+    if n == 0 {
+        return 0;
+    }
+    if 16384 <= n {
         return 0;
     }
     let mut out = [170u8; 6];
