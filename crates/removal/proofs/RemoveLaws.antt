@@ -47,11 +47,12 @@ module _ (t : Table) (g s : ℕ) (d : Counts) (sg gs : List ℕ) (e : (d ≡ t .
   unfolding notesWords
   taken-leaves at words words2 q = record { table = mid-is; noted = q; moved = omega arith }
 
-  pub remove-leaves : (at next : ℕ) (left : Table) (words words2 words3 : List ℕ) → words2 ≡ sets words at (1 ∷ g ∷ 0 ∷ [])
-      → Leaves (deleteIfUnused g (tableOf d (t .globalFromUser) (t .userFromGlobal) sg gs (t .assignment) (t .records))) (at + 3) next left words2 words3
-      → Leaves (removeHeld g s t) at next left words words3
+  pub remove-leaves : (at next past : ℕ) (left : Table) (words words2 words3 : List ℕ) → words2 ≡ sets words at (1 ∷ g ∷ 0 ∷ [])
+      → Leaves (deleteIfUnused g (tableOf d (t .globalFromUser) (t .userFromGlobal) sg gs (t .assignment) (t .records))) (at + 3) past left words2 words3
+      → next ≡ past → Leaves (removeHeld g s t) at next left words words3
   unfolding removeHeld mid
-  remove-leaves at next left words words2 words3 q k = leaves-then (deleteIfUnused g) (taken-leaves at words words2 q) k
+  remove-leaves at next past left words words2 words3 q k e =
+      subst (λ (n : ℕ). Leaves (removeHeld g s t) at n left words words3) (sym e) (leaves-then (deleteIfUnused g) (taken-leaves at words words2 q) k)
 
   pub remove-asks : (at room room2 : ℕ) → Holding t g s → Room (removeHeld g s t) at room → room2 ≡ room
       → Live (tableOf d (t .globalFromUser) (t .userFromGlobal) sg gs (t .assignment) (t .records)) g

@@ -1,4 +1,5 @@
 use Rattle.naming.proofs.FreeLaws.{for-own, for-least, for-passed}
+use native.Mathlib.Omega.{arith}
 use borrow.Author.Needs.{needs}
 use Rattle.naming.proofs.global_for.Statement.{statement}
 use Rattle.naming.proofs.global_for.Tie as tie
@@ -13,7 +14,9 @@ shared-slice-read-if1 : tie.Need-shared-slice-read-if1
 shared-slice-read-if1 c = search needs
 
 returns : tie.Need-returns
-returns c = (for-own _ _ _ (c .before .before .before .pre .1 .0) (c .if1 .taken), c .before .before .before .pre .1 .1)
+returns c =
+    let e = for-own (c .before .before .before .args .records .now) (c .before .before .before .args .mark) (c .before .before .before .args .user .0) (c .before .before .before .pre .1 .0) (c .if1 .taken) in
+    (omega (arith, e), c .before .before .before .pre .1 .1)
 
 least-deleted-requires : tie.Need-least-deleted-requires
 least-deleted-requires c κs = search needs

@@ -29,7 +29,7 @@ same-length-4 : tie.Need-same-length-4
 same-length-4 c = search needs
 
 returns : tie.Need-returns
-returns c = remove-leaves _ _ _ _ _ _ (c .before .before .before .before .before .before .before .before .before .before .before .before .before .before .before .before .before .remove .ensures) _ _ _ _ _ _ (c .before .before .before .before .before .before .before .before .before .before .before .put-note .ensures) (c .before .before .before .before .delete-global-if-unused .ensures)
+returns c = remove-leaves _ _ _ _ _ _ (c .before .before .before .before .before .before .before .before .before .before .before .before .before .before .before .before .before .remove .ensures) _ _ _ _ _ _ _ (c .before .before .before .before .before .before .before .before .before .before .before .put-note .ensures) (c .before .before .before .before .delete-global-if-unused .ensures) (omega arith)
 
 pub remove-held-spec : {M : Type 1} → statement M
 remove-held-spec =

@@ -1,5 +1,7 @@
 use Rattle.scope.specs.Sound.{tailsb}
 use Rattle.table.proofs.CheckLaws.{sizes-is}
+use mathlib.Core.Bool.{_&&_}
+use mathlib.Core.Path.{ap₂}
 use native.Mathlib.Omega.{arith}
 use Rattle.table.proofs.checks.tails_ok.Statement.{statement}
 use Rattle.table.proofs.checks.tails_ok.Tie as tie
@@ -36,7 +38,7 @@ tail-ok-requires-6 c κs =
 
 returns : tie.Need-returns
 unfolding tailsb
-returns c = cc
+returns c = ap₂ _&&_ (ap₂ _&&_ (ap₂ _&&_ (ap₂ _&&_ (ap₂ _&&_ (c .before .before .before .before .before .tail-ok .ensures) (c .before .before .before .before .tail-ok2 .ensures)) (c .before .before .before .tail-ok3 .ensures)) (c .before .before .tail-ok4 .ensures)) (c .before .tail-ok5 .ensures)) (c .tail-ok6 .ensures)
 
 pub tails-ok-spec : {M : Type 1} → statement M
 tails-ok-spec =
