@@ -1,8 +1,8 @@
 use Prim.Native.Nat.{_-_, _≤_}
 use lib.ListN.{length}
 use borrow.Author.Needs.{needs}
-use Rattle.counter.proofs.say.bytes.Statement.{statement}
-use Rattle.counter.proofs.say.bytes.Tie as tie
+use Rattle.telling.proofs.bytes.Statement.{statement}
+use Rattle.telling.proofs.bytes.Tie as tie
 
 abbrev Inv-loop : tie.InvT-loop
 Inv-loop s n i₀ i = 0 ≤ i

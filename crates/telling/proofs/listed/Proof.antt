@@ -1,8 +1,8 @@
 use Prim.Native.Nat.{_-_, _≤_}
 use lib.ListN.{length}
 use borrow.Author.Needs.{needs}
-use Rattle.counter.proofs.say.listed.Statement.{statement}
-use Rattle.counter.proofs.say.listed.Tie as tie
+use Rattle.telling.proofs.listed.Statement.{statement}
+use Rattle.telling.proofs.listed.Tie as tie
 
 abbrev Inv-loop : tie.InvT-loop
 Inv-loop words n i₀ i = i ≤ 16

@@ -1,7 +1,4 @@
 // Calls about steps: each is made on a clause of solver literals and its answer and bytes are printed; the count of bytes comes back.
-use crate::say;
-use crate::say::Sort;
-use crate::script::Writing;
 use drat::Format;
 use scope::Counts;
 use scope::DeleteClauseProof;
@@ -12,6 +9,71 @@ use steps::rename::Renamed;
 use steps::rename::rename_step;
 use steps::write::Recorded;
 use steps::write::write_step;
+use telling::Sort;
+
+// Calls about steps, of solver literals.
+pub enum Writing {
+    Add,
+    Delete,
+    Rename,
+    Simplify,
+}
+
+// What is asked.
+fn asked(call: Writing, lits: &[u32]) {
+    match call {
+        Writing::Add => telling::text(b"write an add of solver literals"),
+        Writing::Delete => telling::text(b"write a delete of solver literals"),
+        Writing::Rename => telling::text(b"rename"),
+        Writing::Simplify => telling::text(b"simplify"),
+    }
+    telling::lits(Sort::SolverLit, lits);
+    telling::text(b":");
+}
+
+fn recorded(r: Recorded, out: &[u8]) -> usize {
+    telling::text(b" ");
+    match r {
+        Recorded::Done(n) => {
+            telling::quoted(out, n);
+            n
+        }
+        Recorded::Refused(n) => {
+            telling::refused(n);
+            0
+        }
+    }
+}
+
+fn renamed(r: Renamed, out: &[u32; 3]) {
+    match r {
+        Renamed::Done(k, _, _) => {
+            telling::words(Sort::GlobalLit, out, 0, k);
+            telling::text(b"\n")
+        }
+        Renamed::Refused(n) => {
+            telling::text(b" ");
+            telling::refused(n)
+        }
+    }
+}
+
+fn reduced(r: Reduced, out: &[u32; 3], bytes: &[u8]) -> usize {
+    telling::text(b" ");
+    match r {
+        Reduced::Done(what, k, _, n) => {
+            telling::simplified(what);
+            telling::words(Sort::SolverLit, out, 0, k);
+            telling::text(b"; ");
+            telling::quoted(bytes, n);
+            n
+        }
+        Reduced::Refused(n) => {
+            telling::refused(n);
+            0
+        }
+    }
+}
 
 // Write.
 fn write(
@@ -26,8 +88,6 @@ fn write(
     lits: &[u32],
     out: &mut [u8],
 ) -> usize {
-    say::lits(lits);
-    say::text(b": ");
     let hashes = [0u64; 1];
     let r = write_step(
         c,
@@ -44,16 +104,7 @@ fn write(
         &hashes,
         out,
     );
-    match r {
-        Recorded::Done(n) => {
-            say::quoted(out, n);
-            n
-        }
-        Recorded::Refused(n) => {
-            say::refused(n);
-            0
-        }
-    }
+    recorded(r, out)
 }
 
 // Rename.
@@ -67,9 +118,6 @@ fn rename(
     records: &[u32],
     lits: &[u32],
 ) {
-    say::text(b"rename");
-    say::lits(lits);
-    say::text(b":");
     let hashes = [0u64; 1];
     let mut out = [0u32; 3];
     let mut hashout = [0u64; 1];
@@ -89,13 +137,7 @@ fn rename(
         &mut out,
         &mut hashout,
     );
-    match r {
-        Renamed::Done(k, _, _) => {
-            say::words(Sort::Literal, &out, 0, k);
-            say::text(b"\n");
-        }
-        Renamed::Refused(n) => say::refused(n),
-    }
+    renamed(r, &out)
 }
 
 // Simplify.
@@ -110,9 +152,6 @@ fn shorten(
     lits: &[u32],
     bytes: &mut [u8],
 ) -> usize {
-    say::text(b"simplify");
-    say::lits(lits);
-    say::text(b": ");
     let mut out = [0u32; 3];
     let r = simplify_clause(
         c,
@@ -128,19 +167,7 @@ fn shorten(
         &mut out,
         bytes,
     );
-    match r {
-        Reduced::Done(what, k, _, n) => {
-            say::simplified(what);
-            say::words(Sort::Literal, &out, 0, k);
-            say::text(b"; ");
-            say::quoted(bytes, n);
-            n
-        }
-        Reduced::Refused(n) => {
-            say::refused(n);
-            0
-        }
-    }
+    reduced(r, &out, bytes)
 }
 
 // The call, whichever it is, with its literals.
@@ -156,24 +183,13 @@ pub fn write_call(
     lits: &[u32],
     out: &mut [u8],
 ) -> usize {
+    asked(call, lits);
     match call {
         Writing::Add => {
-            say::text(b"write an add of solver literals");
-            write(
-                c,
-                gu,
-                ug,
-                sg,
-                gs,
-                assignment,
-                records,
-                ProofStep::AtClause(false),
-                lits,
-                out,
-            )
+            let step = ProofStep::AtClause(false);
+            write(c, gu, ug, sg, gs, assignment, records, step, lits, out)
         }
         Writing::Delete => {
-            say::text(b"write a delete of solver literals");
             let step = ProofStep::DeleteClause(DeleteClauseProof::Redundant);
             write(c, gu, ug, sg, gs, assignment, records, step, lits, out)
         }

@@ -1,4 +1,5 @@
-// What is printed: indices as they are, literals as DIMACS numbers, notes in document 01's notation, refusals with their meaning.
+// What `counter` prints. Indices have a letter and count from 0: u a user, g a global, s a solver index; a literal is its index, after a
+// minus sign where it is negative. Notes are in document 01's notation, and refusals have their meaning beside them.
 use scope::Mark;
 use scope::SamplingMode;
 use scope::Simplified;
@@ -11,84 +12,108 @@ pub fn number(n: u32) {
     io::print_decimal(1, n as u64);
 }
 
-// An index and what it is of.
+// An index after a name, which ends in the index's letter.
 pub fn index(name: &[u8], i: u32) {
     text(name);
     number(i);
 }
 
-pub fn lit(code: u32) {
+// How to read the lines.
+pub fn legend() {
+    text(
+        b"u0, u1, .. are users; g0, g1, .. globals; s0, s1, .. solver indices: each sort is counted from 0. A minus sign negates a literal.\n\
+        Notes: U(g2,u1) gives g2 the user u1, S(g2,s0) gives it the solver index s0, and - for the index takes it back; D(g2) deletes g2;\n\
+        C(g2,yes) makes g2 Sample, C(g2,no) makes it Witness.\n\
+        Bytes of the proof file stand in quotes. There g0 is 1, g1 is 2, g2 is 3, g3 is 4, g4 is 5, d begins a delete and 0 ends a step.\n\
+        After the calls the file is read back step by step, and the model is printed.\n\n",
+    );
+}
+
+fn lit(letter: &[u8], code: u32) {
     if code % 2 == 1 {
         text(b"-");
     }
-    number(code / 2 + 1);
+    index(letter, code / 2);
 }
 
-fn value(word: u32) {
+fn value(i: u32, word: u32) {
+    index(b"g", i);
     match word {
-        0 => text(b"none"),
-        1 => text(b"false"),
-        _ => text(b"true"),
+        0 => text(b" none"),
+        1 => text(b" false"),
+        _ => text(b" true"),
     }
 }
 
-// What a word is: a literal's code, an index, a value.
+// What a word is: the code of a literal of users, of globals or of solver indices; a user; the value of a global.
 pub enum Sort {
-    Literal,
-    Index,
+    UserLit,
+    GlobalLit,
+    SolverLit,
+    User,
     Value,
 }
 
-fn word(sort: Sort, w: u32) {
+// Word i of a list.
+fn word(sort: Sort, i: u32, w: u32) {
     text(b" ");
     match sort {
-        Sort::Literal => lit(w),
-        Sort::Index => number(w),
-        Sort::Value => value(w),
+        Sort::UserLit => lit(b"u", w),
+        Sort::GlobalLit => lit(b"g", w),
+        Sort::SolverLit => lit(b"s", w),
+        Sort::User => index(b"u", w),
+        Sort::Value => value(i, w),
     }
 }
 
-// The words from a to b, each after a blank, as far as the slice goes.
+// The words from a to b, each after a blank, as far as the slice goes. A table has at most 4,096 globals.
 pub fn words(sort: Sort, ws: &[u32], a: usize, b: usize) {
     let mut i = a;
     while i < ws.len() {
         if b <= i {
             return;
         }
-        word(sort, ws[i]);
+        word(sort, (i % 4096) as u32, ws[i]);
         i += 1;
     }
 }
 
-pub fn lits(codes: &[u32]) {
-    words(Sort::Literal, codes, 0, codes.len());
+// The literals of a clause.
+pub fn lits(sort: Sort, codes: &[u32]) {
+    words(sort, codes, 0, codes.len());
 }
 
 // The last word of a U or S: the index, or - where it is withdrawn.
-fn name_or_dash(last: u32) {
+fn name_or_dash(letter: &[u8], last: u32) {
     if last == 0 {
-        text(b"-");
+        text(b",-");
         return;
     }
-    number(last - 1);
+    index(letter, last - 1);
+}
+
+fn sampled(last: u32) {
+    if last == 1 {
+        text(b",yes");
+    } else {
+        text(b",no");
+    }
 }
 
 fn note(kind: u32, global: u32, last: u32) {
     match kind {
-        0 => index(b" U(", global),
-        1 => index(b" S(", global),
-        2 => index(b" D(", global),
-        _ => index(b" C(", global),
-    }
-    if kind < 2 {
-        text(b",");
-        name_or_dash(last);
-    }
-    if kind == 3 {
-        if last == 1 {
-            text(b",yes");
-        } else {
-            text(b",no");
+        0 => {
+            index(b" U(g", global);
+            name_or_dash(b",u", last)
+        }
+        1 => {
+            index(b" S(g", global);
+            name_or_dash(b",s", last)
+        }
+        2 => index(b" D(g", global),
+        _ => {
+            index(b" C(g", global);
+            sampled(last)
         }
     }
     text(b")");

@@ -1,8 +1,8 @@
 use Prim.Native.Nat.{_-_, _≤_}
 use lib.ListN.{length}
 use borrow.Author.Needs.{needs}
-use Rattle.counter.proofs.say.words.Statement.{statement}
-use Rattle.counter.proofs.say.words.Tie as tie
+use Rattle.telling.proofs.words.Statement.{statement}
+use Rattle.telling.proofs.words.Tie as tie
 
 abbrev Inv-loop : tie.InvT-loop
 Inv-loop sort ws a b i₀ i = 0 ≤ i
@@ -15,6 +15,9 @@ loop-holds c = search needs
 
 returns : tie.Need-returns Inv-loop μ-loop
 returns c = search needs
+
+cast-word : tie.Need-cast-word Inv-loop μ-loop
+cast-word c = search needs
 
 mul-word : tie.Need-mul-word Inv-loop μ-loop
 mul-word c = search needs
@@ -45,6 +48,7 @@ words-spec =
     μ-loop
     loop-holds
     returns
+    cast-word
     mul-word
     shared-slice-read-word
     word-requires
