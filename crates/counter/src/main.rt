@@ -1,28 +1,24 @@
 // A day at the counter of a maker of smart cash boxes: one session from Open to Model at capacity 8, then a short one at capacity 2.
 // Each call is made, and its answer, its notes and its bytes are printed. Nothing is decided here.
-mod holds;
-mod lines;
-mod names;
-mod say;
 mod script;
 
+use desk::holds::hold;
+use desk::lines::Writing;
+use desk::lines::write_call;
+use desk::names::name;
 use drat::Format;
 use drat::Read;
 use drat_read::read_proof;
-use holds::hold;
-use lines::write_call;
 use model::Modelled;
-use names::name;
 use posing::PosedLits;
 use posing::solver_from_user_lits;
-use say::Sort;
 use scope::Counts;
 use scope::User;
 use script::Call;
 use script::Clause;
-use script::Writing;
 use script::call_at;
 use std::num::wrapping_add_usize;
+use telling::Sort;
 use var_map::GotGlobal;
 use var_map::Opened;
 use var_map::get_global_from_user;
@@ -60,27 +56,35 @@ fn filled(bytes: &[u8], n: usize) -> &[u8] {
     &bytes[..n]
 }
 
-// Open.
-fn open(
-    gu: &mut [u32],
-    ug: &mut [u32],
-    sg: &mut [u32],
-    gs: &mut [u32],
-    assignment: &mut [u32],
-    records: &mut [u32],
-    capacity: u32,
-) -> Counts {
-    say::index(b"open, capacity ", capacity);
-    say::text(b": ");
-    let r = open_table(capacity, gu, ug, sg, gs, assignment, records);
+fn opened(r: Opened, capacity: u32) -> Counts {
+    telling::index(b"open, capacity ", capacity);
+    telling::text(b": ");
     match r {
         Opened::Done(counts) => {
-            say::text(b"ok\n");
+            telling::text(b"ok\n");
             counts
         }
         Opened::Refused(n) => {
-            say::refused(n);
+            telling::refused(n);
             nothing()
+        }
+    }
+}
+
+fn posed(r: PosedLits, c: Counts, lits: &[u32], out: &[u32; 3], notes: &[u32; 48]) -> Counts {
+    telling::text(b"pose");
+    telling::lits(Sort::UserLit, lits);
+    telling::text(b": ");
+    match r {
+        PosedLits::Done(k, counts, n) => {
+            telling::text(b"solver literals");
+            telling::words(Sort::SolverLit, out, 0, k as usize);
+            telling::notes(notes, n);
+            counts
+        }
+        PosedLits::Refused(n) => {
+            telling::refused(n);
+            c
         }
     }
 }
@@ -94,11 +98,10 @@ fn pose(
     gs: &mut [u32],
     assignment: &mut [u32],
     records: &mut [u32],
-    lits: &[u32],
+    k: Clause,
 ) -> Counts {
-    say::text(b"pose");
-    say::lits(lits);
-    say::text(b": ");
+    let buf = [k.a, k.b, k.c];
+    let lits = front(&buf, k.len);
     let mut out = [0u32; 3];
     let mut notes = [0u32; 48];
     let r = solver_from_user_lits(
@@ -114,17 +117,30 @@ fn pose(
         &mut out,
         &mut notes,
     );
-    match r {
-        PosedLits::Done(_, counts, n) => {
-            say::text(b"solver literals");
-            say::words(Sort::Literal, &out, 0, lits.len());
-            say::notes(&notes, n);
-            counts
-        }
-        PosedLits::Refused(n) => {
-            say::refused(n);
-            c
-        }
+    posed(r, c, lits, &out, &notes)
+}
+
+// A call that may change the table.
+fn change(
+    c: Counts,
+    gu: &mut [u32],
+    ug: &mut [u32],
+    sg: &mut [u32],
+    gs: &mut [u32],
+    assignment: &mut [u32],
+    records: &mut [u32],
+    call: Call,
+) -> Counts {
+    match call {
+        Call::Open(capacity) => opened(
+            open_table(capacity, gu, ug, sg, gs, assignment, records),
+            capacity,
+        ),
+        Call::Name(e) => name(c, gu, ug, sg, gs, assignment, records, e),
+        Call::Hold(e) => hold(c, gu, ug, sg, gs, assignment, records, e),
+        Call::Pose(k) => pose(c, gu, ug, sg, gs, assignment, records, k),
+        Call::Write(_, _) => c,
+        Call::Ask(_) => c,
     }
 }
 
@@ -139,16 +155,16 @@ fn ask(
     records: &[u32],
     user: User,
 ) {
-    say::index(b"look up user ", user.0);
-    say::text(b": ");
+    telling::index(b"look up user u", user.0);
+    telling::text(b": ");
     let r = get_global_from_user(c, gu, ug, sg, gs, assignment, records, user);
     match r {
         GotGlobal::At(global) => {
-            say::index(b"global ", global.0);
-            say::text(b"\n");
+            telling::index(b"global g", global.0);
+            telling::text(b"\n");
         }
-        GotGlobal::Nothing => say::text(b"none\n"),
-        GotGlobal::Refused(n) => say::refused(n),
+        GotGlobal::Nothing => telling::text(b"none\n"),
+        GotGlobal::Refused(n) => telling::refused(n),
     }
 }
 
@@ -185,70 +201,37 @@ fn write_at(
     )
 }
 
-// Pose a clause of the script.
-fn pose_clause(
+// A call that changes no table: where the proof then ends.
+fn show(
     c: Counts,
-    gu: &mut [u32],
-    ug: &mut [u32],
-    sg: &mut [u32],
-    gs: &mut [u32],
-    assignment: &mut [u32],
-    records: &mut [u32],
-    k: Clause,
-) -> Counts {
-    let buf = [k.a, k.b, k.c];
-    let n = k.len;
-    pose(c, gu, ug, sg, gs, assignment, records, front(&buf, n))
-}
-
-// One call of the script.
-fn turn(
-    day: Day,
-    gu: &mut [u32],
-    ug: &mut [u32],
-    sg: &mut [u32],
-    gs: &mut [u32],
-    assignment: &mut [u32],
-    records: &mut [u32],
+    gu: &[u32],
+    ug: &[u32],
+    sg: &[u32],
+    gs: &[u32],
+    assignment: &[u32],
+    records: &[u32],
     proof: &mut [u8],
+    end: usize,
     call: Call,
-) -> Day {
-    let c = day.counts;
-    let end = day.end;
+) -> usize {
     match call {
-        Call::Open(capacity) => {
-            let counts = open(gu, ug, sg, gs, assignment, records, capacity);
-            Day { counts, end: 0 }
-        }
-        Call::Name(e) => {
-            let counts = name(c, gu, ug, sg, gs, assignment, records, e);
-            Day { counts, end }
-        }
-        Call::Hold(e) => {
-            let counts = hold(c, gu, ug, sg, gs, assignment, records, e);
-            Day { counts, end }
-        }
-        Call::Pose(k) => {
-            let counts = pose_clause(c, gu, ug, sg, gs, assignment, records, k);
-            Day { counts, end }
-        }
+        Call::Open(_) => 0,
+        Call::Name(_) => end,
+        Call::Hold(_) => end,
+        Call::Pose(_) => end,
         Call::Write(e, k) => {
             let n = write_at(c, gu, ug, sg, gs, assignment, records, e, k, proof, end);
-            Day {
-                counts: c,
-                end: wrapping_add_usize(end, n),
-            }
+            wrapping_add_usize(end, n)
         }
         Call::Ask(user) => {
             ask(c, gu, ug, sg, gs, assignment, records, user);
-            day
+            end
         }
     }
 }
 
-// The calls from a to b.
+// The calls from a to b, the first of them Open.
 fn play(
-    day: Day,
     gu: &mut [u32],
     ug: &mut [u32],
     sg: &mut [u32],
@@ -259,13 +242,16 @@ fn play(
     a: u32,
     b: u32,
 ) -> Day {
-    let mut d = day;
+    let mut c = nothing();
+    let mut end: usize = 0;
     let mut n = a;
     while n < b {
-        d = turn(d, gu, ug, sg, gs, assignment, records, proof, call_at(n));
+        let call = call_at(n);
+        c = change(c, gu, ug, sg, gs, assignment, records, call);
+        end = show(c, gu, ug, sg, gs, assignment, records, proof, end, call);
         n += 1;
     }
-    d
+    Day { counts: c, end }
 }
 
 // The steps of a proof that was read.
@@ -277,13 +263,13 @@ fn steps(codes: &[u32; 64], ends: &[u64; 16], kinds: &[u8; 16], n: usize) {
             return;
         }
         if kinds[i] == 0 {
-            say::text(b"  add");
+            telling::text(b"  add");
         } else {
-            say::text(b"  delete");
+            telling::text(b"  delete");
         }
         let e = ends[i] as usize;
-        say::words(Sort::Literal, codes, a, e);
-        say::text(b"\n");
+        telling::words(Sort::GlobalLit, codes, a, e);
+        telling::text(b"\n");
         a = e;
         i += 1;
     }
@@ -297,8 +283,8 @@ fn read_back(bytes: &[u8]) {
     let r = read_proof(Format::Text, bytes, &mut codes, &mut ends, &mut kinds);
     match r {
         Read::Filled(_, n) => steps(&codes, &ends, &kinds, n),
-        Read::Broken(_) => say::refused(13),
-        Read::Short => say::refused(2),
+        Read::Broken(_) => telling::refused(13),
+        Read::Short => telling::refused(2),
     }
 }
 
@@ -327,19 +313,19 @@ fn print_model(
     );
     match r {
         Modelled::Done(n, k) => {
-            say::text(b"values of the globals:");
-            say::words(Sort::Value, &globals, 0, n as usize);
-            say::text(b"\nmodel:");
-            say::words(Sort::Literal, &users, 0, k as usize);
-            say::text(b"\n");
+            telling::text(b"values of the globals:");
+            telling::words(Sort::Value, &globals, 0, n as usize);
+            telling::text(b"\nmodel:");
+            telling::words(Sort::UserLit, &users, 0, k as usize);
+            telling::text(b"\n");
         }
-        Modelled::Refused(n) => say::refused(n),
+        Modelled::Refused(n) => telling::refused(n),
     }
 }
 
 // The proof, read back step by step, and the model.
 fn finish(
-    c: Counts,
+    d: Day,
     gu: &[u32],
     ug: &[u32],
     sg: &[u32],
@@ -347,30 +333,10 @@ fn finish(
     assignment: &[u32],
     records: &[u32],
     proof: &[u8],
-    end: usize,
 ) {
-    say::text(b"proof:\n");
-    read_back(filled(proof, end));
-    print_model(c, gu, ug, sg, gs, assignment, records);
-}
-
-// A session: the calls from a to b, Open the first of them, then the proof and the model.
-fn run(
-    gu: &mut [u32],
-    ug: &mut [u32],
-    sg: &mut [u32],
-    gs: &mut [u32],
-    assignment: &mut [u32],
-    records: &mut [u32],
-    proof: &mut [u8],
-    a: u32,
-    b: u32,
-) {
-    let counts = nothing();
-    let day = Day { counts, end: 0 };
-    let d = play(day, gu, ug, sg, gs, assignment, records, proof, a, b);
-    let c = d.counts;
-    finish(c, gu, ug, sg, gs, assignment, records, proof, d.end);
+    telling::text(b"proof:\n");
+    read_back(filled(proof, d.end));
+    print_model(d.counts, gu, ug, sg, gs, assignment, records);
 }
 
 // The day, at capacity 8.
@@ -382,7 +348,7 @@ fn whole_day() {
     let mut assignment = [0u32; 8];
     let mut records = [0u32; 8];
     let mut proof = [0u8; 256];
-    run(
+    let d = play(
         &mut gu,
         &mut ug,
         &mut sg,
@@ -393,6 +359,7 @@ fn whole_day() {
         0,
         39,
     );
+    finish(d, &gu, &ug, &sg, &gs, &assignment, &records, &proof);
 }
 
 // The short session, at capacity 2.
@@ -404,7 +371,7 @@ fn small_box() {
     let mut assignment = [0u32; 2];
     let mut records = [0u32; 2];
     let mut proof = [0u8; 256];
-    run(
+    let d = play(
         &mut gu,
         &mut ug,
         &mut sg,
@@ -415,9 +382,12 @@ fn small_box() {
         40,
         44,
     );
+    finish(d, &gu, &ug, &sg, &gs, &assignment, &records, &proof);
 }
 
 fn main() {
+    telling::legend();
     whole_day();
+    telling::text(b"\n");
     small_box();
 }

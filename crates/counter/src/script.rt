@@ -1,4 +1,7 @@
 // The two sessions, call by call.
+use desk::holds::Holding;
+use desk::lines::Writing;
+use desk::names::Naming;
 use scope::Global;
 use scope::Mark;
 use scope::SamplingMode;
@@ -13,31 +16,6 @@ pub struct Clause {
     pub c: u32,
 }
 
-// Calls about users.
-pub enum Naming {
-    Map(User),
-    New,
-    Mode(Global, SamplingMode),
-    Observe,
-}
-
-// Calls about solver indices.
-pub enum Holding {
-    Grant(Global),
-    Mark(Mark, Solver),
-    Assign(u32),
-    Remove(Solver),
-    Sweep,
-}
-
-// Calls about steps, of solver literals.
-pub enum Writing {
-    Add,
-    Delete,
-    Rename,
-    Simplify,
-}
-
 pub enum Call {
     Open(u32),
     Name(Naming),
@@ -47,20 +25,20 @@ pub enum Call {
     Ask(User),
 }
 
-// Literal codes by their DIMACS numbers: P1 is 1, N1 is -1.
-const P1: u32 = 0;
+// The codes of literals: P0 is the positive one of index 0, N0 the negative one.
+const P0: u32 = 0;
 
-const N1: u32 = 1;
+const N0: u32 = 1;
 
-const P2: u32 = 2;
+const P1: u32 = 2;
 
-const P3: u32 = 4;
+const P2: u32 = 4;
 
-const N3: u32 = 5;
+const N2: u32 = 5;
 
-const P4: u32 = 6;
+const P3: u32 = 6;
 
-const N4: u32 = 7;
+const N3: u32 = 7;
 
 fn none() -> Clause {
     Clause {
@@ -108,7 +86,7 @@ fn morning(n: u32) -> Call {
         2 => hide(1),
         3 => Call::Name(Naming::New),
         4 => Call::Hold(Holding::Grant(Global(2))),
-        5 => Call::Write(Writing::Add, unit(N1)),
+        5 => Call::Write(Writing::Add, unit(N0)),
         6 => Call::Write(Writing::Delete, none()),
         7 => Call::Hold(Holding::Sweep),
         8 => Call::Hold(Holding::Grant(Global(2))),
@@ -122,7 +100,7 @@ fn morning(n: u32) -> Call {
 // Three boxes are posed and in use; case 12; one is hidden, one is settled, and its clause becomes shorter.
 fn noon(n: u32) -> Call {
     match n {
-        13 => Call::Pose(three(P1, P2, N3)),
+        13 => Call::Pose(three(P0, P1, N2)),
         14 => marked(Mark::Used, 1),
         15 => marked(Mark::Used, 2),
         16 => marked(Mark::Used, 3),
@@ -131,9 +109,9 @@ fn noon(n: u32) -> Call {
         19 => sample(0),
         20 => marked(Mark::Released, 1),
         21 => hide(1),
-        22 => Call::Hold(Holding::Assign(P4)),
-        23 => Call::Hold(Holding::Assign(N4)),
-        _ => Call::Write(Writing::Simplify, three(P2, P3, N4)),
+        22 => Call::Hold(Holding::Assign(P3)),
+        23 => Call::Hold(Holding::Assign(N3)),
+        _ => Call::Write(Writing::Simplify, three(P1, P2, N3)),
     }
 }
 
@@ -141,19 +119,19 @@ fn noon(n: u32) -> Call {
 fn evening(n: u32) -> Call {
     match n {
         25 => Call::Hold(Holding::Sweep),
-        26 => Call::Write(Writing::Add, pair(P4, P2)),
+        26 => Call::Write(Writing::Add, pair(P3, P1)),
         27 => Call::Name(Naming::New),
         28 => Call::Hold(Holding::Grant(Global(4))),
-        29 => Call::Write(Writing::Rename, pair(N1, P3)),
-        30 => Call::Write(Writing::Add, pair(N1, P3)),
-        31 => Call::Hold(Holding::Assign(P2)),
-        32 => Call::Write(Writing::Simplify, pair(P2, P3)),
-        33 => Call::Hold(Holding::Assign(N1)),
-        34 => Call::Write(Writing::Simplify, pair(N1, P3)),
+        29 => Call::Write(Writing::Rename, pair(N0, P2)),
+        30 => Call::Write(Writing::Add, pair(N0, P2)),
+        31 => Call::Hold(Holding::Assign(P1)),
+        32 => Call::Write(Writing::Simplify, pair(P1, P2)),
+        33 => Call::Hold(Holding::Assign(N0)),
+        34 => Call::Write(Writing::Simplify, pair(N0, P2)),
         35 => Call::Hold(Holding::Remove(Solver(2))),
         36 => Call::Hold(Holding::Sweep),
         37 => Call::Name(Naming::Observe),
-        _ => Call::Pose(unit(P4)),
+        _ => Call::Pose(unit(P3)),
     }
 }
 

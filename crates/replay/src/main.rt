@@ -1,31 +1,32 @@
 // Replays the recorded list of oracle/: each line of standard input is a call with its whole answer, as README.md here describes. The call
 // is made on the library's C surface; its answer, every word of the six lists and every word lent to be filled must be what the line says.
-mod answer;
-mod book;
 mod codec;
-mod faults;
+mod counts;
 mod holds;
-mod judge;
-mod memory;
 mod names;
-mod parts;
 mod quiet;
-mod say;
-mod scan;
-mod shape;
 mod whole;
 
-use answer::Answer;
 use answers::counts::HzCounts;
-use book::Lengths;
-use faults::CUT;
-use faults::SHAPE;
-use memory::at_most;
-use memory::list;
-use memory::put;
-use scan::NONE;
-use scan::Scan;
-use shape::LOAD;
+use answers::counts::counts_out;
+use capi::opening::hz_open;
+use recorded::answer::Answer;
+use recorded::book;
+use recorded::book::Lengths;
+use recorded::faults::CUT;
+use recorded::faults::SHAPE;
+use recorded::judge;
+use recorded::memory::at_most;
+use recorded::memory::list;
+use recorded::memory::put;
+use recorded::parts::arg;
+use recorded::say;
+use recorded::scan;
+use recorded::scan::NONE;
+use recorded::scan::Scan;
+use recorded::shape;
+use recorded::shape::LOAD;
+use scope::Counts;
 
 // The fault is told, and nothing more is read.
 fn stop(mut s: Scan, fault: u32, book: &[u64; 352]) -> Scan {
@@ -33,6 +34,18 @@ fn stop(mut s: Scan, fault: u32, book: &[u64; 352]) -> Scan {
     s.fault = fault;
     s.over = true;
     s
+}
+
+// Which of the groups of `made` a call is in.
+fn group(call: u32) -> u32 {
+    match call {
+        1 | 2 | 5 => 0,
+        4 | 7 | 8 | 9 | 10 => 1,
+        3 => 2,
+        6 => 3,
+        15 => 4,
+        _ => 5,
+    }
 }
 
 // The call that takes a table, on lists of the lengths that are lent.
@@ -47,11 +60,18 @@ fn made(
     line: &[u64; 16524],
     call: u32,
 ) -> Answer {
-    match call {
-        1 | 2 | 5 | 6 => names::name(c, gu, ug, sg, gs, assignment, records, line, call),
-        4 | 7 | 8 | 9 | 10 => holds::hold(c, gu, ug, sg, gs, assignment, records, line, call),
-        3 => whole::pose(c, gu, ug, sg, gs, assignment, records, line),
-        15 => whole::open(c, gu, ug, sg, gs, assignment, records, line),
+    let capacity = arg(line, 0);
+    let g = group(call);
+    match g {
+        0 => names::name(c, gu, ug, sg, gs, assignment, records, line, call),
+        1 => holds::hold(c, gu, ug, sg, gs, assignment, records, line, call),
+        2 => whole::pose(c, gu, ug, sg, gs, assignment, records, line),
+        3 => names::observe(c, gu, ug, sg, gs, assignment, records, line),
+        4 => whole::opened(
+            hz_open(capacity, gu, ug, sg, gs, assignment, records),
+            c,
+            capacity,
+        ),
         _ => quiet::ask(c, gu, ug, sg, gs, assignment, records, line, call),
     }
 }
@@ -97,7 +117,7 @@ fn on_table(
 }
 
 fn answer_of(
-    c: HzCounts,
+    c: Counts,
     n: Lengths,
     memory: &mut [u32; 24600],
     line: &[u64; 16524],
@@ -106,7 +126,7 @@ fn answer_of(
     match call {
         16 => codec::read(c, line),
         17 => codec::first_step(c, line),
-        _ => on_table(c, n, memory, line, call),
+        _ => on_table(counts_out(c), n, memory, line, call),
     }
 }
 

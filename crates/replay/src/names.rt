@@ -1,15 +1,5 @@
 // Map, New user, Set mode and Observe: each is made, and what it filled is compared with the line.
-use crate::answer::Answer;
-use crate::answer::first;
-use crate::answer::one;
-use crate::answer::three;
-use crate::parts::BLANK32;
-use crate::parts::NOTES;
-use crate::parts::WORDS;
-use crate::parts::arg;
-use crate::parts::fill32;
-use crate::parts::room;
-use crate::parts::wide;
+use crate::counts::counts_in;
 use answers::counts::HzCounts;
 use answers::mapped::HzMapped;
 use answers::mode_set::HzModeSet;
@@ -19,56 +9,64 @@ use capi::names::hz_map;
 use capi::names::hz_new_user;
 use capi::showing::hz_observe;
 use capi::showing::hz_set_mode;
-ghost use Prim.Native.Nat.{_≤_};
+use recorded::answer::Answer;
+use recorded::answer::filled;
+use recorded::answer::first;
+use recorded::answer::one;
+use recorded::answer::three;
+use recorded::parts::BLANK32;
+use recorded::parts::NOTES;
+use recorded::parts::WORDS;
+use recorded::parts::arg;
+use recorded::parts::fill32;
+use recorded::parts::room;
+use recorded::parts::wide;
 
-fn mapped(r: HzMapped, fill: u32) -> Answer {
-    let counts = r.counts;
-    three(counts, r.refusal, wide(r.global), wide(r.notes), 0, fill)
+fn mapped(r: HzMapped) -> Answer {
+    let counts = counts_in(r.counts);
+    three(counts, r.refusal, wide(r.global), wide(r.notes), 0, 0)
 }
 
-fn new_mapped(r: HzNewMapped, fill: u32) -> Answer {
-    let counts = r.counts;
+fn new_mapped(r: HzNewMapped) -> Answer {
+    let counts = counts_in(r.counts);
     three(
         counts,
         r.refusal,
         wide(r.user),
         wide(r.global),
         wide(r.notes),
-        fill,
+        0,
     )
 }
 
-fn mode_set(r: HzModeSet, fill: u32) -> Answer {
-    let counts = r.counts;
+fn mode_set(r: HzModeSet) -> Answer {
+    let counts = counts_in(r.counts);
     three(
         counts,
         r.refusal,
         one(r.granted),
         wide(r.user),
         wide(r.notes),
-        fill,
+        0,
     )
 }
 
-// Pose and Observe.
-pub fn posed(r: HzPosed, fill: u32) -> Answer {
-    let counts = r.counts;
-    three(counts, r.refusal, wide(r.filled), wide(r.notes), 0, fill)
-}
-
-// What Pose and Observe fill: literals or users, and notes.
-pub fn filled(
+// Pose and Observe, and what they fill: literals or users, and notes.
+pub fn posed(
+    r: HzPosed,
     out: &[u32; 8200],
     k: usize,
     notes: &[u32; 8200],
     n: usize,
     line: &[u64; 16524],
-) -> u32 {
+) -> Answer {
+    let counts = counts_in(r.counts);
     let fill = fill32(out, k, line, WORDS);
-    first(fill, fill32(notes, n, line, NOTES))
+    let both = first(fill, fill32(notes, n, line, NOTES));
+    three(counts, r.refusal, wide(r.filled), wide(r.notes), 0, both)
 }
 
-fn map(
+fn named(
     c: HzCounts,
     gu: &mut [u32],
     ug: &mut [u32],
@@ -76,109 +74,19 @@ fn map(
     gs: &[u32],
     assignment: &[u32],
     records: &mut [u32],
-    user: u32,
-    sampling: bool,
-    n: usize,
-    line: &[u64; 16524],
-) -> Answer
-    requires { ⌜ n ≤ 8200 ⌝ }
-{
-    let mut notes = [BLANK32; 8200];
-    let r = hz_map(
-        c,
-        gu,
-        ug,
-        sg,
-        gs,
-        assignment,
-        records,
-        user,
-        sampling,
-        &mut notes[0..n],
-    );
-    mapped(r, fill32(&notes, n, line, NOTES))
+    call: u32,
+    a: u32,
+    b: u32,
+    notes: &mut [u32],
+) -> Answer {
+    match call {
+        1 => mapped(hz_map(c, gu, ug, sg, gs, assignment, records, a, b != 0, notes)),
+        2 => new_mapped(hz_new_user(c, gu, ug, sg, gs, assignment, records, notes)),
+        _ => mode_set(hz_set_mode(c, gu, ug, sg, gs, assignment, records, a, b, notes)),
+    }
 }
 
-fn new_user(
-    c: HzCounts,
-    gu: &mut [u32],
-    ug: &mut [u32],
-    sg: &[u32],
-    gs: &[u32],
-    assignment: &[u32],
-    records: &mut [u32],
-    n: usize,
-    line: &[u64; 16524],
-) -> Answer
-    requires { ⌜ n ≤ 8200 ⌝ }
-{
-    let mut notes = [BLANK32; 8200];
-    let r = hz_new_user(c, gu, ug, sg, gs, assignment, records, &mut notes[0..n]);
-    new_mapped(r, fill32(&notes, n, line, NOTES))
-}
-
-fn set_mode(
-    c: HzCounts,
-    gu: &mut [u32],
-    ug: &mut [u32],
-    sg: &[u32],
-    gs: &[u32],
-    assignment: &[u32],
-    records: &mut [u32],
-    global: u32,
-    mode: u32,
-    n: usize,
-    line: &[u64; 16524],
-) -> Answer
-    requires { ⌜ n ≤ 8200 ⌝ }
-{
-    let mut notes = [BLANK32; 8200];
-    let r = hz_set_mode(
-        c,
-        gu,
-        ug,
-        sg,
-        gs,
-        assignment,
-        records,
-        global,
-        mode,
-        &mut notes[0..n],
-    );
-    mode_set(r, fill32(&notes, n, line, NOTES))
-}
-
-fn observe(
-    c: HzCounts,
-    gu: &mut [u32],
-    ug: &mut [u32],
-    sg: &[u32],
-    gs: &[u32],
-    assignment: &[u32],
-    records: &mut [u32],
-    k: usize,
-    n: usize,
-    line: &[u64; 16524],
-) -> Answer
-    requires { ⌜ k ≤ 8200 ⌝ }
-    requires { ⌜ n ≤ 8200 ⌝ }
-{
-    let mut users = [BLANK32; 8200];
-    let mut notes = [BLANK32; 8200];
-    let r = hz_observe(
-        c,
-        gu,
-        ug,
-        sg,
-        gs,
-        assignment,
-        records,
-        &mut users[0..k],
-        &mut notes[0..n],
-    );
-    posed(r, filled(&users, k, &notes, n, line))
-}
-
+// Map, New user or Set mode.
 pub fn name(
     c: HzCounts,
     gu: &mut [u32],
@@ -192,12 +100,29 @@ pub fn name(
 ) -> Answer {
     let a = arg(line, 0);
     let b = arg(line, 1);
+    let n = room(line, 0);
+    let mut notes = [BLANK32; 8200];
+    let lent = &mut notes[0..n];
+    let r = named(c, gu, ug, sg, gs, assignment, records, call, a, b, lent);
+    filled(r, fill32(&notes, n, line, NOTES))
+}
+
+pub fn observe(
+    c: HzCounts,
+    gu: &mut [u32],
+    ug: &mut [u32],
+    sg: &[u32],
+    gs: &[u32],
+    assignment: &[u32],
+    records: &mut [u32],
+    line: &[u64; 16524],
+) -> Answer {
     let k = room(line, 0);
     let n = room(line, 1);
-    match call {
-        1 => map(c, gu, ug, sg, gs, assignment, records, a, b != 0, k, line),
-        2 => new_user(c, gu, ug, sg, gs, assignment, records, k, line),
-        5 => set_mode(c, gu, ug, sg, gs, assignment, records, a, b, k, line),
-        _ => observe(c, gu, ug, sg, gs, assignment, records, k, n, line),
-    }
+    let mut users = [BLANK32; 8200];
+    let mut notes = [BLANK32; 8200];
+    let shown = &mut users[0..k];
+    let lent = &mut notes[0..n];
+    let r = hz_observe(c, gu, ug, sg, gs, assignment, records, shown, lent);
+    posed(r, &users, k, &notes, n, line)
 }

@@ -1,25 +1,5 @@
 // The calls that change no table: soundness, Lookup, Simplify, Rename, Write and Model.
-use crate::answer::Answer;
-use crate::answer::first;
-use crate::answer::one;
-use crate::answer::three;
-use crate::parts::BLANK8;
-use crate::parts::BLANK32;
-use crate::parts::BLANK64;
-use crate::parts::BYTES;
-use crate::parts::HASHES;
-use crate::parts::LITS;
-use crate::parts::MORE;
-use crate::parts::WORDS;
-use crate::parts::arg;
-use crate::parts::copy32;
-use crate::parts::copy64;
-use crate::parts::fill8;
-use crate::parts::fill32;
-use crate::parts::fill64;
-use crate::parts::given;
-use crate::parts::room;
-use crate::parts::wide;
+use crate::counts::counts_in;
 use answers::counts::HzCounts;
 use answers::found::HzFound;
 use answers::modelled::HzModelled;
@@ -38,16 +18,38 @@ use capi::opening::hz_record;
 use capi::opening::hz_solver_from_global;
 use capi::opening::hz_user_from_global;
 use numbers::HzStep;
+use recorded::answer::Answer;
+use recorded::answer::first;
+use recorded::answer::one;
+use recorded::answer::three;
+use recorded::parts::BLANK8;
+use recorded::parts::BLANK32;
+use recorded::parts::BLANK64;
+use recorded::parts::BYTES;
+use recorded::parts::HASHES;
+use recorded::parts::LITS;
+use recorded::parts::MORE;
+use recorded::parts::WORDS;
+use recorded::parts::arg;
+use recorded::parts::copy32;
+use recorded::parts::copy64;
+use recorded::parts::fill8;
+use recorded::parts::fill32;
+use recorded::parts::fill64;
+use recorded::parts::given;
+use recorded::parts::room;
+use recorded::parts::wide;
 ghost use Prim.Native.Nat.{_≤_};
 
 fn told(c: HzCounts, r: HzFound) -> Answer {
-    three(c, r.refusal, one(r.found), wide(r.value), 0, 0)
+    three(counts_in(c), r.refusal, one(r.found), wide(r.value), 0, 0)
 }
 
 fn simplified(c: HzCounts, r: HzSimplified, fill: u32) -> Answer {
+    let counts = counts_in(c);
     Answer {
         refusal: r.refusal,
-        counts: c,
+        counts,
         a: wide(r.made),
         b: r.lits as u64,
         c: one(r.redundant),
@@ -58,10 +60,11 @@ fn simplified(c: HzCounts, r: HzSimplified, fill: u32) -> Answer {
 }
 
 fn renamed(c: HzCounts, r: HzRenamed, fill: u32) -> Answer {
+    let counts = counts_in(c);
     let s = r.step;
     Answer {
         refusal: r.refusal,
-        counts: c,
+        counts,
         a: wide(s.kind),
         b: wide(s.a),
         c: wide(s.b),
@@ -72,11 +75,18 @@ fn renamed(c: HzCounts, r: HzRenamed, fill: u32) -> Answer {
 }
 
 fn written(c: HzCounts, r: HzWritten, fill: u32) -> Answer {
-    three(c, r.refusal, r.bytes as u64, 0, 0, fill)
+    three(counts_in(c), r.refusal, r.bytes as u64, 0, 0, fill)
 }
 
 fn modelled(c: HzCounts, r: HzModelled, fill: u32) -> Answer {
-    three(c, r.refusal, wide(r.globals), wide(r.users), 0, fill)
+    three(
+        counts_in(c),
+        r.refusal,
+        wide(r.globals),
+        wide(r.users),
+        0,
+        fill,
+    )
 }
 
 fn found(
@@ -258,7 +268,7 @@ fn model(
 }
 
 fn sound(c: HzCounts, is: bool) -> Answer {
-    three(c, 0, one(is), 0, 0, 0)
+    three(counts_in(c), 0, one(is), 0, 0, 0)
 }
 
 fn step(kind: u32, a: u32, b: u32) -> HzStep {

@@ -6,13 +6,18 @@ use borrow.Author.Needs.{needs}
 use Rattle.counter.proofs.play.Statement.{statement}
 use Rattle.counter.proofs.play.Tie as tie
 
+-- no list changes its length
 abbrev Inv-loop : tie.InvT-loop
-Inv-loop gu₀ ug₀ sg₀ gs₀ assignment₀ records₀ proof₀ a b d₀ n₀ gu ug sg gs assignment records proof d n =
-    (length gu ≡ length gu₀) × (length ug ≡ length ug₀) × (length sg ≡ length sg₀) × (length gs ≡ length gs₀) × (length assignment ≡ length assignment₀) × (length records ≡ length records₀) × (length proof ≡ length proof₀)
+Inv-loop gu₀ ug₀ sg₀ gs₀ assignment₀ records₀ proof₀ a b c₀ end₀ n₀ gu ug sg gs assignment records proof c end n =
+    (length gu ≡ length gu₀) × (length ug ≡ length ug₀) × (length sg ≡ length sg₀) × (length gs ≡ length gs₀) ×
+    (length assignment ≡ length assignment₀) × (length records ≡ length records₀) × (length proof ≡ length proof₀)
 
 abbrev μ-loop : tie.MeasureT-loop
-μ-loop gu₀ ug₀ sg₀ gs₀ assignment₀ records₀ proof₀ a b d₀ n₀ gu ug sg gs assignment records proof d n =
+μ-loop gu₀ ug₀ sg₀ gs₀ assignment₀ records₀ proof₀ a b c₀ end₀ n₀ gu ug sg gs assignment records proof c end n =
     b - n
+
+nothing-requires : tie.Need-nothing-requires Inv-loop μ-loop
+nothing-requires c κs = search needs
 
 loop-holds : tie.Need-loop-holds Inv-loop μ-loop
 loop-holds c = (refl, refl, refl, refl, refl, refl, refl)
@@ -20,26 +25,44 @@ loop-holds c = (refl, refl, refl, refl, refl, refl, refl)
 call-at-requires : tie.Need-call-at-requires Inv-loop μ-loop
 call-at-requires c κs = search needs
 
-turn-requires : tie.Need-turn-requires Inv-loop μ-loop
-turn-requires c κs = search needs
+change-requires : tie.Need-change-requires Inv-loop μ-loop
+change-requires c κs = search needs
+
+show-requires : tie.Need-show-requires Inv-loop μ-loop
+show-requires c κs = search needs
 
 add-n : tie.Need-add-n Inv-loop μ-loop
-add-n c = omega (arith, c .before .before .before .before .before .before .before .before .before .before .before .before .before .before .before .before .before .before .before .before .before .before .before)
+add-n c =
+    let shown = c .before .before in
+    let back = shown .before .before .before .before .before .before .before .before in
+    let changed = back .before .before .before .before .before .before .before .before .before .before .before .before in
+    let test = changed .before .before .before .before .before .before .before .before in
+    omega (arith, test)
 
 loop-less : tie.Need-loop-less Inv-loop μ-loop
-loop-less c = omega (arith, c .before .before .before .before .before .before .before .before .before .before .before .before .before .before .before .before .before .before .before .before .before .before .before .loop-test .taken)
+loop-less c =
+    let shown = c .before .before in
+    let back = shown .before .before .before .before .before .before .before .before in
+    let changed = back .before .before .before .before .before .before .before .before .before .before .before .before in
+    let test = changed .before .before .before .before .before .before .before .before in
+    omega (arith, test .loop-test .taken)
 
 loop-again : tie.Need-loop-again Inv-loop μ-loop
 loop-again c =
-    let k = c .before .before .before .before .before .before .before .before .before .before .before .before .before .before .turn .kept in
-    let i = c .before .before .before .before .before .before .before .before .before .before .before .before .before .before .before .before .before .before .before .before .before .before .before .before .loop .inv in (
+    let shown = c .before .before in
+    let back = shown .before .before .before .before .before .before .before .before in
+    let changed = back .before .before .before .before .before .before .before .before .before .before .before .before in
+    let test = changed .before .before .before .before .before .before .before .before in
+    let k = changed .change .kept in
+    let p = shown .show .kept in
+    let i = test .before .loop .inv in (
       cc (k .1 .0, i .0),
       cc (k .1 .1 .0, i .1),
       cc (k .1 .1 .1 .0, i .2),
       cc (k .1 .1 .1 .1 .0, i .3),
       cc (k .1 .1 .1 .1 .1 .0, i .4),
       cc (k .1 .1 .1 .1 .1 .1 .0, i .5),
-      cc (k .1 .1 .1 .1 .1 .1 .1 .0, i .6),
+      cc (p .1 .1 .1 .1 .1 .1 .1 .0, i .6),
     )
 
 same-length : tie.Need-same-length Inv-loop μ-loop
@@ -72,9 +95,11 @@ play-spec =
     (tie.spec
     Inv-loop
     μ-loop
+    nothing-requires
     loop-holds
     call-at-requires
-    turn-requires
+    change-requires
+    show-requires
     add-n
     loop-less
     loop-again
