@@ -113,7 +113,8 @@ reads =
     ∷ filling (readOf Text (49 ∷ 32 ∷ 48 ∷ 10 ∷ 50 ∷ 32 ∷ 48 ∷ 32 ∷ []) 0 0 0) is filled (refused 13 (4 ∷ [])) [] [] []
     ∷ filling (readOf Text (49 ∷ 32 ∷ 48 ∷ 10 ∷ 10 ∷ []) 0 0 0) is filled (refused 13 (4 ∷ [])) [] [] []
     ∷ filling (readOf Text (48 ∷ 10 ∷ 48 ∷ 10 ∷ 52 ∷ 48 ∷ 57 ∷ 55 ∷ 32 ∷ 48 ∷ 10 ∷ []) 0 0 0) is filled (refused 13 (4 ∷ [])) [] [] []
-    -- 01, 0 after a minus, 4097, two blanks, a number and no blank, d and no blank, a, a plus sign, a tab, two lines in one, a carriage return, bytes beside the digits
+    -- 01, 0 after a minus, 4097, two blanks, a number and no blank, d and no blank, a, a plus sign, a tab, two lines in one, a carriage return;
+    -- bytes beside the digits
     ∷ filling (readOf Text (48 ∷ 49 ∷ 32 ∷ 48 ∷ 10 ∷ []) 9 9 9) is filled (refused 13 (0 ∷ [])) [] [] []
     ∷ filling (readOf Text (45 ∷ 48 ∷ 32 ∷ 48 ∷ 10 ∷ []) 9 9 9) is filled (refused 13 (0 ∷ [])) [] [] []
     ∷ filling (readOf Text (45 ∷ 48 ∷ 49 ∷ 32 ∷ 48 ∷ 10 ∷ []) 9 9 9) is filled (refused 13 (0 ∷ [])) [] [] []
