@@ -30,7 +30,7 @@ answers-hold = (refl, (refl, (refl, (refl, (refl, (refl, (refl, (refl, tt)))))))
 
 parts-hold : Agree parts
 unfolding allBelow spell further bytesOf number numbers encodeStep encode decimalFrom lebFrom endFrom token blankFrom opening consPart body asStep oneStep consStep stepsFrom readProof codesOf endsFrom kindsOf answerOf firstBy listed risesTo
-parts-hold = (refl, (refl, (refl, (refl, (refl, (refl, (refl, (refl, (refl, (refl, tt))))))))))
+parts-hold = (refl, (refl, (refl, (refl, (refl, (refl, (refl, (refl, (refl, tt)))))))))
 
 wholes-hold : Agree wholes
 unfolding allBelow spell further bytesOf number numbers encodeStep encode decimalFrom lebFrom endFrom token blankFrom opening consPart body asStep oneStep consStep stepsFrom readProof codesOf endsFrom kindsOf answerOf firstBy listed risesTo

@@ -3,7 +3,6 @@
 use Prim.Native.Nat.{ℕ}
 use mathlib.Core.Path.{_≡_}
 use mathlib.Core.List.{List, [], _∷_}
-use lib.ListN.{replicate}
 use Rattle.base.specs.Answer.{Answer, accepted, refused}
 use Rattle.drat.specs.Grammar.{stepOf, number, encodeStep, encode}
 use Rattle.drat.specs.Filled.{Filling, readOf, firstOf, read, first}
@@ -113,7 +112,8 @@ reads =
     ∷ filling (readOf Text (49 ∷ 32 ∷ 48 ∷ 10 ∷ 50 ∷ 32 ∷ 48 ∷ 32 ∷ []) 0 0 0) is filled (refused 13 (4 ∷ [])) [] [] []
     ∷ filling (readOf Text (49 ∷ 32 ∷ 48 ∷ 10 ∷ 10 ∷ []) 0 0 0) is filled (refused 13 (4 ∷ [])) [] [] []
     ∷ filling (readOf Text (48 ∷ 10 ∷ 48 ∷ 10 ∷ 52 ∷ 48 ∷ 57 ∷ 55 ∷ 32 ∷ 48 ∷ 10 ∷ []) 0 0 0) is filled (refused 13 (4 ∷ [])) [] [] []
-    -- 01, 0 after a minus, 4097, two blanks, a number and no blank, d and no blank, a, a plus sign, a tab, two lines in one, a carriage return, bytes beside the digits
+    -- 01, 0 after a minus, 4097, two blanks, a number and no blank, d and no blank, a, a plus sign, a tab, two lines in one, a carriage return;
+    -- bytes beside the digits
     ∷ filling (readOf Text (48 ∷ 49 ∷ 32 ∷ 48 ∷ 10 ∷ []) 9 9 9) is filled (refused 13 (0 ∷ [])) [] [] []
     ∷ filling (readOf Text (45 ∷ 48 ∷ 32 ∷ 48 ∷ 10 ∷ []) 9 9 9) is filled (refused 13 (0 ∷ [])) [] [] []
     ∷ filling (readOf Text (45 ∷ 48 ∷ 49 ∷ 32 ∷ 48 ∷ 10 ∷ []) 9 9 9) is filled (refused 13 (0 ∷ [])) [] [] []
@@ -188,7 +188,6 @@ parts =
     ∷ writing (writeOf Text Add (0 ∷ 3 ∷ 4 ∷ 8191 ∷ []) 0 5 99 0) is writes (refused 3 []) []
     ∷ writing (writeOf Text Add (8192 ∷ []) 0 1 0 0) is writes (refused 3 []) []
     ∷ writing (writeOf Text Add (8192 ∷ 0 ∷ []) 1 2 4 0) is writes (accepted (4 ∷ [])) (49 ∷ 32 ∷ 48 ∷ 10 ∷ [])
-    ∷ writing (writeOf Text Add (replicate 8193 0) 0 8193 0 0) is writes (refused 3 []) []
     ∷ writing (writeOf Binary Add (0 ∷ 3 ∷ 4 ∷ 8191 ∷ []) 4 4 2 0) is writes (accepted (2 ∷ [])) (97 ∷ 0 ∷ [])
     ∷ []
 

@@ -8,7 +8,7 @@ use Rattle.base.specs.Answer.{accepted, refused}
 use Rattle.base.specs.Bounded.{allBelow, least, count}
 use Rattle.base.specs.Lent.{Slice, Lent}
 use Rattle.scope.specs.declared.Counts.{Counts}
-use Rattle.scope.specs.Table.{Table, word, isShown, giveUser}
+use Rattle.scope.specs.Table.{Table, tableOf, word, isShown, giveUser}
 use Rattle.scope.specs.Sound.{soundb, sizesb, marksb, atMostb, tailb, backb, namedb, deletedb, tailsb, pairsb}
 use Rattle.scope.specs.Notes.{notesWords}
 use Rattle.scope.specs.Outcome.{each, unless}
@@ -42,22 +42,30 @@ pub record Lists (t : Table) (c : Counts) (gu ug sg gs a r : List ℕ) : Type 0 
   pub assignment : t .assignment ≡ a
   pub records : t .records ≡ r
 
-module _ (c d : Counts) (gu ug sg gs a r notes : Lent) where
-  pub lent-table : Lists (lent c gu ug sg gs a r notes .table) c (now (gu .entry)) (now (ug .entry)) (now (sg .entry)) (now (gs .entry)) (now (a .entry)) (now (r .entry))
-  lent-table = record { counts = refl; globalFromUser = refl; userFromGlobal = refl; solverFromGlobal = refl; globalFromSolver = refl; assignment = refl; records = refl }
+pub listed : (c : Counts) (gu ug sg gs a r : List ℕ) → Lists (tableOf c gu ug sg gs a r) c gu ug sg gs a r
+listed c gu ug sg gs a r =
+    record { counts = refl; globalFromUser = refl; userFromGlobal = refl; solverFromGlobal = refl; globalFromSolver = refl; assignment = refl; records = refl }
 
-  pub lent-leaves : Lists (lent c gu ug sg gs a r notes .leaves d) d (now (gu .exit)) (now (ug .exit)) (now (sg .exit)) (now (gs .exit)) (now (a .exit)) (now (r .exit))
-  lent-leaves = record { counts = refl; globalFromUser = refl; userFromGlobal = refl; solverFromGlobal = refl; globalFromSolver = refl; assignment = refl; records = refl }
+module _ (c d : Counts) (gu ug sg gs a r notes : Lent) where
+  -- when the call begins, and when it ends
+  pub lent-table : Lists (lent c gu ug sg gs a r notes .table) c
+      (now (gu .entry)) (now (ug .entry)) (now (sg .entry)) (now (gs .entry)) (now (a .entry)) (now (r .entry))
+  lent-table = listed _ _ _ _ _ _ _
+
+  pub lent-leaves : Lists (lent c gu ug sg gs a r notes .leaves d) d
+      (now (gu .exit)) (now (ug .exit)) (now (sg .exit)) (now (gs .exit)) (now (a .exit)) (now (r .exit))
+  lent-leaves = listed _ _ _ _ _ _ _
 
   pub lent-notes : (lent c gu ug sg gs a r notes .notes ≡ now (notes .entry)) × (lent c gu ug sg gs a r notes .noted ≡ now (notes .exit))
   lent-notes = (refl, refl)
 
-  pub quiet-table : Lists (quiet c gu ug sg gs a r .table) c (now (gu .entry)) (now (ug .entry)) (now (sg .entry)) (now (gs .entry)) (now (a .entry)) (now (r .entry))
-  quiet-table = record { counts = refl; globalFromUser = refl; userFromGlobal = refl; solverFromGlobal = refl; globalFromSolver = refl; assignment = refl; records = refl }
+  pub quiet-table : Lists (quiet c gu ug sg gs a r .table) c
+      (now (gu .entry)) (now (ug .entry)) (now (sg .entry)) (now (gs .entry)) (now (a .entry)) (now (r .entry))
+  quiet-table = listed _ _ _ _ _ _ _
 
-  pub quiet-leaves : Lists (quiet c gu ug sg gs a r .leaves d) d (now (gu .exit)) (now (ug .exit)) (now (sg .exit)) (now (gs .exit)) (now (a .exit)) (now (r .exit))
-  quiet-leaves = record { counts = refl; globalFromUser = refl; userFromGlobal = refl; solverFromGlobal = refl; globalFromSolver = refl; assignment = refl; records = refl }
+  pub quiet-leaves : Lists (quiet c gu ug sg gs a r .leaves d) d
+      (now (gu .exit)) (now (ug .exit)) (now (sg .exit)) (now (gs .exit)) (now (a .exit)) (now (r .exit))
+  quiet-leaves = listed _ _ _ _ _ _ _
 
 pub given-table : (c : Counts) (gu ug sg gs a r : Slice) → Lists (given c gu ug sg gs a r) c (now gu) (now ug) (now sg) (now gs) (now a) (now r)
-given-table c gu ug sg gs a r =
-    record { counts = refl; globalFromUser = refl; userFromGlobal = refl; solverFromGlobal = refl; globalFromSolver = refl; assignment = refl; records = refl }
+given-table c gu ug sg gs a r = listed _ _ _ _ _ _ _

@@ -98,7 +98,8 @@ pub set-mode-notes : (g m : ℕ) (t : Table) → length (setMode g m t .notes) �
 unfolding setMode hide show change
 set-mode-notes g m t =
     by-choose (λ (x : Result (List ℕ)). length (x .notes) ≤ 2) _ (λ e. omega arith)
-    (λ e. by-choose (λ (x : Result (List ℕ)). length (x .notes) ≤ 2) _ (λ e. let d = delete-notes g (takeUser g (getD (t .userFromGlobal) g 0 - 1) (withMode (recordOf t g) 2) t) in omega arith)
+    (λ e. by-choose (λ (x : Result (List ℕ)). length (x .notes) ≤ 2) _
+    (λ e. let d = delete-notes g (takeUser g (getD (t .userFromGlobal) g 0 - 1) (withMode (recordOf t g) 2) t) in omega arith)
     (λ e. by-choose (λ (x : Result (List ℕ)). length (x .notes) ≤ 2) _ (λ e. omega arith) (λ e. omega arith)))
 
 -- a deletion leaves the mode
@@ -169,7 +170,12 @@ pub remove-works : (t : Table) (s room : ℕ) → Sound t → getD (t .globalFro
 unfolding removeOf removeRefusal remove notHeld
 remove-works t s room p n k =
     let c = remove-notes (holderOf t s) s t in
-    let r : removeRefusal t s room ≡ 0 = rw (sound-to t p, ne-eqb (getD (t .globalFromSolver) s 0) 0 n, le-ltb room (3 * length (removeHeld (holderOf t s) s t .notes)) (omega arith)) in
+    let r : removeRefusal t s room ≡ 0 =
+    rw (
+      sound-to t p,
+      ne-eqb (getD (t .globalFromSolver) s 0) 0 n,
+      le-ltb room (3 * length (removeHeld (holderOf t s) s t .notes)) (omega arith),
+    ) in
     let e = unless-none (removeRefusal t s room) t (noting (λ us. []) (remove s t)) r in
     (ap (λ (o : Outcome). o .answer) e, ap (λ (o : Outcome). getD (o .table .globalFromSolver) s 0) e ∙ removed-free t (holderOf t s) s p (holder-holds t s n))
 

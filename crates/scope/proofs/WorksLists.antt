@@ -173,7 +173,8 @@ write-works f t step solverVars lits hashes room p a b c d h =
     let e = unless-none (writeRefusal f t step solverVars lits hashes room) t _ r in
     let v = written-valid (ruleOf step .writes) _ (rename-codes t solverVars (literalsOf step lits) p b c) in (
       ap (λ (o : Outcome). o .answer) e,
-      ap (λ (o : Outcome). readProof f (o .bytes)) e ∙ spells-read (encode-spells f (clauseSteps step (renameLits (holders t) solverVars (literalsOf step lits))) v),
+      ap (λ (o : Outcome). readProof f (o .bytes)) e
+          ∙ spells-read (encode-spells f (clauseSteps step (renameLits (holders t) solverVars (literalsOf step lits))) v),
     )
 
 -- ---- Simplify
@@ -193,7 +194,8 @@ pub simplify-works : (f : Format) (t : Table) (lits : List ℕ) (redundant : Boo
     → not (anyOf (isTrue t) lits) && (anyOf (isFalse t) lits && ltb (length (unfalse t lits)) 2) ≡ false
     → length (restOf (simplified t lits) t lits) ≤ outs → length (simplifyBytes f t lits redundant) ≤ room
     → (simplifyOf f t lits redundant outs room .words ≡ restOf (simplified t lits) t lits)
-    × (readProof f (simplifyOf f t lits redundant outs room .bytes) ≡ steps (simplifySteps (simplified t lits) redundant (renameLits (holders t) true (restOf (simplified t lits) t lits)) (renameLits (holders t) true lits)))
+    × (readProof f (simplifyOf f t lits redundant outs room .bytes)
+    ≡ steps (simplifySteps (simplified t lits) redundant (renameLits (holders t) true (restOf (simplified t lits) t lits)) (renameLits (holders t) true lits)))
 unfolding simplifyOf simplifyRefusal simplifyBytes
 simplify-works f t lits redundant outs room p h b c k l =
     let r : simplifyRefusal f t lits redundant outs room ≡ 0 =
@@ -244,7 +246,8 @@ grant-holders t g k h p q e = go (getD (t .solverFromGlobal) g 0) refl
     go (suc s) z = ap (λ (x : Result ℕ). getD (x .table .globalFromSolver) k 0) (grant-has t g s (omega arith)) ∙ e
 
 -- a user that has a global keeps it
-map-users : (t : Table) (u v : ℕ) → MapRoom t u → getD (t .globalFromUser) v 0 ≢ 0 → getD (mapUser u t .table .globalFromUser) v 0 ≡ getD (t .globalFromUser) v 0
+map-users : (t : Table) (u v : ℕ) → MapRoom t u → getD (t .globalFromUser) v 0 ≢ 0
+    → getD (mapUser u t .table .globalFromUser) v 0 ≡ getD (t .globalFromUser) v 0
 map-users t u v m n = go (getD (t .globalFromUser) u 0) refl
   where
     below : Dec (v < t .counts .user) → v < t .counts .user
@@ -281,10 +284,11 @@ pose-stands s c m =
     let a = k .granted .holds in
     let b = ap (λ (l : List ℕ). getD l (indexOf c) 0) (k .granted .same .globalFromUser) in
     let d = k .mapped .has in
-    let i : indexOf (codeOf (grant (mapUser (indexOf c) s .value) (mapUser (indexOf c) s .table) .value) (signOf c)) ≡ grant (mapUser (indexOf c) s .value) (mapUser (indexOf c) s .table) .value = omega arith in
+    let y = grant (mapUser (indexOf c) s .value) (mapUser (indexOf c) s .table) in
+    let i : indexOf (codeOf (y .value) (signOf c)) ≡ y .value = omega arith in
     record {
       sign = omega arith;
-      holder = ap (λ (n : ℕ). getD (grant (mapUser (indexOf c) s .value) (mapUser (indexOf c) s .table) .table .globalFromSolver) n 0) i ∙ a ∙ sym d ∙ sym b;
+      holder = ap (λ (n : ℕ). getD (y .table .globalFromSolver) n 0) i ∙ a ∙ sym d ∙ sym b;
       mapped = λ e. omega arith;
     }
 
@@ -305,7 +309,9 @@ pose-all t lits r (suc i) l = let o = pose-all t lits r i (omega arith) in recor
     go o j k (no e) =
         let w = pose-part-words t lits i in
         rw (List·getD-append (each i (poseStep lits) t .value) (poseOne (getD lits i 0) (each i (poseStep lits) t .table) .value ∷ []) 0 j (omega arith))
-        (pose-keeps (each i (poseStep lits) t .table) (getD lits i 0) (getD lits j 0) (getD (each i (poseStep lits) t .value) j 0) (pose-room t lits r i l) (o .stands j (omega arith)))
+        (pose-keeps (each i (poseStep lits) t .table) (getD lits i 0) (getD lits j 0) (getD (each i (poseStep lits) t .value) j 0)
+        (pose-room t lits r i l)
+        (o .stands j (omega arith)))
 
 pub pose-accepted : (t : Table) (lits : List ℕ) (sampling : Bool) (outs room : ℕ) → PoseRoom t lits → length lits ≤ 8192
     → sampling && anyOf (λ c. unsampled t (indexOf c)) lits ≡ false → length lits ≤ outs → 3 * (usersToMap t lits + usersToGrant t lits) ≤ room
@@ -332,5 +338,6 @@ unfolding poseOf pose
 pose-works t lits sampling outs room r h s k l =
     let e = unless-none (poseRefusal t lits sampling outs room) t _ (pose-accepted t lits sampling outs room r h s k l) in (
       ap (λ (o : Outcome). o .answer) e ∙ ap (λ (n : ℕ). accepted (length lits ∷ n ∷ [])) (pose-count t lits r),
-      λ i q. subst (λ (o : Outcome). Stands (o .table) (getD lits i 0) (getD (o .words) i 0)) (sym e) (pose-all t lits r (length lits) (omega arith) .stands i q),
+      λ i q.
+          subst (λ (o : Outcome). Stands (o .table) (getD lits i 0) (getD (o .words) i 0)) (sym e) (pose-all t lits r (length lits) (omega arith) .stands i q),
     )
