@@ -1,5 +1,5 @@
--- How an answer stands in numbers on the C surface: one list, the fields of its struct in their order but for the counts. A flag is 1 or 0.
--- A layout gives that list of any answer, accepted or refused. It begins with the refusal's number, 0 for none.
+-- How an answer stands in numbers on the C surface: one list, the fields of its struct but for the counts, in their order (a step comes last).
+-- A flag is 1 or 0. A layout gives that list of any answer, accepted or refused; it begins with the refusal's number, 0 for none.
 use Prim.Native.Nat.{ℕ}
 use mathlib.Core.Path.{_≡_}
 use mathlib.Core.Bool.{Bool}

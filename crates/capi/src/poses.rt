@@ -25,7 +25,8 @@ pub extern "C" fn hz_pose(
     out: &mut [u32],
     notes: &mut [u32],
 ) -> HzPosed
-    ensures { λ r. ⌜ Gives (λ t room. poseOf t (old lits) sampling (length (old out)) room) (plain 2) (r .refusal ∷ r .filled ∷ r .notes ∷ []) (countsOf (r .counts))
+    ensures { λ r. ⌜ Gives (λ t room. poseOf t (old lits) sampling (length (old out)) room) (plain 2)
+        (r .refusal ∷ r .filled ∷ r .notes ∷ []) (countsOf (r .counts))
         (lent (countsOf c) gu ug sg gs assignment records notes) ⌝ }
     ensures out { λ _. ⌜ Fills out 0
         (poseOf (before (countsOf c) gu ug sg gs assignment records) (old lits) sampling (length (old out)) (length (old notes)) .words) ⌝ }
