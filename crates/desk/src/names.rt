@@ -100,6 +100,32 @@ fn observed(r: Observed, c: Counts, users: &[u32; 8], notes: &[u32; 48]) -> Coun
     }
 }
 
+// Observe.
+fn observe(
+    c: Counts,
+    gu: &mut [u32],
+    ug: &mut [u32],
+    sg: &[u32],
+    gs: &[u32],
+    assignment: &[u32],
+    records: &mut [u32],
+) -> Counts {
+    let mut users = [0u32; 8];
+    let mut notes = [0u32; 48];
+    let r = observe_internal_vars(
+        c,
+        gu,
+        ug,
+        sg,
+        gs,
+        assignment,
+        records,
+        &mut users,
+        &mut notes,
+    );
+    observed(r, c, &users, &notes)
+}
+
 // The call, whichever it is.
 pub fn name(
     c: Counts,
@@ -112,56 +138,20 @@ pub fn name(
     call: Naming,
 ) -> Counts {
     asked(call);
-    let mut users = [0u32; 8];
     let mut notes = [0u32; 48];
     match call {
-        Naming::Map(user) => {
-            let r = global_from_user(
-                c,
-                gu,
-                ug,
-                sg,
-                gs,
-                assignment,
-                records,
-                user,
-                false,
-                &mut notes,
-            );
+        Naming::Map(u) => {
+            let r = global_from_user(c, gu, ug, sg, gs, assignment, records, u, false, &mut notes);
             mapped(r, c, &notes)
         }
         Naming::New => {
             let r = new_user_var(c, gu, ug, sg, gs, assignment, records, &mut notes);
             new_mapped(r, c, &notes)
         }
-        Naming::Mode(global, mode) => {
-            let r = set_sampling_mode(
-                c,
-                gu,
-                ug,
-                sg,
-                gs,
-                assignment,
-                records,
-                global,
-                mode,
-                &mut notes,
-            );
+        Naming::Mode(g, m) => {
+            let r = set_sampling_mode(c, gu, ug, sg, gs, assignment, records, g, m, &mut notes);
             mode_set(r, c, &notes)
         }
-        Naming::Observe => {
-            let r = observe_internal_vars(
-                c,
-                gu,
-                ug,
-                sg,
-                gs,
-                assignment,
-                records,
-                &mut users,
-                &mut notes,
-            );
-            observed(r, c, &users, &notes)
-        }
+        Naming::Observe => observe(c, gu, ug, sg, gs, assignment, records),
     }
 }

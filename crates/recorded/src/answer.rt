@@ -30,7 +30,7 @@ pub fn three(counts: Counts, refusal: u32, a: u64, b: u64, c: u64, fill: u32) ->
     }
 }
 
-// The answer, with what was found out of the lent slices.
+// The answer, and which lent slice differs.
 pub fn filled(mut r: Answer, fill: u32) -> Answer {
     r.fill = fill;
     r

@@ -36,15 +36,24 @@ fn stop(mut s: Scan, fault: u32, book: &[u64; 352]) -> Scan {
     s
 }
 
-// Which of the groups of `made` a call is in.
-fn group(call: u32) -> u32 {
+// Calls that take a table, by the lists that they may change.
+enum Group {
+    Name,
+    Hold,
+    Pose,
+    Observe,
+    Open,
+    Quiet,
+}
+
+fn group_of(call: u32) -> Group {
     match call {
-        1 | 2 | 5 => 0,
-        4 | 7 | 8 | 9 | 10 => 1,
-        3 => 2,
-        6 => 3,
-        15 => 4,
-        _ => 5,
+        1 | 2 | 5 => Group::Name,
+        4 | 7 | 8 | 9 | 10 => Group::Hold,
+        3 => Group::Pose,
+        6 => Group::Observe,
+        15 => Group::Open,
+        _ => Group::Quiet,
     }
 }
 
@@ -61,18 +70,18 @@ fn made(
     call: u32,
 ) -> Answer {
     let capacity = arg(line, 0);
-    let g = group(call);
+    let g = group_of(call);
     match g {
-        0 => names::name(c, gu, ug, sg, gs, assignment, records, line, call),
-        1 => holds::hold(c, gu, ug, sg, gs, assignment, records, line, call),
-        2 => whole::pose(c, gu, ug, sg, gs, assignment, records, line),
-        3 => names::observe(c, gu, ug, sg, gs, assignment, records, line),
-        4 => whole::opened(
+        Group::Name => names::name(c, gu, ug, sg, gs, assignment, records, line, call),
+        Group::Hold => holds::hold(c, gu, ug, sg, gs, assignment, records, line, call),
+        Group::Pose => whole::pose(c, gu, ug, sg, gs, assignment, records, line),
+        Group::Observe => names::observe(c, gu, ug, sg, gs, assignment, records, line),
+        Group::Open => whole::opened(
             hz_open(capacity, gu, ug, sg, gs, assignment, records),
             c,
             capacity,
         ),
-        _ => quiet::ask(c, gu, ug, sg, gs, assignment, records, line, call),
+        Group::Quiet => quiet::ask(c, gu, ug, sg, gs, assignment, records, line, call),
     }
 }
 

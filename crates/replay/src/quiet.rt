@@ -295,35 +295,14 @@ fn proof_line(
     let y = arg(line, 2);
     match call {
         11 => simplify(c, gu, ug, sg, gs, assignment, records, l, k, n, line),
-        12 => rename(
-            c,
-            gu,
-            ug,
-            sg,
-            gs,
-            assignment,
-            records,
-            step(arg(line, 0), x, y),
-            l,
-            h,
-            k,
-            n,
-            line,
-        ),
-        _ => write(
-            c,
-            gu,
-            ug,
-            sg,
-            gs,
-            assignment,
-            records,
-            step(x, y, arg(line, 3)),
-            l,
-            h,
-            k,
-            line,
-        ),
+        12 => {
+            let s = step(arg(line, 0), x, y);
+            rename(c, gu, ug, sg, gs, assignment, records, s, l, h, k, n, line)
+        }
+        _ => {
+            let s = step(x, y, arg(line, 3));
+            write(c, gu, ug, sg, gs, assignment, records, s, l, h, k, line)
+        }
     }
 }
 

@@ -8,7 +8,7 @@ pub fn text(s: &[u8]) {
     io::write_all(1, s);
 }
 
-pub fn number(n: u32) {
+fn number(n: u32) {
     io::print_decimal(1, n as u64);
 }
 
