@@ -1,15 +1,19 @@
 // A day at the counter of a maker of smart cash boxes: one session from Open to Model at capacity 8, then a short one at capacity 2.
 // Each call is made, and its answer, its notes and its bytes are printed. Nothing is decided here.
+mod holds;
+mod lines;
+mod names;
 mod script;
+mod telling;
 
-use desk::holds::hold;
-use desk::lines::Writing;
-use desk::lines::write_call;
-use desk::names::name;
 use drat::Format;
 use drat::Read;
 use drat_read::read_proof;
+use holds::hold;
+use lines::Writing;
+use lines::write_call;
 use model::Modelled;
+use names::name;
 use posing::PosedLits;
 use posing::solver_from_user_lits;
 use scope::Counts;

@@ -1,7 +1,7 @@
 // The two sessions, call by call.
-use desk::holds::Holding;
-use desk::lines::Writing;
-use desk::names::Naming;
+use crate::holds::Holding;
+use crate::lines::Writing;
+use crate::names::Naming;
 use scope::Global;
 use scope::Mark;
 use scope::SamplingMode;

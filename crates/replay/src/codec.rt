@@ -1,23 +1,23 @@
 // Read and the first step: each is made, and what it filled is compared with the line.
+use crate::answer::Answer;
+use crate::answer::first;
+use crate::answer::three;
+use crate::parts::BLANK8;
+use crate::parts::BLANK32;
+use crate::parts::BLANK64;
+use crate::parts::BYTES;
+use crate::parts::MORE;
+use crate::parts::PROOF;
+use crate::parts::WORDS;
+use crate::parts::arg;
+use crate::parts::copy8;
+use crate::parts::fill8;
+use crate::parts::fill32;
+use crate::parts::fill64;
+use crate::parts::given;
+use crate::parts::room;
 use capi::codec::hz_first_step;
 use capi::codec::hz_read;
-use recorded::answer::Answer;
-use recorded::answer::first;
-use recorded::answer::three;
-use recorded::parts::BLANK8;
-use recorded::parts::BLANK32;
-use recorded::parts::BLANK64;
-use recorded::parts::BYTES;
-use recorded::parts::MORE;
-use recorded::parts::PROOF;
-use recorded::parts::WORDS;
-use recorded::parts::arg;
-use recorded::parts::copy8;
-use recorded::parts::fill8;
-use recorded::parts::fill32;
-use recorded::parts::fill64;
-use recorded::parts::given;
-use recorded::parts::room;
 use scope::Counts;
 
 pub fn read(c: Counts, line: &[u64; 16524]) -> Answer {

@@ -1,5 +1,15 @@
 // Grant, marks, Assign, Remove and Sweep: each is made, and what it filled is compared with the line.
+use crate::answer::Answer;
+use crate::answer::filled;
+use crate::answer::none;
+use crate::answer::three;
 use crate::counts::counts_in;
+use crate::parts::BLANK32;
+use crate::parts::NOTES;
+use crate::parts::arg;
+use crate::parts::fill32;
+use crate::parts::room;
+use crate::parts::wide;
 use answers::changed::HzChanged;
 use answers::counts::HzCounts;
 use answers::granted::HzGranted;
@@ -9,16 +19,6 @@ use capi::marking::hz_assign;
 use capi::marking::hz_mark;
 use capi::removing::hz_remove;
 use capi::removing::hz_sweep;
-use recorded::answer::Answer;
-use recorded::answer::filled;
-use recorded::answer::none;
-use recorded::answer::three;
-use recorded::parts::BLANK32;
-use recorded::parts::NOTES;
-use recorded::parts::arg;
-use recorded::parts::fill32;
-use recorded::parts::room;
-use recorded::parts::wide;
 
 fn granted(r: HzGranted) -> Answer {
     let counts = counts_in(r.counts);

@@ -1,32 +1,36 @@
 // Replays the recorded list of oracle/: each line of standard input is a call with its whole answer, as README.md here describes. The call
 // is made on the library's C surface; its answer, every word of the six lists and every word lent to be filled must be what the line says.
+mod answer;
+mod book;
 mod codec;
 mod counts;
+mod faults;
 mod holds;
+mod judge;
+mod memory;
 mod names;
+mod parts;
 mod quiet;
+mod say;
+mod scan;
+mod shape;
 mod whole;
 
+use answer::Answer;
 use answers::counts::HzCounts;
 use answers::counts::counts_out;
+use book::Lengths;
 use capi::opening::hz_open;
-use recorded::answer::Answer;
-use recorded::book;
-use recorded::book::Lengths;
-use recorded::faults::CUT;
-use recorded::faults::SHAPE;
-use recorded::judge;
-use recorded::memory::at_most;
-use recorded::memory::list;
-use recorded::memory::put;
-use recorded::parts::arg;
-use recorded::say;
-use recorded::scan;
-use recorded::scan::NONE;
-use recorded::scan::Scan;
-use recorded::shape;
-use recorded::shape::LOAD;
+use faults::CUT;
+use faults::SHAPE;
+use memory::at_most;
+use memory::list;
+use memory::put;
+use parts::arg;
+use scan::NONE;
+use scan::Scan;
 use scope::Counts;
+use shape::LOAD;
 
 // The fault is told, and nothing more is read.
 fn stop(mut s: Scan, fault: u32, book: &[u64; 352]) -> Scan {

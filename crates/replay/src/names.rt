@@ -1,5 +1,17 @@
 // Map, New user, Set mode and Observe: each is made, and what it filled is compared with the line.
+use crate::answer::Answer;
+use crate::answer::filled;
+use crate::answer::first;
+use crate::answer::one;
+use crate::answer::three;
 use crate::counts::counts_in;
+use crate::parts::BLANK32;
+use crate::parts::NOTES;
+use crate::parts::WORDS;
+use crate::parts::arg;
+use crate::parts::fill32;
+use crate::parts::room;
+use crate::parts::wide;
 use answers::counts::HzCounts;
 use answers::mapped::HzMapped;
 use answers::mode_set::HzModeSet;
@@ -9,18 +21,6 @@ use capi::names::hz_map;
 use capi::names::hz_new_user;
 use capi::showing::hz_observe;
 use capi::showing::hz_set_mode;
-use recorded::answer::Answer;
-use recorded::answer::filled;
-use recorded::answer::first;
-use recorded::answer::one;
-use recorded::answer::three;
-use recorded::parts::BLANK32;
-use recorded::parts::NOTES;
-use recorded::parts::WORDS;
-use recorded::parts::arg;
-use recorded::parts::fill32;
-use recorded::parts::room;
-use recorded::parts::wide;
 
 fn mapped(r: HzMapped) -> Answer {
     let counts = counts_in(r.counts);

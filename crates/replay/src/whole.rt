@@ -1,18 +1,18 @@
 // Open and Pose, which may change all six lists.
+use crate::answer::Answer;
+use crate::answer::none;
 use crate::counts::counts_in;
 use crate::names::posed;
+use crate::parts::BLANK32;
+use crate::parts::COUNTS;
+use crate::parts::LITS;
+use crate::parts::arg;
+use crate::parts::copy32;
+use crate::parts::given;
+use crate::parts::room;
 use answers::changed::HzChanged;
 use answers::counts::HzCounts;
 use capi::poses::hz_pose;
-use recorded::answer::Answer;
-use recorded::answer::none;
-use recorded::parts::BLANK32;
-use recorded::parts::COUNTS;
-use recorded::parts::LITS;
-use recorded::parts::arg;
-use recorded::parts::copy32;
-use recorded::parts::given;
-use recorded::parts::room;
 
 // The counts that a refused Open answers are the capacity and no watermarks; the table's counts stay.
 pub fn opened(r: HzChanged, c: HzCounts, capacity: u32) -> Answer {
