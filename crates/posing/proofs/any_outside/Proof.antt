@@ -17,31 +17,24 @@ Inv-loop capacity lits found₀ i₀ found i = (i ≤ length lits) × (found ≡
 abbrev μ-loop : tie.MeasureT-loop
 μ-loop capacity lits found₀ i₀ found i = length lits - i
 
--- src/lib.rt:212:5
 loop-holds : tie.Need-loop-holds Inv-loop μ-loop
 loop-holds c = (omega arith, sym (any-start (λ x. leb (c .args .capacity) (indexOf x)) (c .args .lits .now)))
 
--- src/lib.rt:213:38
 mul-found : tie.Need-mul-found Inv-loop μ-loop
 mul-found c = search needs
 
--- src/lib.rt:213:38
 shared-slice-read-found : tie.Need-shared-slice-read-found Inv-loop μ-loop
 shared-slice-read-found c = search needs
 
--- src/lib.rt:214:9
 add-i : tie.Need-add-i Inv-loop μ-loop
 add-i c = search needs
 
--- src/lib.rt:212:5
 loop-less : tie.Need-loop-less Inv-loop μ-loop
 loop-less c = search needs
 
--- src/lib.rt:212:5
 loop-again : tie.Need-loop-again Inv-loop μ-loop
 loop-again c = (let l = c .before .loop-test .taken in omega arith, any-on (λ x. leb (c .before .before .before .args .capacity) (indexOf x)) (c .before .before .before .args .lits .now) _ _ (c .before .loop-test .taken) (c .before .before .loop .inv .1))
 
--- src/lib.rt:207:1
 returns : tie.Need-returns Inv-loop μ-loop
 returns c = any-all (λ x. leb (c .before .before .args .capacity) (indexOf x)) (c .before .before .args .lits .now) _ _ (c .loop-test .left) (c .before .loop .inv .1)
 

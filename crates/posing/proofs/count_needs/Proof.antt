@@ -13,51 +13,39 @@ Inv-loop mark gu sg lits seen₀ n₀ i₀ seen n i = (length seen ≡ 4096) × 
 abbrev μ-loop : tie.MeasureT-loop
 μ-loop mark gu sg lits seen₀ n₀ i₀ seen n i = length lits - i
 
--- src/lib.rt:225:5
 loop-holds : tie.Need-loop-holds Inv-loop μ-loop
 loop-holds c = (refl, counted-start _ _ _ _ 4096)
 
--- src/lib.rt:226:17
 mul-u : tie.Need-mul-u Inv-loop μ-loop
 mul-u c = search needs
 
--- src/lib.rt:226:17
 shared-slice-read-u : tie.Need-shared-slice-read-u Inv-loop μ-loop
 shared-slice-read-u c = search needs
 
--- src/lib.rt:227:26
 cast-fresh : tie.Need-cast-fresh Inv-loop μ-loop
 cast-fresh c = let b = c .before .before .before .before .before .before .pre .1 .at _ (c .before .loop-test .taken) in omega arith
 
--- src/lib.rt:227:21
 array-read-fresh : tie.Need-array-read-fresh Inv-loop μ-loop
 array-read-fresh c = let b = c .before .before .before .before .before .before .pre .1 .at _ (c .before .loop-test .taken) in let z = c .before .before .loop .inv .0 in omega arith
 
--- src/lib.rt:228:9
 count-one-requires : tie.Need-count-one-requires Inv-loop μ-loop
 count-one-requires c κs = let b = c .before .before .before .before .before .before .pre .1 .at _ (c .before .loop-test .taken) in let s = counted-small _ _ _ _ _ _ _ (c .before .before .loop .inv .1) in (b, (s .0, s .1))
 
--- src/lib.rt:229:14
 cast-seen : tie.Need-cast-seen Inv-loop μ-loop
 cast-seen c = search needs
 
--- src/lib.rt:229:9
 array-write-seen : tie.Need-array-write-seen Inv-loop μ-loop
 array-write-seen c = let b = c .before .before .before .before .before .before .before .pre .1 .at _ (c .before .before .loop-test .taken) in let z = c .before .before .before .loop .inv .0 in omega arith
 
--- src/lib.rt:230:9
 add-i : tie.Need-add-i Inv-loop μ-loop
 add-i c = search needs
 
--- src/lib.rt:225:5
 loop-less : tie.Need-loop-less Inv-loop μ-loop
 loop-less c = search needs
 
--- src/lib.rt:225:5
 loop-again : tie.Need-loop-again Inv-loop μ-loop
 loop-again c = (simp length-set (c .before .before .before .loop .inv .0), counted-more _ _ _ _ _ _ _ _ (c .before .before .before .loop .inv .0) (c .before .before .before .before .before .before .before .pre .1) (c .before .before .loop-test .taken) (c .before .before .before .loop .inv .1) (c .count-one .ensures))
 
--- src/lib.rt:211:1
 returns : tie.Need-returns Inv-loop μ-loop
 returns c = counted-end _ _ _ _ _ _ _ (c .loop-test .left) (c .before .loop .inv .1)
 

@@ -5,27 +5,21 @@ use borrow.Author.Needs.{needs}
 use Rattle.posing.proofs.held_solver.Statement.{statement}
 use Rattle.posing.proofs.held_solver.Tie as tie
 
--- src/lib.rt:68:30
 global-of-requires : tie.Need-global-of-requires
 global-of-requires c κs = search needs
 
--- src/lib.rt:68:25
 enum-known-g : tie.Need-enum-known-g
 enum-known-g c = search needs
 
--- src/lib.rt:69:9
 enum-told : tie.Need-enum-told
 enum-told c = search needs
 
--- src/lib.rt:69:9
 returns : tie.Need-returns
 returns c = held-none _ _ _ (global-word _ _ (c .before .before .global-of .ensures) ∙ ap globalWord (c .enum-told .given .1))
 
--- src/lib.rt:71:5
 solver-of-requires : tie.Need-solver-of-requires
 solver-of-requires c κs = search needs
 
--- src/lib.rt:65:1
 returns-2 : tie.Need-returns-2
 returns-2 c = held-some _ _ _ _ _ (global-word _ _ (c .before .before .before .before .global-of .ensures) ∙ ap globalWord (c .before .before .g .given .1)) (c .solver-of .ensures)
 

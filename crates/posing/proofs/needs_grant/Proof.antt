@@ -5,38 +5,30 @@ use borrow.Author.Needs.{needs}
 use Rattle.posing.proofs.needs_grant.Statement.{statement}
 use Rattle.posing.proofs.needs_grant.Tie as tie
 
--- src/lib.rt:176:30
 global-of-requires : tie.Need-global-of-requires
 global-of-requires c κs = search needs
 
--- src/lib.rt:176:25
 enum-known-g : tie.Need-enum-known-g
 enum-known-g c = search needs
 
--- src/lib.rt:177:9
 enum-told : tie.Need-enum-told
 enum-told c = search needs
 
--- src/lib.rt:177:9
 returns : tie.Need-returns
 returns c = grant-none _ _ _ ((global-word _ _ (c .before .before .global-of .ensures) ∙ ap globalWord (c .enum-told .given .1)))
 
--- src/lib.rt:179:30
 solver-of-requires : tie.Need-solver-of-requires
 solver-of-requires c κs = search needs
 
 enum-told-2 : tie.Need-enum-told-2
 enum-told-2 c = search needs
 
--- src/lib.rt:180:9
 enum-told-3 : tie.Need-enum-told-3
 enum-told-3 c = search needs
 
--- src/lib.rt:180:9
 returns-2 : tie.Need-returns-2
 returns-2 c = grant-free _ _ _ _ ((global-word _ _ (c .before .before .before .before .before .before .global-of .ensures) ∙ ap globalWord (c .before .before .before .before .g .given .1))) ((solver-word _ _ (c .before .before .solver-of .ensures) ∙ ap solverWord (c .enum-told3 .given .1)))
 
--- src/lib.rt:173:1
 returns-3 : tie.Need-returns-3
 returns-3 c = grant-held _ _ _ _ _ ((global-word _ _ (c .before .before .before .before .before .before .global-of .ensures) ∙ ap globalWord (c .before .before .before .before .g .given .1))) ((solver-word _ _ (c .before .before .solver-of .ensures) ∙ ap solverWord (c .enum-told2 .given .1)))
 

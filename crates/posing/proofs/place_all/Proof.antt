@@ -17,83 +17,63 @@ abbrev μ-loop : tie.MeasureT-loop
 μ-loop gu₀ ug₀ sg₀ gs₀ assignment₀ records₀ lits out₀ notes₀ cur₀ k₀ at₀ i₀ gu ug sg gs assignment records out notes cur k at i =
     length lits - i
 
--- src/lib.rt:126:5
 loop-holds : tie.Need-loop-holds Inv-loop μ-loop
 loop-holds c = (done-start _ _ _ _, ahead-start _)
 
--- src/lib.rt:127:20
 mul-code : tie.Need-mul-code Inv-loop μ-loop
 mul-code c = search needs
 
--- src/lib.rt:127:20
 shared-slice-read-code : tie.Need-shared-slice-read-code Inv-loop μ-loop
 shared-slice-read-code c = search needs
 
--- src/lib.rt:129:13
 place-user-requires : tie.Need-place-user-requires Inv-loop μ-loop
 place-user-requires c κs = (turn-asks _ _ _ _ _ _ _ _ _ _ (c .before .before .before .before .before .before .before .before .before .before .before .before .before .before .before .before .before .before .before .pre) (c .before .before .before .before .before .before .before .before .loop-test .taken) (c .before .before .before .before .before .before .before .before .before .loop .inv .0), c .before .before .before .before .before .before .before .before .before .loop .inv .1)
 
--- src/lib.rt:134:18
 mul-out : tie.Need-mul-out Inv-loop μ-loop
 mul-out c = let v = turn-small _ _ _ _ _ _ _ _ _ _ _ _ _ _ (c .before .before .before .before .before .before .before .before .before .before .before .before .before .before .before .before .before .before .before .before .before .before .before .before .before .before .before .before .before .before .before .before .before .before .before .before .before .before .pre) (c .before .before .before .before .before .before .before .before .before .before .before .before .before .before .before .before .before .before .before .before .before .before .before .before .before .before .before .loop-test .taken) (c .before .before .before .before .before .before .before .before .before .before .before .before .before .before .before .before .before .before .before .before .before .before .before .before .before .before .before .before .loop .inv .0) (c .before .before .before .before .before .before .before .before .before .before .before .before .before .before .before .before .before .before .place-user .ensures .0) in omega arith
 
--- src/lib.rt:134:18
 add-out : tie.Need-add-out Inv-loop μ-loop
 add-out c = let v = turn-small _ _ _ _ _ _ _ _ _ _ _ _ _ _ (c .before .before .before .before .before .before .before .before .before .before .before .before .before .before .before .before .before .before .before .before .before .before .before .before .before .before .before .before .before .before .before .before .before .before .before .before .before .before .pre) (c .before .before .before .before .before .before .before .before .before .before .before .before .before .before .before .before .before .before .before .before .before .before .before .before .before .before .before .loop-test .taken) (c .before .before .before .before .before .before .before .before .before .before .before .before .before .before .before .before .before .before .before .before .before .before .before .before .before .before .before .before .loop .inv .0) (c .before .before .before .before .before .before .before .before .before .before .before .before .before .before .before .before .before .before .place-user .ensures .0) in omega arith
 
--- src/lib.rt:134:9
 mul-out-2 : tie.Need-mul-out-2 Inv-loop μ-loop
 mul-out-2 c = let l = c .before .before .before .before .before .before .before .before .before .before .before .before .before .before .before .before .before .before .before .before .before .before .before .before .before .before .before .loop-test .taken in let p = c .before .before .before .before .before .before .before .before .before .before .before .before .before .before .before .before .before .before .before .before .before .before .before .before .before .before .before .before .before .before .before .before .before .before .before .before .before .before .pre .places in let f = c .before .before .before .before .before .before .before .before .before .before .before .before .before .before .before .before .before .before .before .before .before .before .before .before .before .before .before .before .before .before .before .before .before .before .before .before .before .before .pre .few in omega arith
 
--- src/lib.rt:134:9
 slice-write-out : tie.Need-slice-write-out Inv-loop μ-loop
 slice-write-out c = let l = c .before .before .before .before .before .before .before .before .before .before .before .before .before .before .before .before .before .before .before .before .before .before .before .before .before .before .before .loop-test .taken in let p = c .before .before .before .before .before .before .before .before .before .before .before .before .before .before .before .before .before .before .before .before .before .before .before .before .before .before .before .before .before .before .before .before .before .before .before .before .before .before .pre .places in let s = same-sizes _ _ _ _ _ _ _ _ _ _ (c .before .before .before .before .before .before .before .before .before .before .before .before .before .before .before .before .before .before .before .before .before .before .before .before .before .before .before .before .before .before .before .before .before .before .before .before .before .before .pre) (c .before .before .before .before .before .before .before .before .before .before .before .before .before .before .before .before .before .before .before .before .before .before .before .before .before .before .before .before .loop .inv .0) .outs in omega arith
 
--- src/lib.rt:135:9
 add-i : tie.Need-add-i Inv-loop μ-loop
 add-i c = let l = c .before .before .before .before .before .before .before .before .before .before .before .before .before .before .before .before .before .before .before .before .before .before .before .before .before .before .before .loop-test .taken in let f = c .before .before .before .before .before .before .before .before .before .before .before .before .before .before .before .before .before .before .before .before .before .before .before .before .before .before .before .before .before .before .before .before .before .before .before .before .before .before .pre .few in omega arith
 
--- src/lib.rt:126:5
 loop-less : tie.Need-loop-less Inv-loop μ-loop
 loop-less c = let l = c .before .before .before .before .before .before .before .before .before .before .before .before .before .before .before .before .before .before .before .before .before .before .before .before .before .before .before .loop-test .taken in omega arith
 
--- src/lib.rt:126:5
 loop-again : tie.Need-loop-again Inv-loop μ-loop
 loop-again c = (done-more _ _ _ _ _ _ _ _ _ _ _ _ _ _ (c .before .before .before .before .before .before .before .before .before .before .before .before .before .before .before .before .before .before .before .before .before .before .before .before .before .before .before .loop-test .taken) (c .before .before .before .before .before .before .before .before .before .before .before .before .before .before .before .before .before .before .before .before .before .before .before .before .before .before .before .before .loop .inv .0) (c .before .before .before .before .before .before .before .before .before .before .before .before .before .before .before .before .before .before .place-user .ensures .0) (omega arith), c .before .before .before .before .before .before .before .before .before .before .before .before .before .before .before .before .before .before .place-user .ensures .1)
 
--- src/lib.rt:102:1
 same-length : tie.Need-same-length Inv-loop μ-loop
 same-length c = same-sizes _ _ _ _ _ _ _ _ _ _ (c .before .before .before .before .before .before .before .before .before .before .before .pre) (c .before .loop .inv .0) .globalFromUser
 
--- src/lib.rt:102:1
 same-length-2 : tie.Need-same-length-2 Inv-loop μ-loop
 same-length-2 c = same-sizes _ _ _ _ _ _ _ _ _ _ (c .before .before .before .before .before .before .before .before .before .before .before .pre) (c .before .loop .inv .0) .userFromGlobal
 
--- src/lib.rt:102:1
 same-length-3 : tie.Need-same-length-3 Inv-loop μ-loop
 same-length-3 c = same-sizes _ _ _ _ _ _ _ _ _ _ (c .before .before .before .before .before .before .before .before .before .before .before .pre) (c .before .loop .inv .0) .solverFromGlobal
 
--- src/lib.rt:102:1
 same-length-4 : tie.Need-same-length-4 Inv-loop μ-loop
 same-length-4 c = same-sizes _ _ _ _ _ _ _ _ _ _ (c .before .before .before .before .before .before .before .before .before .before .before .pre) (c .before .loop .inv .0) .globalFromSolver
 
--- src/lib.rt:102:1
 same-length-5 : tie.Need-same-length-5 Inv-loop μ-loop
 same-length-5 c = same-sizes _ _ _ _ _ _ _ _ _ _ (c .before .before .before .before .before .before .before .before .before .before .before .pre) (c .before .loop .inv .0) .assignment
 
--- src/lib.rt:102:1
 same-length-6 : tie.Need-same-length-6 Inv-loop μ-loop
 same-length-6 c = same-sizes _ _ _ _ _ _ _ _ _ _ (c .before .before .before .before .before .before .before .before .before .before .before .pre) (c .before .loop .inv .0) .records
 
--- src/lib.rt:102:1
 same-length-7 : tie.Need-same-length-7 Inv-loop μ-loop
 same-length-7 c = same-sizes _ _ _ _ _ _ _ _ _ _ (c .before .before .before .before .before .before .before .before .before .before .before .pre) (c .before .loop .inv .0) .outs
 
--- src/lib.rt:102:1
 same-length-8 : tie.Need-same-length-8 Inv-loop μ-loop
 same-length-8 c = same-sizes _ _ _ _ _ _ _ _ _ _ (c .before .before .before .before .before .before .before .before .before .before .before .pre) (c .before .loop .inv .0) .notes
 
--- src/lib.rt:102:1
 returns : tie.Need-returns Inv-loop μ-loop
 returns c = done-end _ _ _ _ _ _ _ _ _ (c .loop-test .left) (c .before .loop .inv .0)
 

@@ -5,63 +5,48 @@ use borrow.Author.Needs.{needs}
 use Rattle.posing.proofs.place_user.Statement.{statement}
 use Rattle.posing.proofs.place_user.Tie as tie
 
--- src/lib.rt:156:35
 held-solver-requires : tie.Need-held-solver-requires
 held-solver-requires c κs = search needs
 
--- src/lib.rt:156:25
 enum-known-solver : tie.Need-enum-known-solver
 enum-known-solver c = search needs
 
--- src/lib.rt:157:29
 enum-told : tie.Need-enum-told
 enum-told c = search needs
 
--- src/lib.rt:157:9
 place-new-requires : tie.Need-place-new-requires
 place-new-requires c κs = search needs
 
--- src/lib.rt:157:9
 same-length : tie.Need-same-length
 same-length c = search needs
 
--- src/lib.rt:157:9
 same-length-2 : tie.Need-same-length-2
 same-length-2 c = search needs
 
--- src/lib.rt:157:9
 same-length-3 : tie.Need-same-length-3
 same-length-3 c = search needs
 
--- src/lib.rt:157:9
 same-length-4 : tie.Need-same-length-4
 same-length-4 c = search needs
 
--- src/lib.rt:157:9
 same-length-5 : tie.Need-same-length-5
 same-length-5 c = search needs
 
--- src/lib.rt:157:9
 same-length-6 : tie.Need-same-length-6
 same-length-6 c = search needs
 
--- src/lib.rt:157:9
 same-length-7 : tie.Need-same-length-7
 same-length-7 c = search needs
 
--- src/lib.rt:157:9
 returns : tie.Need-returns
 returns c = search needs
 
--- src/lib.rt:137:1
 same-length-8 : tie.Need-same-length-8
 same-length-8 c = search needs
 
--- src/lib.rt:137:1
 same-length-9 : tie.Need-same-length-9
 same-length-9 c = search needs
 
--- src/lib.rt:137:1
 returns-2 : tie.Need-returns-2
 returns-2 c = (held-leaves _ _ _ _ _ (solver-word _ _ (c .before .before .before .held-solver .ensures) ∙ ap solverWord (c .before .solver .given .1)), c .before .before .before .before .before .before .before .before .before .before .before .before .before .pre .1)
 

@@ -7,75 +7,57 @@ use borrow.Author.Needs.{needs}
 use Rattle.posing.proofs.pose_refusal.Statement.{statement}
 use Rattle.posing.proofs.pose_refusal.Tie as tie
 
--- src/lib.rt:251:9
 is-sound-requires : tie.Need-is-sound-requires
 is-sound-requires c κs = search needs
 
--- src/lib.rt:252:9
 returns : tie.Need-returns
 returns c = refuse-1 _ _ _ _ _ (no-of (c .before .is-sound .ensures) (c .if1 .taken))
 
--- src/lib.rt:255:9
 returns-2 : tie.Need-returns-2
 returns-2 c = refuse-many _ _ _ _ _ (yes-of (c .before .before .is-sound .ensures) (c .before .if1 .left)) (c .if2 .taken)
 
--- src/lib.rt:257:8
 any-outside-requires : tie.Need-any-outside-requires
 any-outside-requires c κs = search needs
 
--- src/lib.rt:258:9
 returns-3 : tie.Need-returns-3
 returns-3 c = refuse-3 _ _ _ _ _ (yes-of (c .before .before .before .before .is-sound .ensures) (c .before .before .before .if1 .left)) (c .before .before .if2 .left) _ (c .before .any-outside .ensures) (c .if3 .taken)
 
--- src/lib.rt:260:8
 any-unsampled-requires : tie.Need-any-unsampled-requires
 any-unsampled-requires c κs = inside _ (yes-of (c .before .before .before .before .is-sound .ensures) (c .before .before .before .if1 .left))
 
--- src/lib.rt:261:9
 returns-4 : tie.Need-returns-4
 returns-4 c = refuse-4 _ _ _ _ _ (yes-of (c .before .before .before .before .before .before .is-sound .ensures) (c .before .before .before .before .before .if1 .left)) (c .before .before .before .before .if2 .left) (sym (c .before .before .before .any-outside .ensures) ∙ c .before .before .if3 .left) _ (c .before .any-unsampled .ensures) (c .if4 .taken)
 
--- src/lib.rt:263:9
 count-undeleted-requires : tie.Need-count-undeleted-requires
 count-undeleted-requires c κs = records-small _ (yes-of (c .before .before .before .before .before .before .is-sound .ensures) (c .before .before .before .before .before .if1 .left))
 
--- src/lib.rt:264:9
 count-needs-requires : tie.Need-count-needs-requires
 count-needs-requires c κs = ((c .before .before .before .before .before .if2 .left), within-small _ _ (yes-of (c .before .before .before .before .before .before .before .is-sound .ensures) (c .before .before .before .before .before .before .if1 .left)) (sym (c .before .before .before .before .any-outside .ensures) ∙ c .before .before .before .if3 .left))
 
--- src/lib.rt:265:26
 sub-users : tie.Need-sub-users
 sub-users c = search needs
 
--- src/lib.rt:265:17
 add-users : tie.Need-add-users
 add-users c = let k = (counted _ _ _ _ _ _ (yes-of (c .before .before .before .before .before .before .before .before .before .before .before .is-sound .ensures) (c .before .before .before .before .before .before .before .before .before .before .if1 .left)) (within-of _ _ (sym (c .before .before .before .before .before .before .before .before .any-outside .ensures) ∙ c .before .before .before .before .before .before .before .if3 .left)) (c .before .before .before .before .count-undeleted .ensures) (c .before .before .before .count-needs .ensures)) in omega arith
 
--- src/lib.rt:266:21
 add-if5 : tie.Need-add-if5
 add-if5 c = let k = (counted _ _ _ _ _ _ (yes-of (c .before .before .before .before .before .before .before .before .before .before .before .is-sound .ensures) (c .before .before .before .before .before .before .before .before .before .before .if1 .left)) (within-of _ _ (sym (c .before .before .before .before .before .before .before .before .any-outside .ensures) ∙ c .before .before .before .before .before .before .before .if3 .left)) (c .before .before .before .before .count-undeleted .ensures) (c .before .before .before .count-needs .ensures)) in omega arith
 
--- src/lib.rt:267:9
 returns-5 : tie.Need-returns-5
 returns-5 c = refuse-5 _ _ _ _ _ (yes-of (c .before .before .before .before .before .before .before .before .before .before .before .before .before .is-sound .ensures) (c .before .before .before .before .before .before .before .before .before .before .before .before .if1 .left)) (c .before .before .before .before .before .before .before .before .before .before .before .if2 .left) (sym (c .before .before .before .before .before .before .before .before .before .before .any-outside .ensures) ∙ c .before .before .before .before .before .before .before .before .before .if3 .left) _ (c .before .before .before .before .before .before .before .before .any-unsampled .ensures) (c .before .before .before .before .before .before .before .if4 .left) _ _ _ _ (counted _ _ _ _ _ _ (yes-of (c .before .before .before .before .before .before .before .before .before .before .before .before .before .is-sound .ensures) (c .before .before .before .before .before .before .before .before .before .before .before .before .if1 .left)) (within-of _ _ (sym (c .before .before .before .before .before .before .before .before .before .before .any-outside .ensures) ∙ c .before .before .before .before .before .before .before .before .before .if3 .left)) (c .before .before .before .before .before .before .count-undeleted .ensures) (c .before .before .before .before .before .count-needs .ensures)) (c .if5 .taken)
 
--- src/lib.rt:269:23
 add-words : tie.Need-add-words
 add-words c = let k = (counted _ _ _ _ _ _ (yes-of (c .before .before .before .before .before .before .before .before .before .before .before .before .before .before .is-sound .ensures) (c .before .before .before .before .before .before .before .before .before .before .before .before .before .if1 .left)) (within-of _ _ (sym (c .before .before .before .before .before .before .before .before .before .before .before .any-outside .ensures) ∙ c .before .before .before .before .before .before .before .before .before .before .if3 .left)) (c .before .before .before .before .before .before .before .count-undeleted .ensures) (c .before .before .before .before .before .before .count-needs .ensures)) in omega arith
 
--- src/lib.rt:269:22
 cast-words : tie.Need-cast-words
 cast-words c = search needs
 
--- src/lib.rt:269:17
 mul-words : tie.Need-mul-words
 mul-words c = search needs
 
--- src/lib.rt:271:9
 returns-6 : tie.Need-returns-6
 returns-6 c = refuse-2 _ _ _ _ _ (yes-of (c .before .before .before .before .before .before .before .before .before .before .before .before .before .before .before .is-sound .ensures) (c .before .before .before .before .before .before .before .before .before .before .before .before .before .before .if1 .left)) (c .before .before .before .before .before .before .before .before .before .before .before .before .before .if2 .left) (sym (c .before .before .before .before .before .before .before .before .before .before .before .before .any-outside .ensures) ∙ c .before .before .before .before .before .before .before .before .before .before .before .if3 .left) _ (c .before .before .before .before .before .before .before .before .before .before .any-unsampled .ensures) (c .before .before .before .before .before .before .before .before .before .if4 .left) _ _ _ _ (counted _ _ _ _ _ _ (yes-of (c .before .before .before .before .before .before .before .before .before .before .before .before .before .before .before .is-sound .ensures) (c .before .before .before .before .before .before .before .before .before .before .before .before .before .before .if1 .left)) (within-of _ _ (sym (c .before .before .before .before .before .before .before .before .before .before .before .before .any-outside .ensures) ∙ c .before .before .before .before .before .before .before .before .before .before .before .if3 .left)) (c .before .before .before .before .before .before .before .before .count-undeleted .ensures) (c .before .before .before .before .before .before .before .count-needs .ensures)) (c .before .before .if5 .left) (c .if6 .taken)
 
--- src/lib.rt:236:1
 returns-7 : tie.Need-returns-7
 returns-7 c = refuse-0 _ _ _ _ _ (yes-of (c .before .before .before .before .before .before .before .before .before .before .before .before .before .before .before .is-sound .ensures) (c .before .before .before .before .before .before .before .before .before .before .before .before .before .before .if1 .left)) (c .before .before .before .before .before .before .before .before .before .before .before .before .before .if2 .left) (sym (c .before .before .before .before .before .before .before .before .before .before .before .before .any-outside .ensures) ∙ c .before .before .before .before .before .before .before .before .before .before .before .if3 .left) _ (c .before .before .before .before .before .before .before .before .before .before .any-unsampled .ensures) (c .before .before .before .before .before .before .before .before .before .if4 .left) _ _ _ _ (counted _ _ _ _ _ _ (yes-of (c .before .before .before .before .before .before .before .before .before .before .before .before .before .before .before .is-sound .ensures) (c .before .before .before .before .before .before .before .before .before .before .before .before .before .before .if1 .left)) (within-of _ _ (sym (c .before .before .before .before .before .before .before .before .before .before .before .before .any-outside .ensures) ∙ c .before .before .before .before .before .before .before .before .before .before .before .if3 .left)) (c .before .before .before .before .before .before .before .before .count-undeleted .ensures) (c .before .before .before .before .before .before .before .count-needs .ensures)) (c .before .before .if5 .left) (c .if6 .left)
 

@@ -4,83 +4,63 @@ use borrow.Author.Needs.{needs}
 use Rattle.posing.proofs.solver_from_user_lits.Statement.{statement}
 use Rattle.posing.proofs.solver_from_user_lits.Tie as tie
 
--- src/lib.rt:296:9
 pose-refusal-requires : tie.Need-pose-refusal-requires
 pose-refusal-requires c κs = search needs
 
--- src/lib.rt:298:9
 same-length : tie.Need-same-length
 same-length c = search needs
 
--- src/lib.rt:298:9
 same-length-2 : tie.Need-same-length-2
 same-length-2 c = search needs
 
--- src/lib.rt:298:9
 same-length-3 : tie.Need-same-length-3
 same-length-3 c = search needs
 
--- src/lib.rt:298:9
 same-length-4 : tie.Need-same-length-4
 same-length-4 c = search needs
 
--- src/lib.rt:298:9
 same-length-5 : tie.Need-same-length-5
 same-length-5 c = search needs
 
--- src/lib.rt:298:9
 same-length-6 : tie.Need-same-length-6
 same-length-6 c = search needs
 
--- src/lib.rt:298:9
 returns : tie.Need-returns
 returns c = pose-refused _ _ _ _ _ _ (c .before .pose-refusal .ensures) (c .if1 .taken)
 
--- src/lib.rt:300:9
 place-all-requires : tie.Need-place-all-requires
 place-all-requires c κs = (asks-of _ _ _ _ _ _ (c .before .before .before .before .before .before .before .before .before .pose-refusal .ensures) (c .before .before .before .before .before .before .before .before .if1 .left))
 
--- src/lib.rt:302:21
 cast-t46 : tie.Need-cast-t46
 cast-t46 c = let f = (asks-of _ _ _ _ _ _ (c .before .before .before .before .before .before .before .before .before .before .before .before .before .before .before .before .before .before .before .before .before .before .before .before .before .before .before .pose-refusal .ensures) (c .before .before .before .before .before .before .before .before .before .before .before .before .before .before .before .before .before .before .before .before .before .before .before .before .before .before .if1 .left)) .few in omega arith
 
--- src/lib.rt:302:48
 cast-t47 : tie.Need-cast-t47
 cast-t47 c = record { fits = count-small _ _ _ _ _ _ _ _ _ (asks-of _ _ _ _ _ _ (c .before .before .before .before .before .before .before .before .before .before .before .before .before .before .before .before .before .before .before .before .before .before .before .before .before .before .before .before .pose-refusal .ensures) (c .before .before .before .before .before .before .before .before .before .before .before .before .before .before .before .before .before .before .before .before .before .before .before .before .before .before .before .if1 .left)) (c .before .before .before .before .before .before .before .before .before .before .before .before .before .before .before .before .before .before .place-all .ensures .0) }
 
--- src/lib.rt:278:1
 same-length-7 : tie.Need-same-length-7
 same-length-7 c = search needs
 
--- src/lib.rt:278:1
 same-length-8 : tie.Need-same-length-8
 same-length-8 c = search needs
 
--- src/lib.rt:278:1
 same-length-9 : tie.Need-same-length-9
 same-length-9 c = search needs
 
--- src/lib.rt:278:1
 same-length-10 : tie.Need-same-length-10
 same-length-10 c = search needs
 
--- src/lib.rt:278:1
 same-length-11 : tie.Need-same-length-11
 same-length-11 c = search needs
 
--- src/lib.rt:278:1
 same-length-12 : tie.Need-same-length-12
 same-length-12 c = search needs
 
--- src/lib.rt:278:1
 same-length-13 : tie.Need-same-length-13
 same-length-13 c = search needs
 
--- src/lib.rt:278:1
 same-length-14 : tie.Need-same-length-14
 same-length-14 c = search needs
 
--- src/lib.rt:278:1
 returns-2 : tie.Need-returns-2
 returns-2 c = pose-done _ _ _ _ _ _ _ _ _ _ (c .before .before .before .before .before .before .before .before .before .before .before .before .before .before .before .before .before .before .before .before .before .before .before .before .before .before .before .before .pose-refusal .ensures) (c .before .before .before .before .before .before .before .before .before .before .before .before .before .before .before .before .before .before .before .before .before .before .before .before .before .before .before .if1 .left) (c .before .before .before .before .before .before .before .before .before .before .before .before .before .before .before .before .before .before .place-all .ensures)
 

@@ -7,19 +7,15 @@ use Rattle.round_trip.proofs.first_reads.Reads as reads
 use Rattle.round_trip.proofs.first_reads.Lts as lts
 use Rattle.round_trip.proofs.reads.Reads as reads-reads
 
--- src/main.rt:47:9
 returns : tie.Need-returns
 returns c = search needs
 
--- src/main.rt:49:20
 slice-aggregate-reads : tie.Need-slice-aggregate-reads
 slice-aggregate-reads c = sym (length-take-le _ _ (c .before .if1 .left))
 
--- src/main.rt:49:5
 reads-requires : tie.Need-reads-requires
 reads-requires c κs = search needs
 
--- src/main.rt:45:1
 returns-2 : tie.Need-returns-2
 returns-2 c = search needs
 
