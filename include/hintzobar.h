@@ -9,13 +9,14 @@
  *     records       a word for each global: mode (0 Sample, 1 Witness, 2 Hide) + 3 * unit + 9 if isolated + 18 if assumed + 36 if deleted
  * A list is a pointer and its length in elements. A pointer is aligned and not null, also where the length is 0, and a list that a call may
  * change overlaps no other list lent to it.
- * An index, a literal code (2 * index, plus 1 if negative) and a length may be any number, and a list may hold any words.
+ * An index, a literal code (twice the index, one more if negated) and a length may be any number, and a list may hold any words.
  * Stack: hz_simplify takes 64 KB beside the caller's own and hz_write 32 KB, whatever the clause, the others a few. A thread of 64 KB is too
  * small for hz_simplify; one of 128 KB is enough for any call.
  *
  * Every answer begins with `refusal`: 0 if the call was accepted, else one of the numbers below or HZ_UNKNOWN. A refused call changes no
  * memory, its counts are those given (of hz_open: the capacity given and 0, 0, 0), and its other fields are 0 or false unless said
- * otherwise. After an accepted call the table is the same six lists with the counts that came back. A note is three words: kind (0 U, 1 S, 2 D, 3 C), global, and last index + 1 or 0, or 1 or 0 for C.
+ * otherwise. After an accepted call the table is the same six lists with the counts that came back. A note takes three words: its kind
+ * (0 U, 1 S, 2 D, 3 C), the global, and what is told of it: an index + 1, or 0 where it is withdrawn; of C 1 for Sample, else 0; of D 0.
  */
 #ifndef HINTZOBAR_H
 #define HINTZOBAR_H
@@ -256,7 +257,7 @@ hz_written hz_write_clause(uint32_t format, uint32_t kind, const uint32_t *lits,
 hz_written hz_write_proof(uint32_t format, const uint32_t *codes, size_t codes_len, const uint64_t *ends, size_t ends_len,
                           const uint8_t *kinds, size_t kinds_len, uint8_t *proof, size_t proof_len);
 
-/* Read a proof: literal codes, each step's end among them, and kinds (enum hz_clause): 13, 2. The first step alone: 13. */
+/* Read a proof: all literal codes in a row, where each step ends in it, and kinds (enum hz_clause): 13, 2. The first step alone: 13. */
 hz_reading hz_read(uint32_t format, const uint8_t *bytes, size_t bytes_len, uint32_t *codes, size_t codes_len, uint64_t *ends,
                    size_t ends_len, uint8_t *kinds, size_t kinds_len);
 hz_first hz_first_step(uint32_t format, const uint8_t *bytes, size_t bytes_len);

@@ -39,7 +39,7 @@ macro_rules! names {
 
 names!(User Global Solver);
 
-/// A literal of one sort of name. Its code is 2 × index, plus 1 if negative, and literals compare by code.
+/// A literal of one sort of name. Its code is twice the index, one more if it is negated; literals are ordered by their codes.
 ///
 /// ```
 /// use hintzobar::{Lit, Solver, User};

@@ -144,7 +144,7 @@ pub struct Reading {
     pub steps: usize,
 }
 
-/// Reads a proof: the literals of all steps, each step's end among them, and kinds (0 add, 1 delete). Refusals: 13, 2.
+/// Reads a proof: the literals of all steps in a row, where each step ends in it, and kinds (0 add, 1 delete). Refusals: 13, 2.
 ///
 /// To lend: a literal for each one in the proof, an end and a kind for each step. As many of each as there are bytes is enough.
 ///
@@ -211,8 +211,8 @@ pub fn write_clause(
     Ok(answer.bytes)
 }
 
-/// Writes a whole proof from the lists that [`read`] fills: the literals of all steps, each step's end among them, and kinds (0 add, 1
-/// delete). Answers how many bytes it took. Refusals: 3 where the lists are no proof, 2.
+/// Writes a whole proof from the lists that [`read`] fills: the literals of all steps in a row, where each step ends in it, and kinds (0 add,
+/// 1 delete). Answers how many bytes it took. Refusals: 3 where the lists are no proof, 2.
 ///
 /// To lend: the bytes of the proof; 6 for each literal and 4 for each step are enough.
 ///

@@ -15,7 +15,7 @@ pub struct Passed {
     pub at: usize,
 }
 
-// A global with neither user nor solver index that is isolated is deleted: D (01, "Set mode"). The counts and the place after the
+// An isolated global that has lost both its names is deleted, with note D (01, "Set mode"). The counts and the place after the
 // note are returned.
 // Definition: crates/scope/specs/Modes.antt, `deleteIfUnused`.
 pub fn delete_global_if_unused(

@@ -84,7 +84,7 @@ written =
     ∷ bytes (encode Text []) is bytes []
     ∷ []
 
--- Read: 13 with the start of the first step not whole, before 2. Codes, ends, kinds (0 add, 1 delete); literals, steps.
+-- Read: 13, with where the broken step starts, before 2. Codes, ends, kinds (0 add, 1 delete); literals, steps.
 abbrev pub reads : List Row
 reads =
     -- with just enough room

@@ -18,7 +18,7 @@ use Rattle.drat.specs.declared.Format.{Format}
 use Rattle.drat.specs.declared.Scanned.{Scanned}
 use Rattle.drat.specs.declared.Scanned.the-variants.{Whole, Fault}
 
--- The words that steps fill: literal codes, each step's end among them, and kinds.
+-- The three lists that steps fill: all literal codes in a row, where each step ends in that row, and a kind for each step.
 abbrev pub kindNumber : Kind → ℕ
 kindNumber Add = 0
 kindNumber Delete = 1
@@ -51,7 +51,7 @@ refusing n vs = record { answer = refused n vs; codes = []; ends = []; kinds = [
 abbrev pub filling : List Step → Filling
 filling ss = record { answer = accepted (length (codesOf ss) ∷ length ss ∷ []); codes = codesOf ss; ends = endsFrom 0 ss; kinds = kindsOf ss }
 
--- 13, with the start of the first step not whole; 2; a, b and c are the lengths of the slices for codes, ends and kinds.
+-- 13 gives the place where the first broken step starts; then 2; a, b and c are the lengths of the slices for codes, ends and kinds.
 unfoldable pub answerOf : Proof → ℕ → ℕ → ℕ → Filling
 answerOf (faultAt i) a b c = refusing 13 (i ∷ [])
 answerOf (steps ss) a b c = pick (ltb a (length (codesOf ss)) || ltb b (length ss) || ltb c (length ss)) (refusing 2 []) (filling ss)

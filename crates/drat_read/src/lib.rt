@@ -27,7 +27,7 @@ fn count(f: Format, bytes: &[u8]) -> Scanned
     }
 }
 
-// Read: 13, with the start of the first step not whole; 2.
+// Read: 13, with the place where the first broken step starts; then 2.
 // drat/specs/Filled.antt: readOf, and read for the answer.
 pub fn read_proof(
     f: Format,

@@ -1,4 +1,4 @@
-// A whole proof from its three lists: literal codes, each step's end among them, and kinds.
+// A whole proof from its three lists: all literal codes in a row, where each step ends in that row, and a kind for each step.
 use crate::all_below;
 use crate::end_len;
 use crate::number_len;

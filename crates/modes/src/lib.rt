@@ -488,7 +488,7 @@ fn observe_all(
     k
 }
 
-// Observe (01, `observe_internal_vars`; refusals 1, 7, 2): undeleted Hide globals in ascending order go to Witness; their users are filled.
+// Observe (01, `observe_internal_vars`; refusals 1, 7, 2): each hidden global, the least first, becomes a witness, and the users that they get are filled.
 // Definition: crates/scope/specs/Modes.antt, `observeOf`; its answer: `observed`.
 pub fn observe_internal_vars(
     c: Counts,

@@ -345,7 +345,7 @@ fn pose_refusal(
     0
 }
 
-// Pose (01, `solver_from_user_lits`; refusals 1, 3, 4, 5, 2): map and grant for each literal in turn, sign kept.
+// Pose (01, `solver_from_user_lits`; refusals 1, 3, 4, 5, 2): literal by literal, Map of the user and Grant of its global; the sign stays.
 // Definition: crates/scope/specs/Pose.antt, `poseOf`; its answer: specs/Poses.antt, `posed`.
 pub fn solver_from_user_lits(
     c: Counts,

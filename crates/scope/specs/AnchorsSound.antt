@@ -19,7 +19,7 @@ cell u g s gu ug sg gs a r = tab 1 u g s (w1 gu) (w1 ug) (w1 sg) (w1 gs) (w1 a) 
 
 abbrev pub sounds : List Row
 sounds =
-    -- the capacity is 1 to 4,096 and every slice has its length
+    -- sizes: a capacity from 1 to 4,096, and six lists of that length
     refused (tab 0 0 0 0 [] [] [] [] [] [])
     ∷ taken (blank 2)
     ∷ refused (tab 1 0 0 0 [] (w1 0) (w1 0) (w1 0) (w1 0) (w1 47))
@@ -34,17 +34,17 @@ sounds =
     ∷ refused (tab 1 0 0 0 (w1 0) (w1 0) (w1 0) (w1 0) (w2 0 0) (w1 47))
     ∷ refused (tab 1 0 0 0 (w1 0) (w1 0) (w1 0) (w1 0) (w1 0) [])
     ∷ refused (tab 1 0 0 0 (w1 0) (w1 0) (w1 0) (w1 0) (w1 0) (w2 47 47))
-    -- records are at most 71 and assignment words at most 2
+    -- words: no record above 71, no assignment word above 2
     ∷ refused (cell 0 1 0 0 0 0 0 0 83)
     ∷ taken (cell 0 1 0 0 0 0 0 0 71)
     ∷ refused (cell 0 1 1 0 0 0 0 3 2)
     ∷ taken (cell 0 1 1 0 0 0 0 2 2)
-    -- user and solver watermarks are at most the global one, which is at most the capacity
+    -- watermarks: neither users nor solver indices reach further than globals, nor these than the capacity
     ∷ refused (cell 1 0 0 0 0 0 0 0 47)
     ∷ refused (cell 0 0 1 0 0 0 0 0 47)
     ∷ refused (cell 0 2 0 0 0 0 0 0 47)
     ∷ taken (cell 1 1 1 0 0 0 0 0 47)
-    -- at or above its watermark a map and the assignment hold 0 and a record is 47
+    -- above the watermarks: maps and assignment 0, records fresh
     ∷ refused (cell 0 1 0 1 1 0 0 0 9)
     ∷ refused (cell 0 1 0 0 0 1 1 0 2)
     ∷ refused (cell 0 1 0 0 0 0 0 1 2)
@@ -63,7 +63,7 @@ sounds =
     ∷ refused (tab 2 0 2 2 (w2 0 0) (w2 0 0) (w2 1 0) (w2 1 1) (w2 0 0) (w2 2 2))
     ∷ refused (tab 2 0 2 1 (w2 0 0) (w2 0 0) (w2 1 1) (w2 1 0) (w2 0 0) (w2 2 2))
     ∷ taken (tab 2 2 2 2 (w2 2 1) (w2 2 1) (w2 2 1) (w2 2 1) (w2 0 0) (w2 9 9))
-    -- a global has a user exactly if undeleted and not Hide
+    -- users: those globals have one that are neither deleted nor hidden, and no others
     ∷ refused (cell 0 1 0 0 0 0 0 0 0)
     ∷ refused (cell 0 1 0 0 0 0 0 0 9)
     ∷ refused (cell 0 1 0 0 0 0 0 0 10)
@@ -78,7 +78,7 @@ sounds =
     ∷ taken (cell 1 1 0 1 1 0 0 0 1)
     ∷ taken (cell 1 1 0 1 1 0 0 0 9)
     ∷ taken (cell 1 1 0 1 1 0 0 0 34)
-    -- a deleted global is Hide, isolated and without solver index
+    -- deleted globals: hidden, isolated, holding no solver index
     ∷ refused (cell 0 1 0 0 0 0 0 0 45)
     ∷ refused (cell 0 1 0 0 0 0 0 0 46)
     ∷ refused (cell 0 1 0 0 0 0 0 0 38)

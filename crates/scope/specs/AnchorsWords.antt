@@ -96,7 +96,7 @@ everyPart =
     ∷ test (turnsInto (marked Released) (λ m v i a d. recordFrom m v i 0 d)) is test true
     ∷ []
 
--- ---- notes: kind (0 U, 1 S, 2 D, 3 C), global, and last index + 1 or 0 for -, 1 or 0 for C's yes or no, 0 for D
+-- ---- notes in words: the kind's number, the global, and what is told of it
 
 abbrev pub noteRows : List Row
 noteRows =
@@ -111,7 +111,7 @@ noteRows =
     ∷ words (notesWords []) is words []
     ∷ []
 
--- ---- s is held by g if the latest S grant of s was to g and no S(g,-) came later: g + 1, or 0
+-- ---- who holds a solver index by the notes alone: g + 1, or 0 for nobody
 
 abbrev pub heldRows : List Row
 heldRows =

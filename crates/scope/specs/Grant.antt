@@ -1,4 +1,4 @@
--- Grant (document 01, `solver_from_global`): the index held, else the least unmapped solver index.
+-- Grant (document 01, `solver_from_global`): a global that holds no solver index gets the least free one.
 use Prim.Native.Nat.{ℕ}
 use mathlib.Core.Bool.{not}
 use mathlib.Core.List.{[], _∷_}
@@ -20,7 +20,7 @@ grantOne g t = record { value = nextSolver t; table = giveSolver g (nextSolver t
 unfoldable pub grant : ℕ → Table → Result ℕ
 grant g t = word (grantOne g t) (λ s. stay s t) (getD (t .solverFromGlobal) g 0)
 
--- 1; 3, global at or above its watermark; 6, deleted; 2.
+-- 1; 3 for a global that was never used; 6 for a deleted one; 2.
 unfoldable pub grantRefusal : Table → ℕ → ℕ → ℕ
 grantRefusal t g room =
     orElse (not (soundb t)) 1

@@ -3,7 +3,7 @@ use Prim.Native.Nat.{ℕ, _+_, _*_, _/_, _%_}
 use mathlib.Core.Bool.{Bool}
 use lib.Dec.{eqb}
 
--- A literal's code is 2 × index, plus 1 if negative.
+-- A literal as a number: twice its index, and one more where it is negated.
 abbrev pub codeOf : ℕ → ℕ → ℕ
 codeOf index sign = 2 * index + sign
 

@@ -15,7 +15,8 @@ use Rattle.scope.specs.Outcome.{Result, stay, _then_, giving, each, Outc
 unfoldable pub leastFree : List ℕ → ℕ → ℕ
 leastFree xs mark = least mark (λ i. eqb (getD xs i 0) 0)
 
--- The global taken: the user's own index if that is deleted or at the global watermark, else the least deleted one, else the watermark.
+-- Which global a new user gets: the one of its own index, where that is deleted or the next never used; otherwise the deleted one of least
+-- index; otherwise the next never used.
 unfoldable pub globalFor : Table → ℕ → ℕ
 globalFor t u =
     pick (eqb u (t .counts .global) || isDeleted (recordOf t u)) u (least (t .counts .global) (λ g. isDeleted (recordOf t g)))
@@ -30,7 +31,7 @@ mapOne u t =
 unfoldable pub fillGap : ℕ → Table → Result (List ℕ)
 fillGap n t = each n (λ i s. giving (λ g. g ∷ []) (mapOne (t .counts .user + i) s)) t
 
--- Mapped already: its global. Beyond the user watermark, every index from the watermark up is mapped first.
+-- A user that has a global keeps it. Before any other user is mapped, so are all below it that were never used.
 unfoldable pub mapUser : ℕ → Table → Result ℕ
 mapUser u t = word (fillGap (u - t .counts .user) t then (λ gs. mapOne u)) (λ g. stay g t) (getD (t .globalFromUser) u 0)
 
@@ -54,7 +55,7 @@ toMap t u = word (u - t .counts .user + 1) (λ g. 0) (getD (t .globalFromUser) u
 unfoldable pub unsampled : Table → ℕ → Bool
 unsampled t u = word false (λ g. not (eqb (modeOf (recordOf t g)) 0)) (getD (t .globalFromUser) u 0)
 
--- 1; 3, index at or above capacity; 4, sampling required and its global not Sample; 5, more users to map than capacity minus undeleted globals; 2.
+-- 1; 3 by the capacity; 4, where sampling is asked for and the user has a global of another mode; 5, where the free globals are too few; 2.
 unfoldable pub mapRefusal : Table → ℕ → Bool → ℕ → ℕ
 mapRefusal t u sampling room =
     orElse (not (soundb t)) 1

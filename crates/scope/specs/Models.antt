@@ -11,7 +11,7 @@ use Rattle.scope.specs.Table.{Table, word, unitOf, isDeleted, recordOf}
 use Rattle.scope.specs.Sound.{soundb}
 use Rattle.scope.specs.Outcome.{Outcome, orElse, unless}
 
--- A deleted global has none; one with a solver index has its assignment, perhaps none; any other has its unit, else false.
+-- The value of a global: none if deleted; that of the solver index it holds; without one, its unit, and false where there is no unit.
 unfoldable pub globalValue : Table → ℕ → ℕ
 globalValue t g =
     pick (isDeleted (recordOf t g)) 0
@@ -22,7 +22,7 @@ unfoldable pub rowOf : ℕ → (ℕ → List ℕ) → List ℕ
 rowOf zero f = []
 rowOf (suc n) f = rowOf n f ++ f n
 
--- one word for each global below the watermark, coded like the assignment
+-- a word for each global, up to the watermark: 0 none, 1 false, 2 true
 unfoldable pub globalModel : Table → List ℕ
 globalModel t = rowOf (t .counts .global) (λ g. globalValue t g ∷ [])
 

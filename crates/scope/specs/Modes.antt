@@ -19,7 +19,7 @@ modeNumber Sample = 0
 modeNumber Witness = 1
 modeNumber Hide = 2
 
--- A global with neither user nor solver index that is isolated is then deleted: D.
+-- An isolated global that has lost both its names is deleted, with note D.
 unfoldable pub isUnused : Table → ℕ → Bool
 isUnused t g = eqb (getD (t .userFromGlobal) g 0) 0 && (eqb (getD (t .solverFromGlobal) g 0) 0 && eqb (isolatedOf (recordOf t g)) 1)
 
@@ -46,14 +46,14 @@ hide g t =
 unfoldable pub change : ℕ → ℕ → Table → Result (List ℕ)
 change g m t = record { value = []; table = putRecord g (withMode (recordOf t g) m) t; notes = changes g (eqb m 0) ∷ [] }
 
--- Same mode: nothing. Otherwise C unless the new mode is Hide; then, from Hide, U with the least unmapped user index; to Hide, U(g,-).
+-- Nothing where the mode stays. To Hide the user goes; from Hide one comes; between the other two only C is noted.
 unfoldable pub setMode : ℕ → ℕ → Table → Result (List ℕ)
 setMode g m t =
     choose (eqb (modeOf (recordOf t g)) m) (stay [] t)
     (choose (eqb m 2) (hide g t)
     (choose (eqb (modeOf (recordOf t g)) 2) (show g m t) (change g m t)))
 
--- 1; 3, global at or above its watermark; 6, deleted; 7, assumed, even for the same mode; 2.
+-- 1; 3 for a global that was never used; 6 for a deleted one; 7 for an assumed one, also where the mode stays; 2.
 unfoldable pub setModeRefusal : Table → ℕ → SamplingMode → ℕ → ℕ
 setModeRefusal t g m room =
     orElse (not (soundb t)) 1
@@ -66,7 +66,7 @@ setModeRefusal t g m room =
 unfoldable pub setModeOf : Table → ℕ → SamplingMode → ℕ → Outcome
 setModeOf t g m room = unless (setModeRefusal t g m room) t (noting (λ us. us) (setMode g (modeNumber m) t))
 
--- ---- Observe: undeleted Hide globals in ascending order go to Witness; their users are returned.
+-- ---- Observe: each hidden global, the least first, becomes a witness, and the users that they get are answered.
 
 unfoldable pub isHidden : ℕ → Bool
 isHidden r = ltb r 36 && eqb (modeOf r) 2
@@ -77,7 +77,7 @@ observeOne g t = choose (isHidden (recordOf t g)) (show g 1 t) (stay [] t)
 unfoldable pub observe : Table → Result (List ℕ)
 observe t = each (t .counts .global) observeOne t
 
--- 1; 7, if any global to be shown is assumed; 2.
+-- 1; 7 where a hidden global is assumed; 2.
 unfoldable pub observeRefusal : Table → ℕ → ℕ → ℕ
 observeRefusal t outs room =
     orElse (not (soundb t)) 1

@@ -16,7 +16,7 @@ pub data Note : Type 0 where
   deletes : (g : ℕ) → Note
   changes : (g : ℕ) (sample : Bool) → Note
 
--- A note is three words: kind, global, and last index + 1 or 0 for -, 1 or 0 for C's yes or no, 0 for D.
+-- A note in words: the kind's number, the global, and what is told of it: an index + 1, or 0 where it is withdrawn; yes or no; 0 for D.
 abbrev pub noteWords : Note → List ℕ
 noteWords (user+ g u) = 0 ∷ g ∷ (u + 1) ∷ []
 noteWords (user- g) = 0 ∷ g ∷ 0 ∷ []
@@ -49,7 +49,7 @@ withdraws g (solver- h) = eqb h g
 withdraws g (deletes h) = false
 withdraws g (changes h sample) = false
 
--- s is held by g if the latest S grant of s was to g and no S(g,-) came later.
+-- g holds s: among the notes is S(g,s), and after it neither another grant of s nor a withdrawal from g.
 pub data Held (s g : ℕ) : List Note → Type 0 where
   latest : {ns : List Note} → anyOf (grants s) ns ≡ false → anyOf (withdraws g) ns ≡ false → Held s g (solver+ g s ∷ ns)
   older : {n : Note} {ns : List Note} → Held s g ns → Held s g (n ∷ ns)

@@ -1,4 +1,4 @@
--- Open (document 01, added) sets maps, assignment and watermarks to 0, records to 47.
+-- Open (document 01): an empty table, in which every record is fresh and all else is 0.
 use Prim.Native.Nat.{ℕ}
 use mathlib.Core.Bool.{not}
 use lib.ListN.{replicate}
@@ -16,6 +16,6 @@ unfoldable pub emptyTable : ℕ → Table
 emptyTable n =
     tableOf (openCounts n) (replicate n 0) (replicate n 0) (replicate n 0) (replicate n 0) (replicate n 0) (replicate n freshRecord)
 
--- Open of the lent lists, which with the capacity asked for make up t. 10: capacity not 1 to 4,096 or a slice of another length.
+-- Open of the lent lists, which with the capacity asked for make up t. 10 where the capacity is 0 or above 4,096, or a list is not as long.
 unfoldable pub openOf : Table → Outcome
 openOf t = unless (orElse (not (sizesb t)) 10 0) t (changing (emptyTable (t .counts .capacity)))

@@ -60,7 +60,7 @@ pub record Outcome : Type 0 where
 abbrev pub orElse : Bool → ℕ → ℕ → ℕ
 orElse b n rest = pick b n rest
 
--- A refusal returns its number and leaves all lent memory unchanged.
+-- A refused call: its number is answered, and everything stays as it was.
 abbrev pub refusal : ℕ → Table → Outcome
 refusal n t = record { answer = refused n []; table = t; notes = []; words = []; more = []; bytes = [] }
 

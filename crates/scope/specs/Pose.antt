@@ -1,4 +1,4 @@
--- Pose (document 01, `solver_from_user_lits`): map and grant for each literal in turn, sign kept.
+-- Pose (document 01, `solver_from_user_lits`): literal by literal, Map of the user and Grant of its global; the sign stays.
 use Prim.Native.Nat.{ℕ, _+_}
 use mathlib.Core.Bool.{Bool, _&&_, _||_, not}
 use mathlib.Core.List.{List, [], _∷_}
@@ -32,7 +32,7 @@ wanted t lits u =
 unfoldable pub usersToMap : Table → List ℕ → ℕ
 usersToMap t lits = count (t .counts .capacity) (wanted t lits)
 
--- 1; 3, an index at or above capacity or more than 8,192 literals; 4; 5, counting all distinct users to map, gaps included; 2.
+-- 1; 3 by the capacity, or for more than 8,192 literals; 4; 5, each user that is to be mapped counted once, those in gaps too; 2.
 unfoldable pub poseRefusal : Table → List ℕ → Bool → ℕ → ℕ → ℕ
 poseRefusal t lits sampling outs room =
     orElse (not (soundb t)) 1

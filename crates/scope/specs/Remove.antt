@@ -29,7 +29,8 @@ removeRefusal t s room =
 unfoldable pub removeOf : Table → ℕ → ℕ → Outcome
 removeOf t s room = unless (removeRefusal t s room) t (noting (λ us. []) (remove s t))
 
--- ---- Sweep: for each held solver index in ascending order, a value becomes the unit and sets isolated; then isolated and not assumed is removed.
+-- ---- Sweep, over the held solver indices, the least first: a value is learnt as the unit of its global, which it isolates; then an isolated
+-- global that is not assumed loses the index.
 
 unfoldable pub learn : ℕ → ℕ → Table → Table
 learn g s t = word t (λ v. putRecord g (withUnit (recordOf t g) (getD (t .assignment) s 0)) t) (getD (t .assignment) s 0)

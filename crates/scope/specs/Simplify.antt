@@ -39,7 +39,7 @@ simplified t lits =
     (pick (not (anyOf (isFalse t) lits)) Kept
     (pick (eqb (length (unfalse t lits)) 2) Binary Shortened))
 
--- the rest, in solver literals: none if dropped, all if kept
+-- what is left of the clause, in solver literals
 abbrev pub restOf : Simplified → Table → List ℕ → List ℕ
 restOf Kept t lits = lits
 restOf Dropped t lits = []
@@ -69,7 +69,7 @@ simplifyBytes f t lits redundant =
     let k = simplified t lits in
     encode f (simplifySteps k redundant (renameLits (holders t) true (restOf k t lits)) (renameLits (holders t) true lits))
 
--- 1; 3, over 8,192 literals; 8; 12, none true, some false, fewer than two unknown; 2.
+-- 1; 3 for more than 8,192 literals; 8; 12 where no literal is true, one is false and not two are left; 2.
 unfoldable pub simplifyRefusal : Format → Table → List ℕ → Bool → ℕ → ℕ → ℕ
 simplifyRefusal f t lits redundant outs room =
     orElse (not (soundb t)) 1

@@ -12,7 +12,7 @@ use Rattle.scope.specs.Table.{Table, modeOf, isolatedOf, isShown}
 
 -- ---- the test
 
--- The capacity is 1 to 4,096 and every slice has its length.
+-- Sizes: a capacity from 1 to 4,096, and six lists of that length.
 unfoldable pub sizesb : Table → Bool
 sizesb t =
     leb 1 (t .counts .capacity)
@@ -24,7 +24,7 @@ sizesb t =
     && eqb (length (t .assignment)) (t .counts .capacity)
     && eqb (length (t .records)) (t .counts .capacity)
 
--- User and solver watermarks are at most the global one, which is at most the capacity.
+-- Watermarks: neither users nor solver indices reach further than globals, nor these than the capacity.
 unfoldable pub marksb : Counts → Bool
 marksb c = leb (c .user) (c .global) && leb (c .solver) (c .global) && leb (c .global) (c .capacity)
 
@@ -40,11 +40,11 @@ tailb mark blank xs = allBelow (length xs) (λ i. ltb i mark || eqb (getD xs i b
 unfoldable pub backb : List ℕ → List ℕ → Bool
 backb a b = allBelow (length a) (λ i. eqb (getD a i 0) 0 || eqb (getD b (getD a i 0 - 1) 0) (i + 1))
 
--- A global has a user exactly if undeleted and not Hide.
+-- Those globals have a user that are neither deleted nor hidden, and no others.
 unfoldable pub namedb : List ℕ → List ℕ → Bool
 namedb records users = allBelow (length records) (λ g. Bool·beq (not (eqb (getD users g 0) 0)) (isShown (getD records g 47)))
 
--- A deleted global is Hide, isolated and without solver index.
+-- Every deleted global is hidden and isolated and holds no solver index.
 unfoldable pub deletedb : List ℕ → List ℕ → Bool
 deletedb records solvers =
     allBelow (length records)
@@ -92,7 +92,7 @@ pub record Sizes (t : Table) : Type 0 where
   pub solvers : t .counts .solver ≤ t .counts .global
   pub globals : t .counts .global ≤ t .counts .capacity
 
--- one takes i to j exactly where the other takes j to i
+-- each is the inverse of the other
 abbrev pub Inverse : List ℕ → List ℕ → Type 0
 Inverse a b = (i j : ℕ) → (getD a i 0 ≡ j + 1) ↔ (getD b j 0 ≡ i + 1)
 

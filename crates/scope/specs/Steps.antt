@@ -16,8 +16,8 @@ use Rattle.scope.specs.declared.KindRule.{KindRule}
 abbrev rule : Bool → Writes → KindRule
 rule renamed writes = record { renamed = renamed; writes = writes }
 
--- The table: seven kinds carry literals to rename; four naming kinds, ChangeHashBits and End pass as given. AtClause writes an add,
--- UnitClauses one add per unit, DeleteClause a delete; AddClause, Assumptions and FailedAssumptions are refused; the rest write nothing.
+-- The table of kinds: whether a kind carries literals to rename, and what DRAT has for it: an add, an add for each literal, a delete, nothing, or
+-- no line at all, so that it is refused.
 abbrev pub ruleOf : ProofStep → KindRule
 ruleOf AddClause = rule true Refused
 ruleOf (AtClause redundant) = rule true adds

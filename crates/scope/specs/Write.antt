@@ -20,7 +20,8 @@ use Rattle.scope.specs.Outcome.{Outcome, orElse, unless}
 use Rattle.scope.specs.Marks.{notHeld}
 use Rattle.scope.specs.Steps.{ruleOf, kindOf, stepWords, literalsOf, hashesOf, clauseSteps}
 
--- A solver literal goes, sign kept, under the global that holds its index by `holder`, a map's word for each index; a global literal as given.
+-- A literal under its global name: a solver literal's index is looked up in `holder`, a map's word for each index, and the sign stays; a global
+-- literal is not touched.
 abbrev pub renameLit : (ℕ → ℕ) → Bool → ℕ → ℕ
 renameLit holder solverVars c = pick solverVars (codeOf (holder (indexOf c) - 1) (signOf c)) c
 
@@ -35,7 +36,7 @@ holders t s = getD (t .globalFromSolver) s 0
 unfoldable pub unmatched : ProofStep → List ℕ → List ℕ → Bool
 unmatched step lits hashes = eqb (kindOf step) (kindOf UnitClauses) && not (eqb (length lits) (length hashes))
 
--- over 8,192 literals or a global literal's index at or above capacity
+-- too many literals, or a global one beyond the capacity
 unfoldable pub outside : Table → Bool → List ℕ → Bool
 outside t solverVars lits = ltb 8192 (length lits) || (not solverVars && anyOf (λ c. leb (t .counts .capacity) (indexOf c)) lits)
 

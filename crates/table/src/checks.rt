@@ -14,7 +14,7 @@ ghost use Rattle.scope.specs.Contract.{given, before};
 ghost use Rattle.scope.specs.Sound.{sizesb, marksb, atMostb, tailb, backb, namedb, deletedb, tailsb, pairsb};
 ghost use Rattle.table.specs.Checks.{isFilled, rowb};
 
-// User and solver watermarks are at most the global one, which is at most the capacity.
+// Watermarks: neither users nor solver indices reach further than globals, nor these than the capacity.
 pub fn marks_ok(c: Counts) -> bool
     ensures { λ r. ⌜ r ≡ marksb c ⌝ }
 {
@@ -126,7 +126,7 @@ fn row_ok(w: u32, user: u32, solver: u32) -> bool
         & ((w < 36) | ((w % 3 == 2) & (w / 9 % 2 == 1) & (solver == 0)))
 }
 
-// Records are at most 71; a global has a user exactly if undeleted and not Hide; a deleted one is Hide, isolated, without solver index.
+// No record above 71; users for globals that are neither deleted nor hidden, and no others; deleted ones hidden, isolated, holding no index.
 pub fn rows_ok(records: &[u32], ug: &[u32], sg: &[u32], mark: u32) -> bool
     requires { ⌜ mark ≤ length (now records) ⌝ }
     requires { ⌜ mark ≤ length (now ug) ⌝ }
@@ -146,7 +146,7 @@ pub fn rows_ok(records: &[u32], ug: &[u32], sg: &[u32], mark: u32) -> bool
     ok
 }
 
-// At or above its watermark a map and the assignment hold 0 and a record is 47.
+// Above the watermarks: maps and assignment 0, records fresh.
 pub fn tails_ok(
     c: Counts,
     gu: &[u32],

@@ -157,7 +157,7 @@ pub fn put_note(notes: &mut [u32], at: usize, note: Note)
     notes[at + 2] = w.last;
 }
 
-// The capacity is 1 to 4,096 and every slice has its length.
+// Sizes: a capacity from 1 to 4,096, and six lists of that length.
 pub fn sizes_ok(
     c: Counts,
     gu: &[u32],
