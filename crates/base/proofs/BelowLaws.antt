@@ -31,6 +31,10 @@ pub and-not-right : (a b : Bool) → b ≡ false → a && b ≡ false
 and-not-right true b e = e
 and-not-right false b e = refl
 
+pub and-true : (a : Bool) → a && true ≡ a
+and-true true = refl
+and-true false = refl
+
 -- ---- allBelow
 pub all-at : (n : ℕ) (p : ℕ → Bool) → allBelow n p ≡ true → (i : ℕ) → i < n → p i ≡ true
 unfolding allBelow

@@ -32,6 +32,10 @@ pub or-second : (a b : Bool) → b ≡ true → a || b ≡ true
 or-second true b e = refl
 or-second false b e = e
 
+pub or-none : (a : Bool) → a || false ≡ a
+or-none true = refl
+or-none false = refl
+
 module _ {A : Type 0} (p : A → Bool) where
   -- ---- at an index
 
@@ -106,6 +110,14 @@ module _ {A : Type 0} (p : A → Bool) where
 
   pub any-end : (xs : List A) (i : ℕ) → length xs ≤ i → anyOf p (take i xs) ≡ false → anyOf p xs ≡ false
   any-end xs i l e = ap (anyOf p) (sym (take-all i xs l)) ∙ e
+
+  -- ---- a loop that gathers whether some member passes
+
+  pub any-more : (xs : List A) (i : ℕ) (d : A) → i < length xs → anyOf p (take (i + 1) xs) ≡ anyOf p (take i xs) || p (getD xs i d)
+  unfolding anyOf
+  any-more xs i d l =
+      rw (add-one, take-suc xs i d l, any-append (take i xs) (getD xs i d ∷ []))
+      (ap (λ (b : Bool). anyOf p (take i xs) || b) (or-none (p (getD xs i d))))
 
   -- ---- a loop that keeps members
 

@@ -59,6 +59,11 @@ not-from false h = refl
 pub not-iff : (a : Bool) → (not a ≡ true) ↔ (a ≡ false)
 not-iff a = (not-to a, not-from a)
 
+-- where a test is false, so is one that says no less
+pub false-of : (a b : Bool) → (b ≡ true → a ≡ true) → a ≡ false → b ≡ false
+false-of a true h e = sym (h refl) ∙ e
+false-of a false h e = refl
+
 -- equality of numbers is decided, so what is not unequal is equal
 pub equal-of : (a b : ℕ) → ((a ≡ b → ⊥) → ⊥) → a ≡ b
 equal-of a b h = eqb-true a b (go (eqb a b) refl)

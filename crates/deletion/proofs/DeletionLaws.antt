@@ -25,11 +25,6 @@ cleared [] i = refl
 cleared (x ∷ xs) zero = refl
 cleared (x ∷ xs) (suc i) = cleared xs i
 
--- where a test is false, so is one that says no less
-pub false-of : (a b : Bool) → (b ≡ true → a ≡ true) → a ≡ false → b ≡ false
-false-of a true h e = sym (h refl) ∙ e
-false-of a false h e = refl
-
 module _ (t : Table) (g : ℕ) (h : Live t g) where
   pub delete-fits : getD (t .records) g 0 + 36 < 2 ^ 32
   delete-fits = let e = record-read t g (h .words) in let u = h .undeleted in omega arith

@@ -1,7 +1,7 @@
 -- Laws of what operations leave: nothing done, one after another, and n in turn.
 use Prim.Native.Nat.{ℕ, zero, suc, _+_, _*_, _≤_, _<_}
 use mathlib.Core.Path.{_≡_, refl, sym, ap, _∙_, subst}
-use mathlib.Core.List.{List, [], _∷_, _++_, append-assoc}
+use mathlib.Core.List.{List, [], _∷_, _++_}
 use mathlib.Core.Logic.{⊎-elim}
 use native.Mathlib.Nat.{eq-or-lt-of-le}
 use native.Mathlib.Omega.{arith}
@@ -9,34 +9,11 @@ use lib.ListN.{length, length-append}
 use lib.Seq.{sets, length-sets}
 use Rattle.base.proofs.SetsLaws.{sets-append}
 use Rattle.scope.specs.Table.{Table}
-use Rattle.scope.specs.Notes.{Note, user+, user-, solver+, solver-, deletes, changes, noteWords, notesWords}
+use Rattle.scope.specs.Notes.{notesWords}
 use Rattle.scope.specs.Outcome.{Result, stay, joined, each}
 use Rattle.scope.proofs.ResultLaws.{each-zero, each-suc, each-notes}
+use Rattle.scope.proofs.NoteWords.{words-length, words-append}
 use Rattle.deletion.specs.Leaving.{Leaves, Room}
-
--- ---- words of notes
-
-note-length : (n : Note) → length (noteWords n) ≡ 3
-note-length (user+ g u) = refl
-note-length (user- g) = refl
-note-length (solver+ g s) = refl
-note-length (solver- g) = refl
-note-length (deletes g) = refl
-note-length (changes g sample) = refl
-
-pub words-length : (ns : List Note) → length (notesWords ns) ≡ 3 * length ns
-unfolding notesWords
-words-length [] = refl
-words-length (n ∷ ns) =
-    let a = note-length n in
-    let b = words-length ns in
-    let e = length-append (noteWords n) (notesWords ns) in
-    omega arith
-
-pub words-append : (a b : List Note) → notesWords (a ++ b) ≡ notesWords a ++ notesWords b
-unfolding notesWords
-words-append [] b = refl
-words-append (n ∷ a) b = ap (λ (l : List ℕ). noteWords n ++ l) (words-append a b) ∙ sym (append-assoc (noteWords n) (notesWords a) (notesWords b))
 
 -- ---- operations
 

@@ -5,7 +5,7 @@ use mathlib.Core.List.{List, [], _∷_, _++_, append-assoc, append-nil}
 use native.Mathlib.Omega.{arith}
 use lib.ListN.{length, drop, set, length-append}
 use lib.Seq.{sets}
-use Rattle.base.proofs.SetsLaws.{sets-append}
+use Rattle.base.proofs.SetsLaws.{sets-append, store-next}
 use Rattle.drat.specs.Grammar.{Step, stepOf}
 use Rattle.drat.specs.Reading.{token, opening, Part, whole, broken, consPart, got, asStep, Proof, steps, faultAt, consStep, readProof}
 use Rattle.drat.specs.Filled.{kindNumber, codesOf, endsFrom, kindsOf, counted, Scan}
@@ -75,10 +75,6 @@ unfolding endsFrom
 ends-length n [] = refl
 ends-length n (t ∷ ss) = ap suc (ends-length (n + length (t .lits)) ss)
 
--- a store after a run of stores
-store-next : (l vs : List ℕ) (i n v : ℕ) → n ≡ i + length vs → set (sets l i vs) n v ≡ sets l i (vs ++ v ∷ [])
-store-next l vs i n v e = ap (λ (k : ℕ). set (sets l i vs) k v) e ∙ sym (sets-append vs (v ∷ []) l i)
-
 -- inside a step: the literals ds were read from place at₀ on
 pub record Inner (f : Format) (s codes₀ : List ℕ) (at₀ n₀ : ℕ) (codes : List ℕ) (at n : ℕ) : Type 0 where
   pub ds : List ℕ
@@ -113,7 +109,7 @@ inner-more f s codes₀ codes at₀ n₀ at n c j hb r e =
       small = omega (arith, r .small);
       read = r .read ∙ ap (prepend (r .ds)) (l .0) ∙ prepend-snoc (r .ds) c (bodyAt f s j);
       count = omega (arith, r .count, length-append (r .ds) (c ∷ []));
-      held = ap (λ (x : List ℕ). set x n c) (r .held) ∙ store-next codes₀ (r .ds) n₀ n c (r .count);
+      held = store-next codes₀ _ (r .ds) n₀ n c (r .held) (r .count);
     }
 
 pub outer-start : (f : Format) (s codes ends kinds : List ℕ) → Outer f s codes ends kinds codes ends kinds 0 0 0
@@ -139,8 +135,8 @@ module _ (f : Format) (s codes₀ ends₀ kinds₀ codes₁ ends kinds : List �
         read = o .read ∙ ap (prependSteps (o .ss)) (got-at f s hb start (o .within) (stepOf k (r .ds)) j g) ∙ steps-snoc (o .ss) (stepOf k (r .ds)) (proofAt f s j);
         count = (omega (arith, r .count, o .count, ap length c ∙ length-append (codesOf (o .ss)) (r .ds)), omega (arith, o .count, length-append (o .ss) (stepOf k (r .ds) ∷ [])));
         codes-held = r .held ∙ ap₂ (λ (x : List ℕ) (i : ℕ). sets x i (r .ds)) (o .codes-held) (z (o .count .0)) ∙ sym (sets-append (codesOf (o .ss)) (r .ds) codes₀ 0) ∙ sym (ap (sets codes₀ 0) c);
-        ends-held = ap₂ (λ (x : List ℕ) (y : ℕ). set x m y) (o .ends-held) v ∙ store-next ends₀ (endsFrom 0 (o .ss)) 0 m (0 + length (codesOf (o .ss)) + length (r .ds)) (omega (arith, o .count, ends-length 0 (o .ss))) ∙ sym (ap (sets ends₀ 0) (ends-snoc 0 (o .ss) (stepOf k (r .ds))));
-        kinds-held = ap (λ (x : List ℕ). set x m (kindNumber k)) (o .kinds-held) ∙ store-next kinds₀ (kindsOf (o .ss)) 0 m (kindNumber k) (omega (arith, o .count, kinds-length (o .ss))) ∙ sym (ap (sets kinds₀ 0) (kinds-snoc (o .ss) (stepOf k (r .ds))));
+        ends-held = ap (λ (y : ℕ). set ends m y) v ∙ store-next ends₀ _ (endsFrom 0 (o .ss)) 0 m (0 + length (codesOf (o .ss)) + length (r .ds)) (o .ends-held) (omega (arith, o .count, ends-length 0 (o .ss))) ∙ sym (ap (sets ends₀ 0) (ends-snoc 0 (o .ss) (stepOf k (r .ds))));
+        kinds-held = store-next kinds₀ _ (kindsOf (o .ss)) 0 m (kindNumber k) (o .kinds-held) (omega (arith, o .count, kinds-length (o .ss))) ∙ sym (ap (sets kinds₀ 0) (kinds-snoc (o .ss) (stepOf k (r .ds))));
       }
 
   -- a fault: the answer is the step's start

@@ -2,7 +2,7 @@
 use Prim.Native.Nat.{ℕ, zero, suc, _+_, _*_, _/_}
 use mathlib.Core.Path.{_≡_, refl, sym, ap, _∙_, subst}
 use mathlib.Core.Bool.{Bool, true, false}
-use mathlib.Core.List.{List, [], _∷_, _++_, append-assoc}
+use mathlib.Core.List.{List, [], _∷_, _++_}
 use native.Mathlib.Omega.{arith}
 use lib.ListN.{length, length-append}
 use lib.Seq.{sets, length-sets}
@@ -10,29 +10,11 @@ use Rattle.base.specs.Answer.{accepted, refused}
 use Rattle.base.proofs.SetsLaws.{sets-append}
 use Rattle.scope.specs.Table.{Table}
 use Rattle.scope.specs.Notes.{Note, noteWords, notesWords}
-use Rattle.scope.specs.Outcome.{Result, stay, _then_, giving, joined, Outcome, orElse, unless, noting}
+use Rattle.base.specs.Choice.{pick}
+use Rattle.scope.specs.Outcome.{Result, stay, _then_, giving, joined, Outcome, unless, noting}
 use Rattle.scope.specs.Contract.{Said, Does}
+use Rattle.scope.proofs.NoteWords.{words-length, words-append}
 use Rattle.inner.specs.Leaves.{Leaves}
-
--- ---- the words of notes
-
-three : (n : Note) → length (noteWords n) ≡ 3
-three (Note.user+ g u) = refl
-three (Note.user- g) = refl
-three (Note.solver+ g s) = refl
-three (Note.solver- g) = refl
-three (Note.deletes g) = refl
-three (Note.changes g b) = refl
-
-pub words-append : (ns ms : List Note) → notesWords (ns ++ ms) ≡ notesWords ns ++ notesWords ms
-unfolding notesWords
-words-append [] ms = refl
-words-append (n ∷ ns) ms = ap (λ (l : List ℕ). noteWords n ++ l) (words-append ns ms) ∙ sym (append-assoc (noteWords n) (notesWords ns) (notesWords ms))
-
-pub words-length : (ns : List Note) → length (notesWords ns) ≡ 3 * length ns
-unfolding notesWords
-words-length [] = refl
-words-length (n ∷ ns) = let x = words-length ns in let y = three n in simp length-append (omega arith)
 
 -- ---- steps
 
@@ -107,6 +89,6 @@ does-noting values n t x v at left words words' e h =
     (record { answer = λ i. accepted (values (h .value i) ++ (q i ∷ [])); table = h .table; noted = h .noted })
 
 -- no refusal: the test fails, and what comes after it refuses nothing
-pub no-refusal : (b : Bool) (n rest : ℕ) → (n ≡ 0 → ⊥) → orElse b n rest ≡ 0 → (b ≡ false) × (rest ≡ 0)
+pub no-refusal : (b : Bool) (n rest : ℕ) → (n ≡ 0 → ⊥) → pick b n rest ≡ 0 → (b ≡ false) × (rest ≡ 0)
 no-refusal true n rest d e = absurd (d e)
 no-refusal false n rest d e = (refl, e)

@@ -11,7 +11,7 @@ use borrow.Author.Tests.{lt-ltb, le-ltb, ltb-false, not-false}
 use Rattle.base.specs.Choice.{pick}
 use Rattle.base.specs.Answer.{accepted, refused}
 use Rattle.base.proofs.MemberLaws.{or-left, or-right}
-use Rattle.scope.proofs.ResultLaws.{past}
+use Rattle.scope.proofs.ResultLaws.{past, unless-some}
 use Rattle.scope.specs.Table.{Table}
 use Rattle.scope.specs.Sound.{soundb}
 use Rattle.scope.specs.Notes.{Note, notesWords}
@@ -67,14 +67,9 @@ clear t a b n e z =
 
 -- ---- the call
 
-unless-some : (n : ℕ) (t : Table) (o : Outcome) → (n ≡ 0 → ⊥) → unless n t o ≡ refusal n t
-unfolding unless
-unless-some zero t o h = absurd (h refl)
-unless-some (suc n) t o h = refl
-
 model-refused : (t : Table) (a b n : ℕ) → n ≡ modelRefusal t a b → (n ≡ 0 → ⊥) → modelOf t a b ≡ refusal n t
 unfolding modelOf
-model-refused t a b n e h = rw (← e) (unless-some n t _ h)
+model-refused t a b n e h = unless-some n (modelRefusal t a b) t _ e h
 
 -- what an accepted call comes to
 abbrev filled : Table → Outcome

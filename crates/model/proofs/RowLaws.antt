@@ -12,7 +12,7 @@ use lib.ListN.{length, getD, set, length-append}
 use lib.Seq.{sets, length-sets}
 use borrow.Author.Tests.{eq-eqb, ne-eqb}
 use Rattle.base.specs.Choice.{pick}
-use Rattle.base.proofs.SetsLaws.{sets-append}
+use Rattle.base.proofs.SetsLaws.{store-next}
 use Rattle.scope.specs.Literals.{codeOf}
 use Rattle.scope.specs.Table.{Table, word}
 use Rattle.scope.specs.Models.{globalValue, rowOf, globalModel, userLiteral, userModel}
@@ -42,9 +42,6 @@ row-small f h zero = omega arith
 row-small f h (suc n) = let x = row-small f h n in let y = h n in omega (arith, length-append (rowOf n f) (f n))
 
 -- one more store behind those of a row
-store-next : (l xs : List ℕ) (k x : ℕ) → k ≡ length xs → set (sets l 0 xs) k x ≡ sets l 0 (xs ++ x ∷ [])
-store-next l xs k x e = sym (sets-append xs (x ∷ []) l 0 ∙ ap (λ (j : ℕ). set (sets l 0 xs) j x) (omega arith))
-
 -- stores change no length
 stored-length : (l m xs : List ℕ) → m ≡ sets l 0 xs → length m ≡ length l
 stored-length l m xs e = ap length e ∙ length-sets l 0 xs
@@ -68,7 +65,7 @@ globals-start t l = rw (row-zero (λ g. globalValue t g ∷ []))
 
 pub globals-next : (t : Table) (l m : List ℕ) (i v : ℕ) → m ≡ sets l 0 (globalsTo t i) → v ≡ globalValue t i → set m i v ≡ sets l 0 (globalsTo t (i + 1))
 globals-next t l m i v e q =
-    rw (e, q, store-next l (globalsTo t i) i (globalValue t i) (sym (globals-length t i)), row-suc (λ g. globalValue t g ∷ []) i)
+    rw (e, q, store-next l _ (globalsTo t i) 0 i (globalValue t i) refl (omega (arith, globals-length t i)), row-suc (λ g. globalValue t g ∷ []) i)
 
 pub globals-end : (t : Table) (l m : List ℕ) (i : ℕ) → m ≡ sets l 0 (globalsTo t i) → i ≤ t .counts .global → t .counts .global ≤ i → m ≡ sets l 0 (globalModel t)
 unfolding globalModel
@@ -157,7 +154,7 @@ fill-start t l = rw (users-start t)
 
 fill-code : (t : Table) (l m : List ℕ) (u v k : ℕ) → m ≡ sets l 0 (usersTo t u) → k ≡ length (usersTo t u) → v ≡ userValue t u → (v ≡ 0 → ⊥)
     → set m k (codeOf u (2 - v)) ≡ sets l 0 (usersTo t (u + 1))
-fill-code t l m u v k e q p n = rw (e, users-some t u v p n) (store-next l (usersTo t u) k (codeOf u (2 - v)) q)
+fill-code t l m u v k e q p n = rw (e, users-some t u v p n) (store-next l _ (usersTo t u) 0 k (codeOf u (2 - v)) refl (omega arith))
 
 pub fill-some : (t : Table) (l m : List ℕ) (u v k w : ℕ) → m ≡ sets l 0 (usersTo t u) → k ≡ length (usersTo t u) → v ≡ userValue t u → (v ≡ 0 → ⊥)
     → w ≡ codeOf u (2 - v) → set m k w ≡ sets l 0 (usersTo t (u + 1))

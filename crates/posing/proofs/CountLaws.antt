@@ -15,7 +15,8 @@ use Rattle.base.specs.Choice.{pick}
 use Rattle.base.specs.Bounded.{anyOf}
 use Rattle.base.proofs.Truth.{same}
 use Rattle.base.proofs.CountLaws.{count-most}
-use Rattle.base.proofs.MemberLaws.{any-append, any-start}
+use Rattle.base.proofs.BelowLaws.{and-true}
+use Rattle.base.proofs.MemberLaws.{any-start, any-more, or-none}
 use Rattle.scope.specs.Literals.{indexOf}
 use Rattle.scope.proofs.ResultLaws.{word-none, word-some}
 use Rattle.scope.proofs.WantedLaws.{count-either, count-never, count-point}
@@ -24,19 +25,8 @@ use Rattle.posing.specs.Poses.{named, isLow, needsGrant, countNamed, Cov
 
 -- ---- the users named by a prefix
 
-or-none : (a : Bool) → a || false ≡ a
-or-none true = refl
-or-none false = refl
-
--- a test of one literal more
-any-more : (p : ℕ → Bool) (lits : List ℕ) (i : ℕ) → i < length lits → anyOf p (take (i + 1) lits) ≡ anyOf p (take i lits) || p (getD lits i 0)
-unfolding anyOf
-any-more p lits i l =
-    rw (add-one, take-suc lits i 0 l, any-append p (take i lits) (getD lits i 0 ∷ []))
-    (ap (λ (b : Bool). anyOf p (take i lits) || b) (or-none (p (getD lits i 0))))
-
 pub any-on : (p : ℕ → Bool) (lits : List ℕ) (i : ℕ) (b : Bool) → i < length lits → b ≡ anyOf p (take i lits) → b || p (getD lits i 0) ≡ anyOf p (take (i + 1) lits)
-any-on p lits i b l e = ap (λ (x : Bool). x || p (getD lits i 0)) e ∙ sym (any-more p lits i l)
+any-on p lits i b l e = ap (λ (x : Bool). x || p (getD lits i 0)) e ∙ sym (any-more p lits i 0 l)
 
 pub any-all : (p : ℕ → Bool) (lits : List ℕ) (i : ℕ) (b : Bool) → length lits ≤ i → b ≡ anyOf p (take i lits) → b ≡ anyOf p lits
 any-all p lits i b l e = e ∙ ap (anyOf p) (take-all i lits l)
@@ -47,7 +37,7 @@ named-start lits v = any-start (λ c. eqb (indexOf c) v) lits
 
 pub named-more : (lits : List ℕ) (i v : ℕ) → i < length lits → named (take (i + 1) lits) v ≡ named (take i lits) v || eqb (indexOf (getD lits i 0)) v
 unfolding named
-named-more lits i v l = any-more (λ c. eqb (indexOf c) v) lits i l
+named-more lits i v l = any-more (λ c. eqb (indexOf c) v) lits i 0 l
 
 -- ---- one user more
 
@@ -198,10 +188,6 @@ grant-free gu sg u g e q = sym (eq-eqb (getD sg g 0) 0 q) ∙ grant-some gu sg u
 
 pub grant-held : (gu sg : List ℕ) (u g s : ℕ) → getD gu u 0 ≡ g + 1 → getD sg g 0 ≡ s + 1 → false ≡ needsGrant gu sg u
 grant-held gu sg u g s e q = sym (ne-eqb (getD sg g 0) 0 (λ z. omega arith)) ∙ grant-some gu sg u g e
-
-and-true : (b : Bool) → b && true ≡ b
-and-true true = refl
-and-true false = refl
 
 and-false : (b : Bool) → b && false ≡ false
 and-false true = refl

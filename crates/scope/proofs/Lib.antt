@@ -17,6 +17,7 @@ pub mod PoseLaws
 pub mod WriteLaws
 pub mod RuledOut
 pub mod NoteCounts
+pub mod NoteWords
 pub mod RecordLaws
 pub mod Works
 pub mod WorksLists

@@ -14,7 +14,7 @@ use lib.Seq.{take-suc, take-length}
 use borrow.Author.Tests.{eq-eqb, ne-eqb, leb-false, ltb-false}
 use Rattle.base.specs.Choice.{pick}
 use Rattle.base.specs.Bounded.{count, anyOf}
-use Rattle.base.proofs.MemberLaws.{any-append, or-first, any-none}
+use Rattle.base.proofs.MemberLaws.{any-append, any-more, or-first, any-none}
 use Rattle.scope.specs.Literals.{indexOf}
 use Rattle.scope.specs.Table.{Table, word}
 use Rattle.scope.specs.Sound.{Sound}
@@ -40,16 +40,6 @@ isPassed lits v = anyOf (λ c. ltb v (indexOf c)) lits
 -- how many named users are without a solver index
 unfoldable pub usersToGrant : Table → List ℕ → ℕ
 usersToGrant t lits = count (t .counts .capacity) (λ v. isNamed lits v && isUngranted t v)
-
-or-none : (a : Bool) → a || false ≡ a
-or-none true = refl
-or-none false = refl
-
-any-more : (p : ℕ → Bool) (lits : List ℕ) (i : ℕ) → i < length lits → anyOf p (take (i + 1) lits) ≡ anyOf p (take i lits) || p (getD lits i 0)
-unfolding anyOf
-any-more p lits i l =
-    rw (add-one, take-suc lits i 0 l, any-append p (take i lits) (getD lits i 0 ∷ []))
-    (ap (λ (b : Bool). anyOf p (take i lits) || b) (or-none (p (getD lits i 0))))
 
 any-part : (p : ℕ → Bool) (lits : List ℕ) (i : ℕ) → anyOf p (take i lits) ≡ true → anyOf p lits ≡ true
 any-part p lits i e =
@@ -142,7 +132,7 @@ to-map-more t lits i s r l o =
     let w = r .within i l in
     let a =
     count-either (t .counts .capacity) (wanted t (take i lits)) (λ v. isFree s v && takesIn (s .counts .user) u v) (wanted t (take (i + 1) lits))
-    (λ v. rw (any-more (λ c. eqb (indexOf c) v) lits i l, any-more (λ c. ltb v (indexOf c)) lits i l, o .frees v, o .covers v)
+    (λ v. rw (any-more (λ c. eqb (indexOf c) v) lits i 0 l, any-more (λ c. ltb v (indexOf c)) lits i 0 l, o .frees v, o .covers v)
     (wanted-more (isFree t v) (isNamed (take i lits) v) (isPassed (take i lits) v) (leb (t .counts .user) v) (eqb u v) (ltb v u)))
     (λ v e. rw (o .frees v) (wanted-apart (isFree t v) (isNamed (take i lits) v || (leb (t .counts .user) v && isPassed (take i lits) v)) _ e)) in
     let b = to-map-count s u (o .sound) (omega arith) in
@@ -245,13 +235,13 @@ pose-step t lits i s x y r l o k =
     record {
       sound = d .sound;
       capacity = d .same .capacity ∙ m .same .capacity ∙ o .capacity;
-      frees = λ v. rw (d .same .globalFromUser, map-frees s u x (o .sound) m v, o .frees v, o .covers v, any-more (λ c. eqb (indexOf c) v) lits i l, any-more (λ c. ltb v (indexOf c)) lits i l)
+      frees = λ v. rw (d .same .globalFromUser, map-frees s u x (o .sound) m v, o .frees v, o .covers v, any-more (λ c. eqb (indexOf c) v) lits i 0 l, any-more (λ c. ltb v (indexOf c)) lits i 0 l)
           (free-more (isFree t v) (isNamed (take i lits) v) (isPassed (take i lits) v) (leb (t .counts .user) v) (eqb u v) (ltb v u));
-      covers = λ v. rw (d .same .user, map-covers s u x m v, o .covers v, any-more (λ c. eqb (indexOf c) v) lits i l, any-more (λ c. ltb v (indexOf c)) lits i l)
+      covers = λ v. rw (d .same .user, map-covers s u x m v, o .covers v, any-more (λ c. eqb (indexOf c) v) lits i 0 l, any-more (λ c. ltb v (indexOf c)) lits i 0 l)
           (cover-more (isNamed (take i lits) v) (isPassed (take i lits) v) (leb (t .counts .user) v) (eqb u v) (ltb v u));
       undeleted = omega arith;
       ungranted = λ v. grant-ungranted (x .table) u (x .value) y (m .sound) (m .has) d v
-          ∙ rw (m .ungranted v, o .ungranted v, any-more (λ c. eqb (indexOf c) v) lits i l) (ungranted-more (isUngranted t v) (isNamed (take i lits) v) (eqb u v));
+          ∙ rw (m .ungranted v, o .ungranted v, any-more (λ c. eqb (indexOf c) v) lits i 0 l) (ungranted-more (isUngranted t v) (isNamed (take i lits) v) (eqb u v));
     }
 
 -- ---- Pose
@@ -344,7 +334,7 @@ to-grant-more t lits i s r l o =
     let u = indexOf (getD lits i 0) in
     let a =
     count-either (t .counts .capacity) (λ v. isNamed (take i lits) v && isUngranted t v) (λ v. eqb u v && isUngranted s v) (λ v. isNamed (take (i + 1) lits) v && isUngranted t v)
-    (λ v. rw (any-more (λ c. eqb (indexOf c) v) lits i l, o .ungranted v) (grant-more (isNamed (take i lits) v) (eqb u v) (isUngranted t v)))
+    (λ v. rw (any-more (λ c. eqb (indexOf c) v) lits i 0 l, o .ungranted v) (grant-more (isNamed (take i lits) v) (eqb u v) (isUngranted t v)))
     (λ v e. rw (o .ungranted v) (grant-apart (isNamed (take i lits) v) (eqb u v) (isUngranted t v) e)) in
     let b = count-point (t .counts .capacity) u (isUngranted s) (r .within i l) in
     omega arith

@@ -10,7 +10,7 @@ use Rattle.base.specs.Choice.{pick}
 use Rattle.scope.specs.Table.{Table, word}
 use Rattle.scope.specs.Sound.{Sound}
 use Rattle.scope.specs.Notes.{Note}
-use Rattle.scope.specs.Outcome.{Result, stay, choose, joined, each}
+use Rattle.scope.specs.Outcome.{Result, stay, choose, joined, each, Outcome, refusal, unless}
 use Rattle.scope.specs.Entries.{Entry, noted}
 use Rattle.scope.proofs.MoveLaws.{Reach, stop, reach-then, reach-sound}
 
@@ -46,6 +46,16 @@ word-none z f w e = rw e
 pub word-some {ℓ} : {A : Type ℓ} (z : A) (f : ℕ → A) (w i : ℕ) → w ≡ i + 1 → word z f w ≡ f i
 unfolding word
 word-some z f w i e = rw (e, add-one)
+
+-- a call that is refused, and one that is accepted
+pub unless-some : (n m : ℕ) (t : Table) (o : Outcome) → n ≡ m → (n ≡ 0 → ⊥) → unless m t o ≡ refusal n t
+unfolding unless
+unless-some zero m t o e h = absurd (h refl)
+unless-some (suc n) m t o e h = rw (← e)
+
+pub unless-none : (n : ℕ) (t : Table) (o : Outcome) → n ≡ 0 → unless n t o ≡ o
+unfolding unless
+unless-none n t o e = rw e
 
 -- ---- good operations
 

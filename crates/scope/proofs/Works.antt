@@ -27,17 +27,11 @@ use Rattle.scope.specs.Remove.{removeHeld, remove, removeRefusal, remove
 use Rattle.scope.proofs.SoundLaws.{sound-to}
 use Rattle.scope.proofs.PairLaws.{below-mark}
 use Rattle.scope.proofs.MoveLaws.{undeleted-below}
-use Rattle.scope.proofs.ResultLaws.{by-choose, by-word}
+use Rattle.scope.proofs.ResultLaws.{by-choose, by-word, unless-none}
 use Rattle.scope.proofs.MapLaws.{MapRoom, map-user-mapped, new-user-room, next-user-to-map}
 use Rattle.scope.proofs.GrantLaws.{toGrant, grant-granted}
 use Rattle.scope.proofs.RemoveLaws.{holder-holds, held-undeleted, removed-free, isDue, sweep-complete}
 use Rattle.scope.proofs.RuledOut.{map-accepted, new-user-accepted, grant-accepted}
-
--- the accepted call where the refusal is 0
-pub unless-none : (n : ℕ) (t : Table) (o : Outcome) → n ≡ 0 → unless n t o ≡ o
-unfolding unless
-unless-none zero t o e = refl
-unless-none (suc n) t o e = absurd (omega arith)
 
 -- ---- Open and Lookup
 

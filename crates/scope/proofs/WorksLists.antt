@@ -37,13 +37,12 @@ use Rattle.scope.specs.Simplify.{isTrue, isFalse, unfalse, simplified, r
 use Rattle.scope.specs.Models.{globalModel, userModel, modelRefusal, modelOf}
 use Rattle.scope.proofs.SoundLaws.{sound-to}
 use Rattle.scope.proofs.MoveLaws.{undeleted-below}
-use Rattle.scope.proofs.ResultLaws.{by-choose, each-keeps}
+use Rattle.scope.proofs.ResultLaws.{by-choose, each-keeps, unless-none}
 use Rattle.scope.proofs.ModeLaws.{observe-passed, observe-one-sound, hidden-of, show-records}
 use Rattle.scope.proofs.MapLaws.{MapRoom, map-user-mapped, map-user-has, mapped-global}
 use Rattle.scope.proofs.GrantLaws.{grant-granted, grant-has}
 use Rattle.scope.proofs.PoseLaws.{PoseRoom, poseStep, usersToGrant, pose-room, pose-one-posed, pose-count, pose-part-words}
 use Rattle.scope.proofs.WriteLaws.{rename-codes, solver-codes, keep-none, written-valid}
-use Rattle.scope.proofs.Works.{unless-none}
 
 -- ---- Observe
 

@@ -7,7 +7,8 @@ use lib.ListN.{getD}
 use Rattle.scope.specs.Table.{Table, word, recordOf, isDeleted, giveSolver}
 use Rattle.scope.specs.Sound.{soundb}
 use Rattle.scope.specs.Notes.{solver+}
-use Rattle.scope.specs.Outcome.{Result, stay, Outcome, orElse, unless, short, noting}
+use Rattle.base.specs.Choice.{pick}
+use Rattle.scope.specs.Outcome.{Result, stay, Outcome, unless, short, noting}
 use Rattle.scope.specs.Map.{leastFree}
 
 unfoldable pub nextSolver : Table → ℕ
@@ -23,10 +24,10 @@ grant g t = word (grantOne g t) (λ s. stay s t) (getD (t .solverFromGlobal) g 0
 -- 1; 3 for a global that was never used; 6 for a deleted one; 2.
 unfoldable pub grantRefusal : Table → ℕ → ℕ → ℕ
 grantRefusal t g room =
-    orElse (not (soundb t)) 1
-    (orElse (leb (t .counts .global) g) 3
-    (orElse (isDeleted (recordOf t g)) 6
-    (orElse (short room (grant g t .notes)) 2 0)))
+    pick (not (soundb t)) 1
+    (pick (leb (t .counts .global) g) 3
+    (pick (isDeleted (recordOf t g)) 6
+    (pick (short room (grant g t .notes)) 2 0)))
 
 -- The answer is the solver index and the count of notes.
 unfoldable pub grantOf : Table → ℕ → ℕ → Outcome

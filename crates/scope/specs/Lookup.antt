@@ -7,14 +7,14 @@ use lib.ListN.{getD}
 use Rattle.base.specs.Choice.{pick}
 use Rattle.scope.specs.Table.{Table, word, recordOf}
 use Rattle.scope.specs.Sound.{soundb}
-use Rattle.scope.specs.Outcome.{Outcome, orElse, unless, telling}
+use Rattle.scope.specs.Outcome.{Outcome, unless, telling}
 
 -- What a map says of an index: nothing, or one index.
 unfoldable pub found : List ℕ → ℕ → ℕ → List ℕ
 found xs mark i = pick (ltb i mark) (word [] (λ j. j ∷ []) (getD xs i 0)) []
 
 unfoldable pub lookupOf : Table → List ℕ → Outcome
-lookupOf t values = unless (orElse (not (soundb t)) 1 0) t (telling values t)
+lookupOf t values = unless (pick (not (soundb t)) 1 0) t (telling values t)
 
 -- the four directions
 unfoldable pub globalFromUserOf : Table → ℕ → Outcome

@@ -9,7 +9,7 @@ use Rattle.base.specs.Bounded.{least, count}
 use Rattle.scope.specs.Table.{Table, word, modeOf, recordOf, isDeleted, userRecord, giveUser}
 use Rattle.scope.specs.Sound.{soundb}
 use Rattle.scope.specs.Notes.{user+}
-use Rattle.scope.specs.Outcome.{Result, stay, _then_, giving, each, Outcome, orElse, unless, short, noting}
+use Rattle.scope.specs.Outcome.{Result, stay, _then_, giving, each, Outcome, unless, short, noting}
 
 -- the least unmapped index of a map, which is its watermark where none below is free
 unfoldable pub leastFree : List ℕ → ℕ → ℕ
@@ -58,11 +58,11 @@ unsampled t u = word false (λ g. not (eqb (modeOf (recordOf t g)) 0)) (getD (t 
 -- 1; 3 by the capacity; 4, where sampling is asked for and the user has a global of another mode; 5, where the free globals are too few; 2.
 unfoldable pub mapRefusal : Table → ℕ → Bool → ℕ → ℕ
 mapRefusal t u sampling room =
-    orElse (not (soundb t)) 1
-    (orElse (leb (t .counts .capacity) u) 3
-    (orElse (sampling && unsampled t u) 4
-    (orElse (ltb (t .counts .capacity) (undeleted t + toMap t u)) 5
-    (orElse (short room (mapUser u t .notes)) 2 0))))
+    pick (not (soundb t)) 1
+    (pick (leb (t .counts .capacity) u) 3
+    (pick (sampling && unsampled t u) 4
+    (pick (ltb (t .counts .capacity) (undeleted t + toMap t u)) 5
+    (pick (short room (mapUser u t .notes)) 2 0))))
 
 -- The answer is the global and the count of notes.
 unfoldable pub mapOf : Table → ℕ → Bool → ℕ → Outcome
@@ -71,9 +71,9 @@ mapOf t u sampling room = unless (mapRefusal t u sampling room) t (noting (λ g.
 -- 1, 5, 2
 unfoldable pub newUserRefusal : Table → ℕ → ℕ
 newUserRefusal t room =
-    orElse (not (soundb t)) 1
-    (orElse (ltb (t .counts .capacity) (undeleted t + 1)) 5
-    (orElse (short room (newUser t .notes)) 2 0))
+    pick (not (soundb t)) 1
+    (pick (ltb (t .counts .capacity) (undeleted t + 1)) 5
+    (pick (short room (newUser t .notes)) 2 0))
 
 -- The answer is the user, its global and the count of notes.
 unfoldable pub newUserOf : Table → ℕ → Outcome

@@ -8,7 +8,8 @@ use Rattle.scope.specs.declared.Mark.the-variants.{Used, Assumed, Releas
 use Rattle.scope.specs.Literals.{indexOf, signOf}
 use Rattle.scope.specs.Table.{Table, recordOf, putRecord, putValue}
 use Rattle.scope.specs.Sound.{soundb}
-use Rattle.scope.specs.Outcome.{Outcome, orElse, unless, changing}
+use Rattle.base.specs.Choice.{pick}
+use Rattle.scope.specs.Outcome.{Outcome, unless, changing}
 
 -- no global holds the solver index
 unfoldable pub notHeld : Table → ℕ → Bool
@@ -29,7 +30,7 @@ mark m s t = putRecord (holderOf t s) (marked m (recordOf t (holderOf t s))) t
 
 -- 1; 8, solver index not held.
 unfoldable pub markRefusal : Table → ℕ → ℕ
-markRefusal t s = orElse (not (soundb t)) 1 (orElse (notHeld t s) 8 0)
+markRefusal t s = pick (not (soundb t)) 1 (pick (notHeld t s) 8 0)
 
 unfoldable pub markOf : Table → Mark → ℕ → Outcome
 markOf t m s = unless (markRefusal t s) t (changing (mark m s t))
@@ -41,9 +42,9 @@ trueValue c = 2 - signOf c
 -- 1, 8; 9, has a value.
 unfoldable pub assignRefusal : Table → ℕ → ℕ
 assignRefusal t c =
-    orElse (not (soundb t)) 1
-    (orElse (notHeld t (indexOf c)) 8
-    (orElse (not (eqb (getD (t .assignment) (indexOf c) 0) 0)) 9 0))
+    pick (not (soundb t)) 1
+    (pick (notHeld t (indexOf c)) 8
+    (pick (not (eqb (getD (t .assignment) (indexOf c) 0) 0)) 9 0))
 
 -- Assign makes a solver literal true, once.
 unfoldable pub assignOf : Table → ℕ → Outcome

@@ -9,7 +9,7 @@ use Rattle.base.specs.Answer.{accepted}
 use Rattle.scope.specs.Literals.{codeOf}
 use Rattle.scope.specs.Table.{Table, word, unitOf, isDeleted, recordOf}
 use Rattle.scope.specs.Sound.{soundb}
-use Rattle.scope.specs.Outcome.{Outcome, orElse, unless}
+use Rattle.scope.specs.Outcome.{Outcome, unless}
 
 -- The value of a global: none if deleted; that of the solver index it holds; without one, its unit, and false where there is no unit.
 unfoldable pub globalValue : Table → ℕ → ℕ
@@ -37,8 +37,8 @@ userModel t = rowOf (t .counts .user) (λ u. word [] (λ g. userLiteral u (globa
 -- 1, 2.
 unfoldable pub modelRefusal : Table → ℕ → ℕ → ℕ
 modelRefusal t globals users =
-    orElse (not (soundb t)) 1
-    (orElse (ltb globals (length (globalModel t)) || ltb users (length (userModel t))) 2 0)
+    pick (not (soundb t)) 1
+    (pick (ltb globals (length (globalModel t)) || ltb users (length (userModel t))) 2 0)
 
 -- The global words and the user literals are filled; the answer is how many of each.
 unfoldable pub modelOf : Table → ℕ → ℕ → Outcome

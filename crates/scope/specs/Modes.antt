@@ -11,7 +11,8 @@ use Rattle.scope.specs.declared.SamplingMode.the-variants.{Sample, Witne
 use Rattle.scope.specs.Table.{Table, modeOf, isolatedOf, assumedOf, isDeleted, recordOf, withMode, giveUser, takeUser, putRecord}
 use Rattle.scope.specs.Sound.{soundb}
 use Rattle.scope.specs.Notes.{user+, user-, deletes, changes}
-use Rattle.scope.specs.Outcome.{Result, stay, choose, joined, each, Outcome, orElse, unless, short, noting}
+use Rattle.base.specs.Choice.{pick}
+use Rattle.scope.specs.Outcome.{Result, stay, choose, joined, each, Outcome, unless, short, noting}
 use Rattle.scope.specs.Map.{nextUser}
 
 abbrev pub modeNumber : SamplingMode → ℕ
@@ -56,11 +57,11 @@ setMode g m t =
 -- 1; 3 for a global that was never used; 6 for a deleted one; 7 for an assumed one, also where the mode stays; 2.
 unfoldable pub setModeRefusal : Table → ℕ → SamplingMode → ℕ → ℕ
 setModeRefusal t g m room =
-    orElse (not (soundb t)) 1
-    (orElse (leb (t .counts .global) g) 3
-    (orElse (isDeleted (recordOf t g)) 6
-    (orElse (eqb (assumedOf (recordOf t g)) 1) 7
-    (orElse (short room (setMode g (modeNumber m) t .notes)) 2 0))))
+    pick (not (soundb t)) 1
+    (pick (leb (t .counts .global) g) 3
+    (pick (isDeleted (recordOf t g)) 6
+    (pick (eqb (assumedOf (recordOf t g)) 1) 7
+    (pick (short room (setMode g (modeNumber m) t .notes)) 2 0))))
 
 -- The answer is the user granted, if one was, and the count of notes.
 unfoldable pub setModeOf : Table → ℕ → SamplingMode → ℕ → Outcome
@@ -80,9 +81,9 @@ observe t = each (t .counts .global) observeOne t
 -- 1; 7 where a hidden global is assumed; 2.
 unfoldable pub observeRefusal : Table → ℕ → ℕ → ℕ
 observeRefusal t outs room =
-    orElse (not (soundb t)) 1
-    (orElse (not (allBelow (t .counts .global) (λ g. not (isHidden (recordOf t g) && eqb (assumedOf (recordOf t g)) 1)))) 7
-    (orElse (ltb outs (length (observe t .value)) || short room (observe t .notes)) 2 0))
+    pick (not (soundb t)) 1
+    (pick (not (allBelow (t .counts .global) (λ g. not (isHidden (recordOf t g) && eqb (assumedOf (recordOf t g)) 1)))) 7
+    (pick (ltb outs (length (observe t .value)) || short room (observe t .notes)) 2 0))
 
 -- The users are filled; the answer is their number and the count of notes.
 unfoldable pub observeOf : Table → ℕ → ℕ → Outcome

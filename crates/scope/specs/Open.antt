@@ -5,7 +5,8 @@ use lib.ListN.{replicate}
 use Rattle.scope.specs.declared.Counts.{Counts}
 use Rattle.scope.specs.Table.{Table, tableOf, freshRecord}
 use Rattle.scope.specs.Sound.{sizesb}
-use Rattle.scope.specs.Outcome.{Outcome, orElse, unless, changing}
+use Rattle.base.specs.Choice.{pick}
+use Rattle.scope.specs.Outcome.{Outcome, unless, changing}
 
 -- the counts of a freshly opened table
 abbrev pub openCounts : ℕ → Counts
@@ -18,4 +19,4 @@ emptyTable n =
 
 -- Open of the lent lists, which with the capacity asked for make up t. 10 where the capacity is 0 or above 4,096, or a list is not as long.
 unfoldable pub openOf : Table → Outcome
-openOf t = unless (orElse (not (sizesb t)) 10 0) t (changing (emptyTable (t .counts .capacity)))
+openOf t = unless (pick (not (sizesb t)) 10 0) t (changing (emptyTable (t .counts .capacity)))

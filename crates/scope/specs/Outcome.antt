@@ -56,10 +56,6 @@ pub record Outcome : Type 0 where
   pub more : List ℕ
   pub bytes : List ℕ
 
--- The number n if the test holds, else what comes after: the first refusal that applies, 0 for none.
-abbrev pub orElse : Bool → ℕ → ℕ → ℕ
-orElse b n rest = pick b n rest
-
 -- A refused call: its number is answered, and everything stays as it was.
 abbrev pub refusal : ℕ → Table → Outcome
 refusal n t = record { answer = refused n []; table = t; notes = []; words = []; more = []; bytes = [] }

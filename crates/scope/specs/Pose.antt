@@ -9,7 +9,8 @@ use Rattle.base.specs.Answer.{accepted}
 use Rattle.scope.specs.Literals.{codeOf, indexOf, signOf}
 use Rattle.scope.specs.Table.{Table}
 use Rattle.scope.specs.Sound.{soundb}
-use Rattle.scope.specs.Outcome.{Result, _then_, giving, each, Outcome, orElse, unless, short}
+use Rattle.base.specs.Choice.{pick}
+use Rattle.scope.specs.Outcome.{Result, _then_, giving, each, Outcome, unless, short}
 use Rattle.scope.specs.Map.{mapUser, undeleted, unsampled}
 use Rattle.scope.specs.Grant.{grant}
 
@@ -35,11 +36,11 @@ usersToMap t lits = count (t .counts .capacity) (wanted t lits)
 -- 1; 3 by the capacity, or for more than 8,192 literals; 4; 5, each user that is to be mapped counted once, those in gaps too; 2.
 unfoldable pub poseRefusal : Table → List ℕ → Bool → ℕ → ℕ → ℕ
 poseRefusal t lits sampling outs room =
-    orElse (not (soundb t)) 1
-    (orElse (ltb 8192 (length lits) || anyOf (λ c. leb (t .counts .capacity) (indexOf c)) lits) 3
-    (orElse (sampling && anyOf (λ c. unsampled t (indexOf c)) lits) 4
-    (orElse (ltb (t .counts .capacity) (undeleted t + usersToMap t lits)) 5
-    (orElse (ltb outs (length lits) || short room (pose lits t .notes)) 2 0))))
+    pick (not (soundb t)) 1
+    (pick (ltb 8192 (length lits) || anyOf (λ c. leb (t .counts .capacity) (indexOf c)) lits) 3
+    (pick (sampling && anyOf (λ c. unsampled t (indexOf c)) lits) 4
+    (pick (ltb (t .counts .capacity) (undeleted t + usersToMap t lits)) 5
+    (pick (ltb outs (length lits) || short room (pose lits t .notes)) 2 0))))
 
 -- The solver literals are filled; the answer is their number and the count of notes.
 unfoldable pub poseOf : Table → List ℕ → Bool → ℕ → ℕ → Outcome

@@ -7,7 +7,8 @@ use lib.ListN.{getD}
 use Rattle.scope.specs.Table.{Table, word, isolatedOf, assumedOf, recordOf, withUnit, takeSolver, putRecord}
 use Rattle.scope.specs.Sound.{soundb}
 use Rattle.scope.specs.Notes.{solver-}
-use Rattle.scope.specs.Outcome.{Result, stay, choose, joined, each, Outcome, orElse, unless, short, noting}
+use Rattle.base.specs.Choice.{pick}
+use Rattle.scope.specs.Outcome.{Result, stay, choose, joined, each, Outcome, unless, short, noting}
 use Rattle.scope.specs.Modes.{deleteIfUnused}
 use Rattle.scope.specs.Marks.{notHeld, holderOf}
 
@@ -21,9 +22,9 @@ remove s t = removeHeld (holderOf t s) s t
 -- 1; 8, solver index not held; 2.
 unfoldable pub removeRefusal : Table → ℕ → ℕ → ℕ
 removeRefusal t s room =
-    orElse (not (soundb t)) 1
-    (orElse (notHeld t s) 8
-    (orElse (short room (remove s t .notes)) 2 0))
+    pick (not (soundb t)) 1
+    (pick (notHeld t s) 8
+    (pick (short room (remove s t .notes)) 2 0))
 
 -- The answer is the count of notes.
 unfoldable pub removeOf : Table → ℕ → ℕ → Outcome
@@ -47,7 +48,7 @@ sweep t = each (t .counts .solver) sweepOne t
 
 -- 1, 2.
 unfoldable pub sweepRefusal : Table → ℕ → ℕ
-sweepRefusal t room = orElse (not (soundb t)) 1 (orElse (short room (sweep t .notes)) 2 0)
+sweepRefusal t room = pick (not (soundb t)) 1 (pick (short room (sweep t .notes)) 2 0)
 
 -- The answer is the count of notes.
 unfoldable pub sweepOf : Table → ℕ → Outcome

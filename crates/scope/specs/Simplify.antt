@@ -17,7 +17,7 @@ use Rattle.scope.specs.declared.ProofStep.the-variants.{AtClause, Delete
 use Rattle.scope.specs.Literals.{indexOf, signOf}
 use Rattle.scope.specs.Table.{Table}
 use Rattle.scope.specs.Sound.{soundb}
-use Rattle.scope.specs.Outcome.{Outcome, orElse, unless}
+use Rattle.scope.specs.Outcome.{Outcome, unless}
 use Rattle.scope.specs.Steps.{clauseSteps}
 use Rattle.scope.specs.Write.{renameLits, holders, unheld}
 
@@ -72,11 +72,11 @@ simplifyBytes f t lits redundant =
 -- 1; 3 for more than 8,192 literals; 8; 12 where no literal is true, one is false and not two are left; 2.
 unfoldable pub simplifyRefusal : Format → Table → List ℕ → Bool → ℕ → ℕ → ℕ
 simplifyRefusal f t lits redundant outs room =
-    orElse (not (soundb t)) 1
-    (orElse (ltb 8192 (length lits)) 3
-    (orElse (unheld t true lits) 8
-    (orElse (not (anyOf (isTrue t) lits) && (anyOf (isFalse t) lits && ltb (length (unfalse t lits)) 2)) 12
-    (orElse (ltb outs (length (restOf (simplified t lits) t lits)) || ltb room (length (simplifyBytes f t lits redundant))) 2 0))))
+    pick (not (soundb t)) 1
+    (pick (ltb 8192 (length lits)) 3
+    (pick (unheld t true lits) 8
+    (pick (not (anyOf (isTrue t) lits) && (anyOf (isFalse t) lits && ltb (length (unfalse t lits)) 2)) 12
+    (pick (ltb outs (length (restOf (simplified t lits) t lits)) || ltb room (length (simplifyBytes f t lits redundant))) 2 0))))
 
 abbrev pub simplifiedNumber : Simplified → ℕ
 simplifiedNumber Kept = 0

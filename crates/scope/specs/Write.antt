@@ -16,7 +16,7 @@ use Rattle.scope.specs.declared.Writes.the-variants.{Add, AddEach, Delet
 use Rattle.scope.specs.Literals.{codeOf, indexOf, signOf}
 use Rattle.scope.specs.Table.{Table}
 use Rattle.scope.specs.Sound.{soundb}
-use Rattle.scope.specs.Outcome.{Outcome, orElse, unless}
+use Rattle.scope.specs.Outcome.{Outcome, unless}
 use Rattle.scope.specs.Marks.{notHeld}
 use Rattle.scope.specs.Steps.{ruleOf, kindOf, stepWords, literalsOf, hashesOf, clauseSteps}
 
@@ -47,17 +47,17 @@ unheld t solverVars lits = solverVars && anyOf (λ c. notHeld t (indexOf c)) lit
 -- 1; 14, units and hashes differ in number; 3; 8 for a solver literal; then `rest`.
 unfoldable pub stepRefusal : Table → ProofStep → Bool → List ℕ → List ℕ → ℕ → ℕ
 stepRefusal t step solverVars lits hashes rest =
-    orElse (not (soundb t)) 1
-    (orElse (unmatched step lits hashes) 14
-    (orElse (outside t solverVars (literalsOf step lits)) 3
-    (orElse (unheld t solverVars (literalsOf step lits)) 8 rest)))
+    pick (not (soundb t)) 1
+    (pick (unmatched step lits hashes) 14
+    (pick (outside t solverVars (literalsOf step lits)) 3
+    (pick (unheld t solverVars (literalsOf step lits)) 8 rest)))
 
 -- ---- Rename: literals and hashes are filled, hashes unchanged.
 
 unfoldable pub renameRefusal : Table → ProofStep → Bool → List ℕ → List ℕ → ℕ → ℕ → ℕ
 renameRefusal t step solverVars lits hashes outs hashOuts =
     stepRefusal t step solverVars lits hashes
-    (orElse (ltb outs (length (literalsOf step lits)) || ltb hashOuts (length (hashesOf step hashes))) 2 0)
+    (pick (ltb outs (length (literalsOf step lits)) || ltb hashOuts (length (hashesOf step hashes))) 2 0)
 
 -- The answer is how many literals and how many hashes were filled, and the step, which is as given but for these.
 unfoldable pub renameOf : Table → ProofStep → Bool → List ℕ → List ℕ → ℕ → ℕ → Outcome
@@ -90,8 +90,8 @@ stepBytes f t step solverVars lits = encode f (clauseSteps step (renameLits (hol
 unfoldable pub writeRefusal : Format → Table → ProofStep → Bool → List ℕ → List ℕ → ℕ → ℕ
 writeRefusal f t step solverVars lits hashes room =
     stepRefusal t step solverVars lits hashes
-    (orElse (lacked (ruleOf step .writes)) 11
-    (orElse (ltb room (length (stepBytes f t step solverVars lits))) 2 0))
+    (pick (lacked (ruleOf step .writes)) 11
+    (pick (ltb room (length (stepBytes f t step solverVars lits))) 2 0))
 
 -- The answer is how many bytes were filled.
 unfoldable pub writeOf : Format → Table → ProofStep → Bool → List ℕ → List ℕ → ℕ → Outcome

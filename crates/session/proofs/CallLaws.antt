@@ -24,7 +24,8 @@ use Rattle.scope.specs.Table.{Table, recordOf, assumedOf, isDeleted}
 use Rattle.scope.specs.Sound.{soundb, Sound}
 use Rattle.scope.specs.Notes.{Note}
 use Rattle.scope.specs.Entries.{noted, hides}
-use Rattle.scope.specs.Outcome.{Outcome, orElse, unless, short, noting, refusal}
+use Rattle.base.specs.Choice.{pick}
+use Rattle.scope.specs.Outcome.{Outcome, unless, short, noting, refusal}
 use Rattle.scope.specs.Lookup.{lookupOf, globalFromUserOf, userFromGlobalOf, solverFromGlobalOf, globalFromSolverOf, recordWordOf, assignmentWordOf}
 use Rattle.scope.specs.Map as Maps
 use Rattle.scope.specs.Grant as Grants
@@ -80,7 +81,7 @@ owed f x t zero o h = h refl
 owed f x t (suc n) o h = refusing
 
 -- a call that is judged for soundness first
-first-sound : (t : Table) (rest : ℕ) → orElse (not (soundb t)) 1 rest ≡ 0 → Sound t × (rest ≡ 0)
+first-sound : (t : Table) (rest : ℕ) → pick (not (soundb t)) 1 rest ≡ 0 → Sound t × (rest ≡ 0)
 first-sound t rest e = let x = past (not (soundb t)) 1 rest (omega arith) e in (sound-of t (not-false (soundb t) (x .0)), x .1)
 
 -- refusal 2 left room for the notes

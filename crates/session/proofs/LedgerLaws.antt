@@ -5,6 +5,7 @@ use mathlib.Core.Bool.{Bool, true, false, _&&_, _||_, not, true≢false}
 use mathlib.Core.List.{List, [], _∷_, _++_, append-assoc, append-nil}
 use Rattle.base.specs.Choice.{pick}
 use Rattle.base.specs.Bounded.{anyOf}
+use Rattle.base.proofs.MemberLaws.{or-none}
 use Rattle.scope.specs.Table.{word}
 use Rattle.scope.specs.Notes.{Note, grants, withdraws, globalOf, heldBy}
 use Rattle.scope.specs.Entries.{Entry, noted, hides}
@@ -36,10 +37,6 @@ showAll (e ∷ es) g b = showAll es g (showStep e g b)
 or-assoc : (a b c : Bool) → (a || b) || c ≡ a || (b || c)
 or-assoc true b c = refl
 or-assoc false b c = refl
-
-or-none : (a : Bool) → a || false ≡ a
-or-none true = refl
-or-none false = refl
 
 any-snoc : {A : Type 0} (p : A → Bool) (xs : List A) (x : A) → anyOf p (xs ++ x ∷ []) ≡ anyOf p xs || p x
 unfolding anyOf

@@ -10,6 +10,7 @@ use Rattle.scope.specs.Table.{word}
 use Rattle.scope.specs.Notes.{Note, user+, user-, solver+, solver-, deletes, changes, noteWords, notesWords}
 use Rattle.scope.specs.Outcome.{Outcome}
 use Rattle.scope.proofs.ResultLaws.{word-some}
+use Rattle.scope.proofs.NoteWords.{words-length}
 use Rattle.session.specs.Entered.{linesOf}
 use Rattle.session.specs.Session.{Turn}
 use Rattle.session.specs.Made.{notesIn, lastOr, countsOf}
@@ -54,19 +55,6 @@ notes-read (n ∷ ns) ws =
     ap (notesIn (length (n ∷ ns))) (append-assoc (noteWords n) (notesWords ns) ws)
     ∙ note-read n (length ns) (notesWords ns ++ ws)
     ∙ ap (λ (l : List Note). n ∷ l) (notes-read ns ws)
-
-three : (n : Note) → length (noteWords n) ≡ 3
-three (user+ g u) = refl
-three (user- g) = refl
-three (solver+ g s) = refl
-three (solver- g) = refl
-three (deletes g) = refl
-three (changes g sample) = refl
-
-words-length : (ns : List Note) → length (notesWords ns) ≡ 3 * length ns
-unfolding notesWords
-words-length [] = refl
-words-length (n ∷ ns) = length-append (noteWords n) (notesWords ns) ∙ (let a = three n in let b = words-length ns in omega arith)
 
 pub notes-filled : (out : List ℕ) (ns : List Note) (n : ℕ) → n ≡ length ns → 3 * length ns ≤ length out → notesIn n (sets out 0 (notesWords ns)) ≡ ns
 notes-filled out ns n e h =

@@ -11,7 +11,7 @@ use borrow.Author.Tests.{lt-ltb}
 use Rattle.base.specs.Choice.{pick}
 use Rattle.base.specs.Bounded.{anyOf, keepOf}
 use Rattle.base.proofs.MemberLaws.{keep-append, keep-step, keep-length, or-left, or-right, or-neither}
-use Rattle.steps.proofs.StoreLaws.{store-next}
+use Rattle.base.proofs.SetsLaws.{store-next}
 
 -- some member passes exactly if fewer do not
 pub some-go : (p : ℕ → Bool) (xs : List ℕ) → anyOf p xs ≡ ltb (length (keepOf (λ x. not (p x)) xs)) (length xs)
@@ -85,7 +85,7 @@ module _ (q : ℕ → Bool) (xs : List ℕ) where
 
     pub store-some : (m : List ℕ) (i k x : ℕ) → i < length xs → q (getD xs i 0) ≡ true → k ≡ length (keptTo i) → m ≡ stored i → x ≡ f (getD xs i 0) → set m k x ≡ stored (i + 1)
     store-some m i k x h e n w v =
-        store-next l m (map f (keptTo i)) k x w (n ∙ sym (length-map (keptTo i) f))
+        store-next l m (map f (keptTo i)) 0 k x w (omega (arith, n, length-map (keptTo i) f))
         ∙ ap (λ (ys : List ℕ). sets l 0 ys)
         (ap (λ (y : ℕ). map f (keptTo i) ++ y ∷ []) v
         ∙ sym (map-append f (keptTo i) (getD xs i 0 ∷ []))

@@ -38,7 +38,7 @@ use Rattle.steps.specs.declared.write.Recorded.the-variants as W
 use Rattle.steps.specs.Refusals.{literalRefusal, laid, laidBytes}
 use Rattle.steps.proofs.WriteLaws.{short-laid, whole-laid, laid-done, laid-refused, filled-done, filled-refused}
 use Rattle.steps.proofs.LiteralLaws.{clear, few, names-part, names-within, names-given as names-written}
-use Rattle.steps.proofs.CallLaws.{unless-some}
+use Rattle.scope.proofs.ResultLaws.{unless-some}
 use Rattle.steps.proofs.ChainLaws.{first-some, first-none}
 use Rattle.steps.proofs.UnitLaws.{encode-none}
 use Rattle.simplify.specs.declared.Reduced.{Reduced}

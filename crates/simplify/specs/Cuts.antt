@@ -8,12 +8,12 @@ use Rattle.scope.specs.declared.Simplified.{Simplified}
 use Rattle.scope.specs.declared.Simplified.the-variants.{Shortened, Binary}
 use Rattle.scope.specs.Table.{Table}
 use Rattle.scope.specs.Sound.{soundb}
-use Rattle.scope.specs.Outcome.{orElse}
+use Rattle.base.specs.Choice.{pick}
 use Rattle.steps.specs.Refusals.{literalRefusal}
 
 -- 1; 3, over 8,192 literals; 8.
 unfoldable pub clauseRefusal : Table → List ℕ → ℕ
-clauseRefusal t lits = orElse (not (soundb t)) 1 (literalRefusal t true lits)
+clauseRefusal t lits = pick (not (soundb t)) 1 (literalRefusal t true lits)
 
 -- false literals went: more than two are left, or two
 pub data Cuts : Simplified → Type 0 where

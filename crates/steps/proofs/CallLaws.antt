@@ -8,15 +8,6 @@ use Rattle.scope.specs.Notes.{Note, notesWords}
 use Rattle.scope.specs.Outcome.{Outcome, refusal, unless}
 use Rattle.scope.specs.Contract.{Said, Does}
 
-pub unless-some : (n m : ℕ) (t : Table) (o : Outcome) → n ≡ m → (n ≡ 0 → ⊥) → unless m t o ≡ refusal n t
-unfolding unless
-unless-some zero m t o e h = absurd (h refl)
-unless-some (suc n) m t o e h = rw (← e)
-
-pub unless-none : (n m : ℕ) (t : Table) (o : Outcome) → n ≡ m → n ≡ 0 → unless m t o ≡ o
-unfolding unless
-unless-none n m t o e z = rw (← e, z)
-
 -- what a call tells that comes to the outcome o, with three further slices before (a, b, d) and after (x, y, z)
 pub record Told (o : Outcome) (said : Said) (left : Table) (a b d x y z : List ℕ) : Type 0 where
   pub does : Does o said left [] []

@@ -16,7 +16,8 @@ use Rattle.steps.specs.declared.rename.Renamed.{Renamed}
 use Rattle.steps.specs.declared.rename.Renamed.the-variants.{Done, Refused}
 use Rattle.steps.specs.Answers.{renamed}
 use Rattle.steps.proofs.StepLaws.{literals-length, literals-part, hashes-length, hashes-part}
-use Rattle.steps.proofs.CallLaws.{unless-some, unless-none, Told, told, told-refusal}
+use Rattle.scope.proofs.ResultLaws.{unless-some, unless-none}
+use Rattle.steps.proofs.CallLaws.{Told, told, told-refusal}
 
 module _ (t : Table) (step : ProofStep) (s : Bool) (lits hashes a b : List ℕ) where
   -- what the call comes to
@@ -34,7 +35,7 @@ module _ (t : Table) (step : ProofStep) (s : Bool) (lits hashes a b : List ℕ) 
       → x ≡ sets a 0 (renameLits (holders t) s (take k lits)) → y ≡ sets b 0 (take m hashes) → Told outcome (renamed (Done k m step) (t .counts)) t a b [] x y []
   unfolding renameOf
   rename-done n k m x y e z p q r u =
-      told outcome _ (renamed (Done k m step) (t .counts)) t a b [] x y [] (unless-none n refusing t _ e z) refl
+      told outcome _ (renamed (Done k m step) (t .counts)) t a b [] x y [] (unless-none refusing t _ (sym e ∙ z)) refl
       (ap₂ (λ (i j : ℕ). accepted (i ∷ j ∷ stepWords step)) (literals-length step lits k p) (hashes-length step hashes m q))
       refl
       (r ∙ ap (λ (ls : List ℕ). sets a 0 (renameLits (holders t) s ls)) (literals-part step lits k p))

@@ -6,11 +6,7 @@ use native.Mathlib.Numerals.{add-one}
 use native.Mathlib.Omega.{arith}
 use lib.ListN.{length, getD, take, drop, set, length-take, length-map, length-append}
 use lib.Seq.{sets, length-sets, sets-eq, take-suc, take-all, take-at}
-use Rattle.base.proofs.SetsLaws.{sets-append}
-
--- one more store behind a run
-pub store-next : (l m ys : List ℕ) (i x : ℕ) → m ≡ sets l 0 ys → i ≡ length ys → set m i x ≡ sets l 0 (ys ++ x ∷ [])
-store-next l m ys i x e n = ap (λ (k : List ℕ). set k i x) e ∙ sym (sets-append ys (x ∷ []) l 0 ∙ ap (λ (j : ℕ). set (sets l 0 ys) j x) (omega arith))
+use Rattle.base.proofs.SetsLaws.{store-next}
 
 -- a run of stores is read back from the start
 pub stored-part : (l m ys : List ℕ) (n : ℕ) → m ≡ sets l 0 ys → n ≡ length ys → n ≤ length l → take n m ≡ ys
@@ -32,7 +28,7 @@ module _ (f : ℕ → ℕ) (l xs : List ℕ) where
 
   pub copy-next : (m : List ℕ) (i x : ℕ) → i < length xs → m ≡ copied i → x ≡ f (getD xs i 0) → set m i x ≡ copied (i + 1)
   copy-next m i x h e q =
-      store-next l m (map f (take i xs)) i x e (sym (length-map (take i xs) f ∙ length-to xs i (omega arith)))
+      store-next l m (map f (take i xs)) 0 i x e (omega (arith, length-map (take i xs) f ∙ length-to xs i (omega arith)))
       ∙ ap (λ (ys : List ℕ). sets l 0 ys)
       (ap (λ (y : ℕ). map f (take i xs) ++ y ∷ []) q
       ∙ sym (map-append f (take i xs) (getD xs i 0 ∷ []))

@@ -28,7 +28,8 @@ use Rattle.steps.specs.Refusals.{laid, laidBytes}
 use Rattle.steps.specs.Answers.{recorded}
 use Rattle.steps.proofs.UnitLaws.{encode-one, encode-none}
 use Rattle.steps.proofs.StepLaws.{literals-part, refused-first, refused-later}
-use Rattle.steps.proofs.CallLaws.{unless-some, unless-none, Told, told, told-refusal}
+use Rattle.scope.proofs.ResultLaws.{unless-some, unless-none}
+use Rattle.steps.proofs.CallLaws.{Told, told, told-refusal}
 
 -- ---- the bytes of a step whose rule is r
 
@@ -155,4 +156,4 @@ module _ (f : Format) (t : Table) (step : ProofStep) (s : Bool) (lits hashes d :
           (tableOf (recorded r (t .counts) .counts) (t .globalFromUser) (t .userFromGlobal) (t .solverFromGlobal) (t .globalFromSolver) (t .assignment) (t .records))
           [] [] d [] [] x
       go true y a w = told outcome (refusal 2 t) (recorded r (t .counts)) _ [] [] d [] [] x (unless-some 2 refusing t _ (sym (after true y)) (λ q. omega arith)) refl (ap (λ (q : Recorded). recorded q (t .counts) .answer) a) (left-same r t) refl refl w
-      go false y a w = told outcome filled (recorded r (t .counts)) _ [] [] d [] [] x (unless-none 0 refusing t filled (sym (after false y)) refl) refl (ap (λ (q : Recorded). recorded q (t .counts) .answer) a) (left-same r t) refl refl w
+      go false y a w = told outcome filled (recorded r (t .counts)) _ [] [] d [] [] x (unless-none refusing t filled (after false y)) refl (ap (λ (q : Recorded). recorded q (t .counts) .answer) a) (left-same r t) refl refl w

@@ -13,7 +13,7 @@ use lib.ListN.{length, getD, List·getD-eq-default}
 use borrow.Author.Tests.{lt-ltb, le-ltb, le-leb, leb-true, eqb-true, not-true, not-false}
 use Rattle.base.specs.Choice.{pick}
 use Rattle.base.specs.Bounded.{allBelow, count}
-use Rattle.base.proofs.BelowLaws.{all-at, all-intro}
+use Rattle.base.proofs.BelowLaws.{all-at, all-intro, and-true}
 use Rattle.base.proofs.Truth.{truth, and-iff, split}
 use Rattle.base.proofs.MemberLaws.{getD-default}
 use Rattle.scope.specs.Table.{Table, isShown}
@@ -48,10 +48,6 @@ unfolding allBelow
 all-same zero p q h = refl
 all-same (suc n) p q h = rw (all-same n p q (λ i l. h i (omega arith)), h n (omega arith))
 
-and-true : (a : Bool) → a ≡ a && true
-and-true true = refl
-and-true false = refl
-
 -- a test that holds from the mark up is done at the mark
 pub all-mark : (n mark : ℕ) (p : ℕ → Bool) → mark ≤ n → ((i : ℕ) → mark ≤ i → p i ≡ true) → allBelow mark p ≡ allBelow n p
 unfolding allBelow
@@ -60,7 +56,7 @@ all-mark zero mark p l h =
     ap (λ (k : ℕ). allBelow k p) e
 all-mark (suc n) mark p l h = ⊎-elim
     (λ (e : mark ≡ suc n). ap (λ (k : ℕ). allBelow k p) e)
-    (λ (e : mark < suc n). all-mark n mark p (omega arith) h ∙ and-true (allBelow n p) ∙ ap (λ (b : Bool). allBelow n p && b) (sym (h n (omega arith))))
+    (λ (e : mark < suc n). all-mark n mark p (omega arith) h ∙ sym (and-true (allBelow n p)) ∙ ap (λ (b : Bool). allBelow n p && b) (sym (h n (omega arith))))
     (eq-or-lt-of-le l)
 
 and-swap : (a b c d : Bool) → a && b && (c && d) ≡ a && c && (b && d)

@@ -1,4 +1,5 @@
-use Rattle.deletion.proofs.DeletionLaws.{false-of, delete-fits, delete-room, delete-leaves, keep-leaves}
+use Rattle.base.proofs.Truth.{false-of}
+use Rattle.deletion.proofs.DeletionLaws.{delete-fits, delete-room, delete-leaves, keep-leaves}
 use mathlib.Core.Path.{refl}
 use native.Mathlib.Omega.{arith}
 use Rattle.base.proofs.Truth.{truth}
