@@ -3,4 +3,3 @@ pub mod JudgedLaws
 pub mod TallyLaws
 pub mod RunsLaws
 pub mod CountsLaws
-pub mod WholeLaws
