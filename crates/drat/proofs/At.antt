@@ -1,11 +1,14 @@
 -- The reader's definitions at a place of the input: one byte, and the rest.
 use Prim.Native.Nat.{ℕ, _+_, _-_, _*_, _≤_, _<_}
-use mathlib.Core.Path.{_≡_, sym, ap, _∙_}
+use mathlib.Core.Path.{_≡_, refl, sym, ap, _∙_}
 use mathlib.Core.List.{List}
 use lib.Dec.{eqb, ltb}
 use lib.ListN.{length, getD, drop, drop-of-length-le}
+use lib.Seq.{getD-drop}
+use native.Mathlib.Omega.{arith}
 use Rattle.base.specs.Choice.{pick}
-use Rattle.drat.specs.Reading.{decimalFrom, lebFrom, endFrom, token, blankFrom, opening}
+use Rattle.drat.specs.Numeral.{digit}
+use Rattle.drat.specs.Reading.{numbered, withDigit, digitsFrom, signedFrom, thenBlank, lebFrom, endFrom, lineFrom, token, blankFrom, opening}
 use Rattle.drat.specs.declared.Kind.the-variants.{Add, Delete}
 use Rattle.drat.specs.declared.Format.{Format}
 use Rattle.drat.specs.declared.Format.the-variants.{Text, Binary}
@@ -14,13 +17,19 @@ use Rattle.drat.specs.declared.Opening.the-variants.{Opens, Wrong}
 use Rattle.drat.proofs.Steps.{next}
 
 module _ (s : List ℕ) (i : ℕ) (h : i < length s) where
-  pub decimal-here : (sign v : ℕ) → decimalFrom sign v i (drop i s) ≡
-      pick (eqb (getD s i 0) 32) (pick (eqb v 0) Bad (Lit (2 * (v - 1) + sign) (i + 1)))
-      (pick (ltb (getD s i 0) 48) Bad (pick (ltb 57 (getD s i 0)) Bad
-      (pick (eqb (10 * v + (getD s i 0 - 48)) 0) Bad
-      (pick (ltb 4096 (10 * v + (getD s i 0 - 48))) Bad (decimalFrom sign (10 * v + (getD s i 0 - 48)) (i + 1) (drop (i + 1) s))))))
-  unfolding decimalFrom
-  decimal-here sign v = ap (decimalFrom sign v i) (next s i h)
+  pub digits-here : (sign v : ℕ) → digitsFrom sign v i (drop i s) ≡
+      pick (digit (getD s i 0))
+      (pick (eqb (withDigit v (getD s i 0)) 0) Bad
+      (pick (ltb 4096 (withDigit v (getD s i 0))) Bad (digitsFrom sign (withDigit v (getD s i 0)) (i + 1) (drop (i + 1) s))))
+      (numbered sign v i)
+  unfolding digitsFrom
+  digits-here sign v = ap (digitsFrom sign v i) (next s i h)
+
+  pub signed-here : signedFrom i (drop i s) ≡ pick (eqb (getD s i 0) 45) (digitsFrom 1 0 (i + 1) (drop (i + 1) s)) (digitsFrom 0 0 i (drop i s))
+  unfolding signedFrom
+  signed-here =
+      ap (signedFrom i) (next s i h)
+      ∙ ap (λ (l : List ℕ). pick (eqb (getD s i 0) 45) (digitsFrom 1 0 (i + 1) (drop (i + 1) s)) (digitsFrom 0 0 i l)) (sym (next s i h))
 
   pub leb-here : (v w : ℕ) → lebFrom v w i (drop i s) ≡
       pick (ltb (getD s i 0) 128)
@@ -37,11 +46,12 @@ module _ (s : List ℕ) (i : ℕ) (h : i < length s) where
   unfolding blankFrom
   blank-here = ap (blankFrom i) (next s i h)
 
-  pub text-here : token Text i (drop i s) ≡ pick (eqb (getD s i 0) 48) (endFrom (i + 1) (drop (i + 1) s)) (pick (eqb (getD s i 0) 45) (decimalFrom 1 0 (i + 1) (drop (i + 1) s)) (decimalFrom 0 0 i (drop i s)))
-  unfolding token
+  pub text-here : token Text i (drop i s) ≡
+      pick (eqb (getD s i 0) 48) (endFrom (i + 1) (drop (i + 1) s)) (thenBlank i (drop i s) (signedFrom i (drop i s)))
+  unfolding token lineFrom
   text-here =
       ap (token Text i) (next s i h)
-      ∙ ap (λ (l : List ℕ). pick (eqb (getD s i 0) 48) (endFrom (i + 1) (drop (i + 1) s)) (pick (eqb (getD s i 0) 45) (decimalFrom 1 0 (i + 1) (drop (i + 1) s)) (decimalFrom 0 0 i l))) (sym (next s i h))
+      ∙ ap (λ (l : List ℕ). pick (eqb (getD s i 0) 48) (endFrom (i + 1) (drop (i + 1) s)) (thenBlank i l (signedFrom i l))) (sym (next s i h))
 
   pub binary-here : token Binary i (drop i s) ≡ pick (eqb (getD s i 0) 0) (Stop (i + 1)) (lebFrom 0 1 i (drop i s))
   unfolding token
@@ -56,9 +66,13 @@ module _ (s : List ℕ) (i : ℕ) (h : i < length s) where
   binary-opens = ap (opening Binary i) (next s i h)
 
 module _ (s : List ℕ) (i : ℕ) (h : length s ≤ i) where
-  pub decimal-past : (sign v : ℕ) → decimalFrom sign v i (drop i s) ≡ Bad
-  unfolding decimalFrom
-  decimal-past sign v = ap (decimalFrom sign v i) (drop-of-length-le s h)
+  pub digits-past : (sign v : ℕ) → digitsFrom sign v i (drop i s) ≡ numbered sign v i
+  unfolding digitsFrom
+  digits-past sign v = ap (digitsFrom sign v i) (drop-of-length-le s h)
+
+  pub signed-past : signedFrom i (drop i s) ≡ Bad
+  unfolding signedFrom
+  signed-past = ap (signedFrom i) (drop-of-length-le s h)
 
   pub leb-past : (v w : ℕ) → lebFrom v w i (drop i s) ≡ Bad
   unfolding lebFrom
@@ -81,3 +95,19 @@ module _ (s : List ℕ) (i : ℕ) (h : length s ≤ i) where
   unfolding opening
   opening-past Text = ap (opening Text i) (drop-of-length-le s h)
   opening-past Binary = ap (opening Binary i) (drop-of-length-le s h)
+
+-- the blank after a number that ends at place j
+module _ (s : List ℕ) (i j : ℕ) (h : i ≤ j) where
+  pub blank-after : (c : ℕ) → thenBlank i (drop i s) (Lit c j) ≡ pick (eqb (getD s j 0) 32) (Lit c (j + 1)) Bad
+  unfolding thenBlank
+  blank-after c =
+      let e : i + (j - i) ≡ j = omega arith in
+      ap (λ (b : ℕ). pick (eqb b 32) (Lit c (j + 1)) Bad) (getD-drop i s (j - i) 0 ∙ ap (λ (k : ℕ). getD s k 0) e)
+
+pub blank-stop : (i : ℕ) (l : List ℕ) (j : ℕ) → thenBlank i l (Stop j) ≡ Bad
+unfolding thenBlank
+blank-stop i l j = refl
+
+pub blank-bad : (i : ℕ) (l : List ℕ) → thenBlank i l Bad ≡ Bad
+unfolding thenBlank
+blank-bad i l = refl

@@ -5,7 +5,7 @@ use mathlib.Core.List.{[], _∷_}
 use Rattle.base.specs.Answer.{refused}
 use Rattle.drat.specs.Numeral.{spell, further, bytesOf}
 use Rattle.drat.specs.Grammar.{stepOf, number, numbers, encodeStep}
-use Rattle.drat.specs.Reading.{decimalFrom, endFrom, token, blankFrom, opening, consPart, body, asStep, oneStep, consStep, stepsFrom, readProof}
+use Rattle.drat.specs.Reading.{digitsFrom, signedFrom, thenBlank, endFrom, lineFrom, token, blankFrom, opening, consPart, body, asStep, oneStep, consStep, stepsFrom, readProof}
 use Rattle.drat.specs.Filled.{answerOf, readOf}
 use Rattle.drat.specs.declared.Format.the-variants.{Text, Binary}
 use Rattle.drat.specs.declared.Kind.the-variants.{Add, Delete}
@@ -27,5 +27,5 @@ case8 = (refl, refl, refl, refl, refl)
 
 -- 11. `1 0`, line feed, `2 0`: 13 at 4; `01 0`, line feed: 13 at 0; whatever the room
 pub case11 : (a b c : ℕ) → (readOf Text (49 ∷ 32 ∷ 48 ∷ 10 ∷ 50 ∷ 32 ∷ 48 ∷ []) a b c .answer ≡ refused 13 (4 ∷ [])) × (readOf Text (48 ∷ 49 ∷ 32 ∷ 48 ∷ 10 ∷ []) a b c .answer ≡ refused 13 (0 ∷ []))
-unfolding readProof stepsFrom oneStep body token decimalFrom endFrom opening blankFrom consStep asStep consPart answerOf
+unfolding readProof stepsFrom oneStep body token lineFrom signedFrom digitsFrom thenBlank endFrom opening blankFrom consStep asStep consPart answerOf
 case11 a b c = (refl, refl)

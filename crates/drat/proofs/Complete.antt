@@ -1,17 +1,18 @@
 -- What the grammar spells is read: the reader gives back the steps, and so the bytes have one reading.
 use Prim.Native.Nat.{ℕ, zero, suc, _+_, _-_, _*_, _≤_, _<_}
 use mathlib.Core.Path.{_≡_, refl, sym, ap, ap₂, _∙_}
+use mathlib.Core.Bool.{false}
 use mathlib.Core.List.{List, [], _∷_, _++_, append-assoc, append-nil}
 use native.Mathlib.Omega.{arith}
 use native.Mathlib.Nat.{mul-le-mul-left}
-use lib.ListN.{length, drop, length-append}
-use lib.Seq.{drop-at}
+use lib.ListN.{length, getD, drop, length-append}
+use lib.Seq.{drop-at, getD-append-add}
 use borrow.Author.Tests.{ne-eqb, lt-ltb, le-ltb}
-use Rattle.drat.proofs.Numerals.{numeral-pos}
-use Rattle.drat.specs.Numeral.{decimal, leb128, Numeral, one, more}
-use Rattle.drat.specs.Grammar.{Step, opens, ends, Number, plus, minus, code, Body, last, lit, Spells, none, step, encodeStep, encode, Valid}
+use Rattle.drat.proofs.Numerals.{numeral-pos, is-within}
+use Rattle.drat.specs.Numeral.{digit, decimal, leb128, Numeral, one, more}
+use Rattle.drat.specs.Grammar.{Step, opens, ends, Signed, plus, minus, Number, spaced, code, Body, last, lit, Spells, none, step, encodeStep, encode, Valid}
 use Rattle.drat.proofs.Written.{encode-spells}
-use Rattle.drat.specs.Reading.{decimalFrom, lebFrom, endFrom, token, blankFrom, opening, whole, broken, consPart, body, got, fault, asStep, oneStep, steps, faultAt, consStep, stepsFrom, readProof}
+use Rattle.drat.specs.Reading.{digitsFrom, signedFrom, thenBlank, lebFrom, endFrom, lineFrom, token, blankFrom, opening, whole, broken, consPart, body, got, fault, asStep, oneStep, steps, faultAt, consStep, stepsFrom, readProof}
 use Rattle.drat.specs.declared.Kind.{Kind}
 use Rattle.drat.specs.declared.Kind.the-variants.{Add, Delete}
 use Rattle.drat.specs.declared.Format.{Format}
@@ -20,19 +21,19 @@ use Rattle.drat.specs.declared.Token.the-variants.{Lit, Stop, Bad}
 use Rattle.drat.specs.declared.Opening.the-variants.{Opens, Wrong}
 
 -- one decimal digit
-pub digit-read : (sign v d i : ℕ) (l : List ℕ) → d < 10 → 0 < 10 * v + d → 10 * v + d ≤ 4096 → decimalFrom sign v i ((48 + d) ∷ l) ≡ decimalFrom sign (10 * v + d) (i + 1) l
-unfolding decimalFrom
+pub digit-read : (sign v d i : ℕ) (l : List ℕ) → d < 10 → 0 < 10 * v + d → 10 * v + d ≤ 4096 → digitsFrom sign v i ((48 + d) ∷ l) ≡ digitsFrom sign (10 * v + d) (i + 1) l
+unfolding digitsFrom
 digit-read sign v d i l hd h0 h1 =
     let e : 48 + d - 48 ≡ d = omega arith in
-    simp (e, ne-eqb (48 + d) 32 (omega arith), le-ltb (48 + d) 48 (omega arith), le-ltb 57 (48 + d) (omega arith), ne-eqb (10 * v + d) 0 (omega arith), le-ltb 4096 (10 * v + d) h1)
+    simp (e, is-within 48 57 (48 + d) (omega arith) (omega arith), ne-eqb (10 * v + d) 0 (omega arith), le-ltb 4096 (10 * v + d) h1)
 
-pub decimal-read : {bs : List ℕ} {v : ℕ} → Numeral decimal bs v → v ≤ 4096 → (sign i : ℕ) (l : List ℕ) → decimalFrom sign 0 i (bs ++ l) ≡ decimalFrom sign v (i + length bs) l
-decimal-read (one {d = d} p q) h sign i l = digit-read sign 0 d i l q (omega arith) (omega arith) ∙ ap (λ (x : ℕ). decimalFrom sign x (i + 1) l) (omega arith)
+pub decimal-read : {bs : List ℕ} {v : ℕ} → Numeral decimal bs v → v ≤ 4096 → (sign i : ℕ) (l : List ℕ) → digitsFrom sign 0 i (bs ++ l) ≡ digitsFrom sign v (i + length bs) l
+decimal-read (one {d = d} p q) h sign i l = digit-read sign 0 d i l q (omega arith) (omega arith) ∙ ap (λ (x : ℕ). digitsFrom sign x (i + 1) l) (omega arith)
 decimal-read (more {d = d} {v = v} {bs = bs} p n) h sign i l =
-    ap (decimalFrom sign 0 i) (append-assoc bs ((48 + d) ∷ []) l)
+    ap (digitsFrom sign 0 i) (append-assoc bs ((48 + d) ∷ []) l)
     ∙ decimal-read n (omega arith) sign i ((48 + d) ∷ l)
     ∙ digit-read sign v d (i + length bs) l p (omega (arith, numeral-pos decimal n)) (omega arith)
-    ∙ ap₂ (λ (x j : ℕ). decimalFrom sign x j l) (omega arith) (simp length-append (omega arith))
+    ∙ ap₂ (λ (x j : ℕ). digitsFrom sign x j l) (omega arith) (simp length-append (omega arith))
 
 pub leb-read : {bs : List ℕ} {n : ℕ} → Numeral leb128 bs n → (v w i : ℕ) (l : List ℕ) → 0 < w → 2 ≤ v + w * n → v + w * n ≤ 8193 → lebFrom v w i (bs ++ l) ≡ Lit (v + w * n - 2) (i + length bs)
 unfolding lebFrom
@@ -44,9 +45,15 @@ leb-read (more {d = d} {v = x} {bs = bs} p n) v w i l hw h2 h =
     simp (e, le-ltb (128 + d) 128 (omega arith), le-ltb 64 w b)
     (leb-read n (v + w * d) (w * 128) (i + 1) l (omega arith) (omega arith) (omega arith) ∙ ap₂ Lit (omega arith) (omega arith))
 
-blank-read : (sign x i : ℕ) (l : List ℕ) → decimalFrom sign (x + 1) i (32 ∷ l) ≡ Lit (2 * x + sign) (i + 1)
-unfolding decimalFrom
-blank-read sign x i l = let e : x + 1 - 1 ≡ x = omega arith in simp (e, ne-eqb (x + 1) 0 (omega arith))
+-- no digit stands first
+abbrev pub Apart : List ℕ → Type 0
+Apart l = digit (getD l 0 0) ≡ false
+
+-- a run of digits ends before it
+run-read : (sign x i : ℕ) (l : List ℕ) → Apart l → digitsFrom sign (x + 1) i l ≡ Lit (2 * x + sign) i
+unfolding digitsFrom
+run-read sign x i [] h = let e : x + 1 - 1 ≡ x = omega arith in simp (e, ne-eqb (x + 1) 0 (omega arith))
+run-read sign x i (b ∷ l) h = let e : x + 1 - 1 ≡ x = omega arith in simp (h, e, ne-eqb (x + 1) 0 (omega arith))
 
 decimal-first : {bs : List ℕ} {v : ℕ} → Numeral decimal bs v → (b : ℕ) × (m : List ℕ) × (bs ≡ b ∷ m) × (49 ≤ b) × (b ≤ 57)
 decimal-first (one {d = d} p q) = (48 + d, [], refl, omega arith, omega arith)
@@ -56,49 +63,63 @@ leb-first : {bs : List ℕ} {v : ℕ} → Numeral leb128 bs v → (b : ℕ) × (
 leb-first (one {d = d} p q) = (d, [], refl, p)
 leb-first (more {d = d} {bs = bs} p n) = (128 + d, bs, refl, omega arith)
 
-decimal-token : {bs : List ℕ} {v : ℕ} → Numeral decimal bs v → (i : ℕ) (l : List ℕ) → token Text i (bs ++ l) ≡ decimalFrom 0 0 i (bs ++ l)
-unfolding token
-decimal-token n i l =
-    let f = decimal-first n in
-    rw (f .2) (simp (ne-eqb (f .0) 48 (omega arith), ne-eqb (f .0) 45 (omega arith)))
-
 leb-token : {bs : List ℕ} {v : ℕ} → Numeral leb128 bs v → (i : ℕ) (l : List ℕ) → token Binary i (bs ++ l) ≡ lebFrom 0 1 i (bs ++ l)
 unfolding token
 leb-token n i l = let f = leb-first n in rw (f .2) (simp (ne-eqb (f .0) 0 (omega arith)))
 
-signed-read : {bs : List ℕ} {x : ℕ} → x < 4096 → Numeral decimal bs (x + 1) → (sign i : ℕ) (l : List ℕ) → decimalFrom sign 0 i ((bs ++ 32 ∷ []) ++ l) ≡ Lit (2 * x + sign) (i + length (bs ++ 32 ∷ []))
-signed-read {bs} {x} h n sign i l =
-    ap (decimalFrom sign 0 i) (append-assoc bs (32 ∷ []) l)
-    ∙ decimal-read n (omega arith) sign i (32 ∷ l)
-    ∙ blank-read sign x (i + length bs) l
-    ∙ ap (Lit (2 * x + sign)) (simp length-append (omega arith))
+digits-read : {bs : List ℕ} {x : ℕ} → x < 4096 → Numeral decimal bs (x + 1) → (sign i : ℕ) (l : List ℕ) → Apart l
+    → digitsFrom sign 0 i (bs ++ l) ≡ Lit (2 * x + sign) (i + length bs)
+digits-read {bs} {x} h n sign i l a = decimal-read n (omega arith) sign i l ∙ run-read sign x (i + length bs) l a
 
-minus-token : (i : ℕ) (l : List ℕ) → token Text i (45 ∷ l) ≡ decimalFrom 1 0 (i + 1) l
-unfolding token
-minus-token i l = refl
+-- a number is read up to the byte after it
+pub signed-read : {bs : List ℕ} {c : ℕ} → Signed bs c → (i : ℕ) (l : List ℕ) → Apart l → signedFrom i (bs ++ l) ≡ Lit c (i + length bs)
+unfolding signedFrom
+signed-read (plus {bs = bs} {i = x} h n) i l a =
+    let f = decimal-first n in
+    let e : signedFrom i (bs ++ l) ≡ digitsFrom 0 0 i (bs ++ l) = rw (f .2) (simp (ne-eqb (f .0) 45 (omega arith))) in
+    e ∙ digits-read h n 0 i l a ∙ ap (λ (y : ℕ). Lit y (i + length bs)) (omega arith)
+signed-read (minus {bs = bs} {i = x} h n) i l a = digits-read h n 1 (i + 1) l a ∙ ap (Lit (2 * x + 1)) (omega arith)
+
+pub signed-first : {bs : List ℕ} {c : ℕ} → Signed bs c → (b : ℕ) × (m : List ℕ) × (bs ≡ b ∷ m) × (b < 100) × (b ≡ 48 → ⊥)
+signed-first (plus h n) = let f = decimal-first n in (f .0, f .1, f .2, omega arith, λ e. omega arith)
+signed-first (minus {bs = bs} h n) = (45, bs, refl, omega arith, λ e. omega arith)
+
+-- with its blank it stands on a line
+pub line-number : {bs : List ℕ} {c : ℕ} → Signed bs c → (i : ℕ) (l : List ℕ) → lineFrom i (bs ++ 32 ∷ l) ≡ Lit c (i + length bs + 1)
+unfolding lineFrom thenBlank
+line-number {bs} {c} n i l =
+    let f = signed-first n in
+    let k : i + length bs - i ≡ length bs + 0 = omega arith in
+    let b : getD (bs ++ 32 ∷ l) (i + length bs - i) 0 ≡ 32 = ap (λ (j : ℕ). getD (bs ++ 32 ∷ l) j 0) k ∙ getD-append-add bs (32 ∷ l) 0 0 in
+    let e : lineFrom i (bs ++ 32 ∷ l) ≡ thenBlank i (bs ++ 32 ∷ l) (signedFrom i (bs ++ 32 ∷ l)) = rw (f .2) (simp (ne-eqb (f .0) 48 (f .4))) in
+    e ∙ ap (thenBlank i (bs ++ 32 ∷ l)) (signed-read n i (32 ∷ l) refl) ∙ simp b
+
+pub text-line : (i : ℕ) (l : List ℕ) → token Text i l ≡ lineFrom i l
+unfolding token lineFrom
+text-line i [] = refl
+text-line i (b ∷ l) = refl
 
 -- a literal is read as one
 pub token-number : {f : Format} {bs : List ℕ} {c : ℕ} → Number f bs c → (i : ℕ) (l : List ℕ) → token f i (bs ++ l) ≡ Lit c (i + length bs)
-token-number (plus {bs = bs} {i = x} h n) i l =
+token-number (spaced {bs = bs} {c = c} n) i l =
     ap (token Text i) (append-assoc bs (32 ∷ []) l)
-    ∙ decimal-token n i (32 ∷ l)
-    ∙ sym (ap (decimalFrom 0 0 i) (append-assoc bs (32 ∷ []) l))
-    ∙ signed-read h n 0 i l
-    ∙ ap (λ (y : ℕ). Lit y (i + length (bs ++ 32 ∷ []))) (omega arith)
-token-number (minus {bs = bs} {i = x} h n) i l = minus-token i ((bs ++ 32 ∷ []) ++ l) ∙ signed-read h n 1 (i + 1) l ∙ ap (Lit (2 * x + 1)) (omega arith)
+    ∙ text-line i (bs ++ 32 ∷ l)
+    ∙ line-number n i l
+    ∙ ap (Lit c) (simp length-append (omega arith))
 token-number (code {bs = bs} {c = c} h n) i l =
     leb-token n i l ∙ leb-read n 0 1 i l (omega arith) (omega arith) (omega arith) ∙ ap (λ (y : ℕ). Lit y (i + length bs)) (omega arith)
 
 pub token-ends : (f : Format) (i : ℕ) (l : List ℕ) → token f i (ends f ++ l) ≡ Stop (i + length (ends f))
-unfolding token endFrom
+unfolding token lineFrom endFrom
 token-ends Text i l = ap Stop (omega arith)
 token-ends Binary i l = refl
 
 -- a text step's first byte after its opening is no `d`
 text-first : {bs cs : List ℕ} → Body Text bs cs → (b : ℕ) × (m : List ℕ) × (bs ≡ b ∷ m) × (b < 100)
 text-first last = (48, 10 ∷ [], refl, omega arith)
-text-first (lit {rest = r} (plus h n) t) = let f = decimal-first n in (f .0, (f .1 ++ 32 ∷ []) ++ r, ap (λ (m : List ℕ). (m ++ 32 ∷ []) ++ r) (f .2), omega arith)
-text-first (lit {rest = r} (minus {bs = bs} h n) t) = (45, (bs ++ 32 ∷ []) ++ r, refl, omega arith)
+text-first (lit {rest = r} (spaced n) t) =
+    let f = signed-first n in
+    (f .0, (f .1 ++ 32 ∷ []) ++ r, ap (λ (m : List ℕ). (m ++ 32 ∷ []) ++ r) (f .2), f .3)
 
 pub opening-read : (f : Format) (k : Kind) {bs cs : List ℕ} → Body f bs cs → (i : ℕ) (l : List ℕ) → opening f i ((opens f k ++ bs) ++ l) ≡ Opens k (i + length (opens f k))
 unfolding opening blankFrom
@@ -129,8 +150,7 @@ numeral-length : {bs : List ℕ} {v : ℕ} → Numeral leb128 bs v → 0 < lengt
 numeral-length n = let f = leb-first n in rw (f .2) (omega arith)
 
 pub number-length : {f : Format} {bs : List ℕ} {c : ℕ} → Number f bs c → 0 < length bs
-number-length (plus {bs = bs} h n) = simp length-append (omega arith)
-number-length (minus h n) = omega arith
+number-length (spaced n) = simp length-append (omega arith)
 number-length (code h n) = numeral-length n
 
 pub ends-length : (f : Format) → 0 < length (ends f)

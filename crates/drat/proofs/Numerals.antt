@@ -5,10 +5,24 @@ use mathlib.Core.List.{List}
 use mathlib.Core.Bool.{Bool, true, false}
 use native.Mathlib.Omega.{arith}
 use native.Mathlib.Nat.{mod-add-div, mod-lt, mod-eq-of-lt, div-lt-self, div-eq-of-lt, le-div-iff-mul-le, pos-of-div-pos, add-mul-div-left, add-mul-mod-self-left}
-use lib.Dec.{ltb}
-use borrow.Author.Tests.{ltb-true, ltb-false}
+use lib.Dec.{leb, ltb}
+use borrow.Author.Tests.{leb-true, le-leb, lt-leb, ltb-true, ltb-false}
+use Rattle.base.proofs.BelowLaws.{and-left, and-right, and-both, and-not-left, and-not-right}
 use Rattle.base.specs.Choice.{pick}
-use Rattle.drat.specs.Numeral.{Radix, Numeral, one, more, Digits, spell, further, bytesOf}
+use Rattle.drat.specs.Numeral.{within, Radix, Numeral, one, more, Digits, spell, further, bytesOf}
+
+-- a byte from lo to hi, and beside them
+pub within-is : (lo hi x : ℕ) → within lo hi x ≡ true → (lo ≤ x) × (x ≤ hi)
+within-is lo hi x e = (leb-true lo x (and-left (leb lo x) (leb x hi) e), leb-true x hi (and-right (leb lo x) (leb x hi) e))
+
+pub is-within : (lo hi x : ℕ) → lo ≤ x → x ≤ hi → within lo hi x ≡ true
+is-within lo hi x h k = and-both (le-leb lo x h) (le-leb x hi k)
+
+pub below-within : (lo hi x : ℕ) → x < lo → within lo hi x ≡ false
+below-within lo hi x h = and-not-left (leb lo x) (leb x hi) (lt-leb lo x h)
+
+pub above-within : (lo hi x : ℕ) → hi < x → within lo hi x ≡ false
+above-within lo hi x h = and-not-right (leb lo x) (leb x hi) (lt-leb x hi h)
 
 -- what is spelled by length is spelled by the grammar
 pub spell-numeral : (r : Radix) → 1 < r .base → (k n : ℕ) → Digits (r .base) k n → Numeral r (spell r k n) n

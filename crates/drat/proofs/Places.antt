@@ -6,22 +6,28 @@ use native.Mathlib.Omega.{arith}
 use lib.ListN.{length, getD, drop, length-append, length-drop, drop-of-length-le}
 use lib.Seq.{drop-drop, getD-drop}
 use Rattle.drat.specs.Grammar.{Step, opens, ends}
-use Rattle.drat.specs.Reading.{token, opening, Part, whole, broken, consPart, body, One, got, fault, asStep, oneStep, Proof, steps, faultAt, consStep, stepsFrom, readProof}
+use Rattle.drat.specs.Reading.{signedFrom, token, opening, Part, whole, broken, consPart, body, One, got, fault, asStep, oneStep, Proof, steps, faultAt, consStep, stepsFrom, readProof}
 use Rattle.drat.specs.declared.Kind.{Kind}
 use Rattle.drat.specs.declared.Format.{Format}
 use Rattle.drat.specs.declared.Token.{Token}
 use Rattle.drat.specs.declared.Token.the-variants.{Lit, Stop, Bad}
 use Rattle.drat.specs.declared.Opening.the-variants.{Opens, Wrong}
-use Rattle.drat.proofs.Complete.{number-length, body-length, ends-length, body-lit, body-stop, body-bad, one-opens, one-wrong, steps-got, steps-not}
+use Rattle.drat.proofs.Complete.{signed-first, number-length, body-length, ends-length, body-lit, body-stop, body-bad, one-opens, one-wrong, steps-got, steps-not}
 use Rattle.drat.proofs.Steps.{next}
-use Rattle.drat.proofs.Sound.{Bytes, token-sound, token-stop, opening-sound, step-sound}
+use Rattle.drat.proofs.Sound.{Bytes, signed-sound, token-sound, token-stop, opening-sound, step-sound}
 
 none-left : (f : Format) (n i : ℕ) → stepsFrom f n i [] ≡ steps []
 unfolding stepsFrom
 none-left f zero i = refl
 none-left f (suc n) i = refl
 
--- each token takes a byte
+-- each token takes a byte, and so does a number
+pub signed-moves : (i : ℕ) (l : List ℕ) (c j : ℕ) → signedFrom i l ≡ Lit c j → (i < j) × (j ≤ i + length l)
+signed-moves i l c j e =
+    let r = signed-sound i l c j e in
+    let f = signed-first (r .spelled) in
+    omega (arith, r .place, ap length (f .2), ap length (r .split) ∙ length-append (r .bytes) (r .rest))
+
 pub lit-moves : (f : Format) (i : ℕ) (l : List ℕ) (c j : ℕ) → Bytes l → token f i l ≡ Lit c j → (i < j) × (j ≤ i + length l)
 lit-moves f i l c j hb e =
     let r = token-sound f i l c j hb e in

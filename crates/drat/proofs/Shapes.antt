@@ -1,7 +1,7 @@
 -- The bytes of small numbers, digit by digit: decimal up to four digits, LEB128 up to two bytes; and their lengths by comparisons.
 use Prim.Native.Nat.{ℕ, suc, _+_, _*_, _/_, _%_, _≤_, _<_}
 use mathlib.Core.Path.{_≡_, refl, sym, ap, ap₂, _∙_}
-use mathlib.Core.List.{List, [], _∷_, _++_}
+use mathlib.Core.List.{List, [], _∷_, _++_, append-assoc}
 use mathlib.Core.Bool.{Bool, true, false}
 use mathlib.Core.Logic.{⊎-elim}
 use native.Mathlib.Omega.{arith}
@@ -93,9 +93,13 @@ sign-length c = go (eqb (c % 2) 0) refl
     go true e = sym (eqb-true (c % 2) 0 e)
     go false e = omega (arith, eqb-false (c % 2) 0 e)
 
-pub text-place : (c : ℕ) → length (number Text c) ≡ c % 2 + length (blanked (c / 2 + 1))
+-- the sign, then the digits and the blank
+text-parts : (c : ℕ) → number Text c ≡ sign c ++ blanked (c / 2 + 1)
 unfolding number
-text-place c = length-append (sign c) (blanked (c / 2 + 1)) ∙ ap (λ (k : ℕ). k + length (blanked (c / 2 + 1))) (sign-length c)
+text-parts c = append-assoc (sign c) (bytesOf decimal (c / 2 + 1)) (32 ∷ [])
+
+pub text-place : (c : ℕ) → length (number Text c) ≡ c % 2 + length (blanked (c / 2 + 1))
+text-place c = ap length (text-parts c) ∙ length-append (sign c) (blanked (c / 2 + 1)) ∙ ap (λ (k : ℕ). k + length (blanked (c / 2 + 1))) (sign-length c)
 
 pub text-length : (c : ℕ) → c < 8192 → length (number Text c) ≡ 2 + c % 2 + pick (leb 18 c) 1 0 + pick (leb 198 c) 1 0 + pick (leb 1998 c) 1 0
 text-length c h = text-place c ∙ omega (arith, blanked-length c h)
@@ -164,7 +168,6 @@ blanked-some n h = go (bytesOf decimal n)
     go (d ∷ ds) = (d, ds ++ 32 ∷ [], refl)
 
 pub text-sets : (o : List ℕ) (at c : ℕ) → sets (set o at 45) (at + c % 2) (blanked (c / 2 + 1)) ≡ sets o at (number Text c)
-unfolding number
 text-sets o at c =
     let s = blanked-some (c / 2 + 1) (omega arith) in
-    ap (sets (set o at 45) (at + c % 2)) (s .2) ∙ sign-sets o at c (s .0) (s .1) ∙ sym (ap (λ (l : List ℕ). sets o at (sign c ++ l)) (s .2))
+    ap (sets (set o at 45) (at + c % 2)) (s .2) ∙ sign-sets o at c (s .0) (s .1) ∙ sym (ap (λ (l : List ℕ). sets o at (sign c ++ l)) (s .2)) ∙ sym (ap (sets o at) (text-parts c))

@@ -9,9 +9,9 @@ use lib.ListN.{length, getD, drop, length-append}
 use lib.Seq.{drop-at, getD-append-add}
 use borrow.Author.Tests.{eqb-true, eqb-false, ltb-true, ltb-false}
 use Rattle.base.specs.Choice.{pick}
-use Rattle.drat.specs.Numeral.{decimal, leb128, Numeral, one, more}
-use Rattle.drat.specs.Grammar.{Step, stepOf, opens, ends, Number, plus, minus, code, Body, last, lit, Spells, none, step}
-use Rattle.drat.specs.Reading.{decimalFrom, lebFrom, endFrom, token, blankFrom, opening, Part, whole, broken, consPart, body, One, got, fault, asStep, oneStep, Proof, steps, faultAt, consStep, stepsFrom, readProof}
+use Rattle.drat.specs.Numeral.{digit, decimal, leb128, Numeral, one, more}
+use Rattle.drat.specs.Grammar.{Step, stepOf, opens, ends, Signed, plus, minus, Number, spaced, code, Body, last, lit, Spells, none, step}
+use Rattle.drat.specs.Reading.{numbered, withDigit, digitsFrom, signedFrom, thenBlank, lebFrom, endFrom, lineFrom, token, blankFrom, opening, Part, whole, broken, consPart, body, One, got, fault, asStep, oneStep, Proof, steps, faultAt, consStep, stepsFrom, readProof}
 use Rattle.drat.specs.declared.Kind.{Kind}
 use Rattle.drat.specs.declared.Kind.the-variants.{Add, Delete}
 use Rattle.drat.specs.declared.Format.{Format}
@@ -20,7 +20,8 @@ use Rattle.drat.specs.declared.Token.{Token}
 use Rattle.drat.specs.declared.Token.the-variants.{Lit, Stop, Bad}
 use Rattle.drat.specs.declared.Opening.{Opening}
 use Rattle.drat.specs.declared.Opening.the-variants.{Opens, Wrong}
-use Rattle.drat.proofs.Complete.{body-lit, body-stop, body-bad, one-opens, one-wrong, steps-got, steps-not}
+use Rattle.drat.proofs.Numerals.{within-is}
+use Rattle.drat.proofs.Complete.{text-line, body-lit, body-stop, body-bad, one-opens, one-wrong, steps-got, steps-not}
 
 abbrev pub Bytes : List ℕ → Type 0
 Bytes l = (k : ℕ) → getD l k 0 < 256
@@ -52,56 +53,115 @@ sofar-some : {p : List ℕ} {v : ℕ} → Sofar p v → 0 < v → Numeral decima
 sofar-some start h = absurd (omega arith)
 sofar-some (some n) h = n
 
-record DecimalRead (sign i : ℕ) (p l : List ℕ) (c j : ℕ) : Type 0 where
+-- digits that were read after p, up to a byte that is none
+record DigitsRead (sign i : ℕ) (p l : List ℕ) (c j : ℕ) : Type 0 where
   digits : List ℕ
   rest : List ℕ
   index : ℕ
-  split : l ≡ digits ++ 32 ∷ rest
+  split : l ≡ digits ++ rest
   spelled : Numeral decimal (p ++ digits) (index + 1)
   small : index < 4096
   isCode : c ≡ 2 * index + sign
-  place : j ≡ i + length digits + 1
+  place : j ≡ i + length digits
 
 lit-parts : (a b c d : ℕ) → Lit a b ≡ Lit c d → (a ≡ c) × (b ≡ d)
 lit-parts a b c d e = (cc, cc)
 
-decimal-sound : (sign : ℕ) (l : List ℕ) (v i c j : ℕ) (p : List ℕ) → Sofar p v → v ≤ 4096 → decimalFrom sign v i l ≡ Lit c j → DecimalRead sign i p l c j
-unfolding decimalFrom
-decimal-sound sign [] v i c j p s h e = absurd (lit-bad c j (sym e))
-decimal-sound sign (b ∷ l) v i c j p s h e = go (eqb b 32) refl e (decimal-sound sign l (10 * v + (b - 48)) (i + 1) c j)
+run-sound : (sign i : ℕ) (p l : List ℕ) (v c j : ℕ) → Sofar p v → v ≤ 4096 → numbered sign v i ≡ Lit c j → DigitsRead sign i p l c j
+run-sound sign i p l v c j s h e =
+    let z = not-bad (eqb v 0) (Lit (2 * (v - 1) + sign) i) (Lit c j) (lit-bad c j) e in
+    let nz = eqb-false v 0 (z .0) in
+    let q = lit-parts (2 * (v - 1) + sign) i c j (z .1) in
+    let n : Numeral decimal (p ++ []) (v - 1 + 1) =
+    subst₂ (λ (x : List ℕ) (y : ℕ). Numeral decimal x y) (sym (append-nil p)) (omega arith) (sofar-some s (omega arith)) in
+    record { digits = []; rest = l; index = v - 1; split = refl; spelled = n; small = omega arith; isCode = sym (q .0); place = omega arith }
+
+digits-sound : (sign : ℕ) (l : List ℕ) (v i c j : ℕ) (p : List ℕ) → Sofar p v → v ≤ 4096 → digitsFrom sign v i l ≡ Lit c j → DigitsRead sign i p l c j
+unfolding digitsFrom
+digits-sound sign [] v i c j p s h e = run-sound sign i p [] v c j s h e
+digits-sound sign (b ∷ l) v i c j p s h e = go (digit b) refl e (digits-sound sign l (withDigit v b) (i + 1) c j)
   where
-    go : (t : Bool) → eqb b 32 ≡ t
-        → pick t (pick (eqb v 0) Bad (Lit (2 * (v - 1) + sign) (i + 1))) (pick (ltb b 48) Bad (pick (ltb 57 b) Bad (pick (eqb (10 * v + (b - 48)) 0) Bad (pick (ltb 4096 (10 * v + (b - 48))) Bad (decimalFrom sign (10 * v + (b - 48)) (i + 1) l))))) ≡ Lit c j
-        → ((q : List ℕ) → Sofar q (10 * v + (b - 48)) → 10 * v + (b - 48) ≤ 4096 → decimalFrom sign (10 * v + (b - 48)) (i + 1) l ≡ Lit c j → DecimalRead sign (i + 1) q l c j)
-        → DecimalRead sign i p (b ∷ l) c j
+    go : (t : Bool) → digit b ≡ t
+        → pick t (pick (eqb (withDigit v b) 0) Bad (pick (ltb 4096 (withDigit v b)) Bad (digitsFrom sign (withDigit v b) (i + 1) l))) (numbered sign v i) ≡ Lit c j
+        → ((q : List ℕ) → Sofar q (withDigit v b) → withDigit v b ≤ 4096 → digitsFrom sign (withDigit v b) (i + 1) l ≡ Lit c j → DigitsRead sign (i + 1) q l c j)
+        → DigitsRead sign i p (b ∷ l) c j
     go true t e ih =
-        let z = not-bad (eqb v 0) (Lit (2 * (v - 1) + sign) (i + 1)) (Lit c j) (lit-bad c j) e in
-        let nz = eqb-false v 0 (z .0) in
-        let q = lit-parts (2 * (v - 1) + sign) (i + 1) c j (z .1) in
-        let n : Numeral decimal (p ++ []) (v - 1 + 1) = subst₂ (λ (x : List ℕ) (y : ℕ). Numeral decimal x y) (sym (append-nil p)) (omega arith) (sofar-some s (omega arith)) in
-        record { digits = []; rest = l; index = v - 1; split = ap (λ (x : ℕ). x ∷ l) (eqb-true b 32 t); spelled = n; small = omega arith; isCode = sym (q .0); place = omega arith }
-    go false t e ih =
-        let z₁ = not-bad (ltb b 48) _ (Lit c j) (lit-bad c j) e in
-        let z₂ = not-bad (ltb 57 b) _ (Lit c j) (lit-bad c j) (z₁ .1) in
-        let z₃ = not-bad (eqb (10 * v + (b - 48)) 0) _ (Lit c j) (lit-bad c j) (z₂ .1) in
-        let z₄ = not-bad (ltb 4096 (10 * v + (b - 48))) _ (Lit c j) (lit-bad c j) (z₃ .1) in
-        let h₁ = ltb-false b 48 (z₁ .0) in
-        let h₂ = ltb-false 57 b (z₂ .0) in
-        let h₃ = eqb-false (10 * v + (b - 48)) 0 (z₃ .0) in
-        let h₄ = ltb-false 4096 (10 * v + (b - 48)) (z₄ .0) in
+        let z₁ = not-bad (eqb (withDigit v b) 0) _ (Lit c j) (lit-bad c j) e in
+        let z₂ = not-bad (ltb 4096 (withDigit v b)) _ (Lit c j) (lit-bad c j) (z₁ .1) in
+        let (low, high) = within-is 48 57 b t in
+        let h₁ = eqb-false (withDigit v b) 0 (z₁ .0) in
+        let h₂ = ltb-false 4096 (withDigit v b) (z₂ .0) in
         let n = sofar-digit s (b - 48) (omega arith) (omega arith) in
         let eb : 48 + (b - 48) ≡ b = omega arith in
-        let r = ih (p ++ (48 + (b - 48)) ∷ []) (some n) h₄ (z₄ .1) in
+        let r = ih (p ++ (48 + (b - 48)) ∷ []) (some n) h₂ (z₂ .1) in
         record {
           digits = b ∷ r .digits;
           rest = r .rest;
           index = r .index;
           split = ap (λ (m : List ℕ). b ∷ m) (r .split);
-          spelled = subst (λ (m : List ℕ). Numeral decimal m (r .index + 1)) (append-assoc p ((48 + (b - 48)) ∷ []) (r .digits) ∙ ap (λ (x : ℕ). p ++ x ∷ r .digits) eb) (r .spelled);
+          spelled = subst (λ (m : List ℕ). Numeral decimal m (r .index + 1))
+              (append-assoc p ((48 + (b - 48)) ∷ []) (r .digits) ∙ ap (λ (x : ℕ). p ++ x ∷ r .digits) eb) (r .spelled);
           small = r .small;
           isCode = r .isCode;
           place = r .place ∙ omega arith;
         }
+    go false t e ih = run-sound sign i p (b ∷ l) v c j s h e
+
+-- a number that was read, and the place of the byte after it
+pub record SignedRead (i : ℕ) (l : List ℕ) (c j : ℕ) : Type 0 where
+  pub bytes : List ℕ
+  pub rest : List ℕ
+  pub split : l ≡ bytes ++ rest
+  pub spelled : Signed bytes c
+  pub place : j ≡ i + length bytes
+
+pub signed-sound : (i : ℕ) (l : List ℕ) (c j : ℕ) → signedFrom i l ≡ Lit c j → SignedRead i l c j
+unfolding signedFrom
+signed-sound i [] c j e = absurd (lit-bad c j (sym e))
+signed-sound i (b ∷ l) c j e = go (eqb b 45) refl e
+  where
+    go : (t : Bool) → eqb b 45 ≡ t → pick t (digitsFrom 1 0 (i + 1) l) (digitsFrom 0 0 i (b ∷ l)) ≡ Lit c j → SignedRead i (b ∷ l) c j
+    go true t e =
+        let r = digits-sound 1 l 0 (i + 1) c j [] start (omega arith) e in
+        record {
+          bytes = 45 ∷ r .digits;
+          rest = r .rest;
+          split = ap₂ (λ (x : ℕ) (m : List ℕ). x ∷ m) (eqb-true b 45 t) (r .split);
+          spelled = subst (Signed (45 ∷ r .digits)) (sym (r .isCode)) (minus (r .small) (r .spelled));
+          place = r .place ∙ omega arith;
+        }
+    go false t e =
+        let r = digits-sound 0 (b ∷ l) 0 i c j [] start (omega arith) e in
+        let ec : 2 * r .index ≡ c = omega (arith, r .isCode) in
+        record { bytes = r .digits; rest = r .rest; split = r .split; spelled = subst (Signed (r .digits)) ec (plus (r .small) (r .spelled)); place = r .place }
+
+-- with the blank after it
+pub blank-read : (i : ℕ) (l : List ℕ) (t : Token) (c j : ℕ) → thenBlank i l t ≡ Lit c j → (k : ℕ) × (t ≡ Lit c k) × (j ≡ k + 1) × (getD l (k - i) 0 ≡ 32)
+unfolding thenBlank
+blank-read i l (Lit d k) c j e = go (eqb (getD l (k - i) 0) 32) refl e
+  where
+    go : (u : Bool) → eqb (getD l (k - i) 0) 32 ≡ u → pick u (Lit d (k + 1)) Bad ≡ Lit c j
+        → (k′ : ℕ) × (Lit d k ≡ Lit c k′) × (j ≡ k′ + 1) × (getD l (k′ - i) 0 ≡ 32)
+    go true u e = let q = lit-parts d (k + 1) c j e in (k, ap (λ (x : ℕ). Lit x k) (q .0), sym (q .1), eqb-true _ 32 u)
+    go false u e = absurd (lit-bad c j (sym e))
+blank-read i l (Stop k) c j e = absurd (lit-bad c j (sym e))
+blank-read i l Bad c j e = absurd (lit-bad c j (sym e))
+
+first-is : (l : List ℕ) (b : ℕ) → 0 < b → getD l 0 0 ≡ b → (m : List ℕ) × (l ≡ b ∷ m)
+first-is [] b h e = absurd (omega arith)
+first-is (x ∷ m) b h e = (m, ap (λ (y : ℕ). y ∷ m) e)
+
+spaced-sound : (i : ℕ) (l : List ℕ) (c j : ℕ) → thenBlank i l (signedFrom i l) ≡ Lit c j
+    → (bs : List ℕ) × (m : List ℕ) × Signed bs c × (l ≡ bs ++ 32 ∷ m) × (j ≡ i + length bs + 1)
+spaced-sound i l c j e =
+    let q = blank-read i l (signedFrom i l) c j e in
+    let k = q .0 in
+    let r = signed-sound i l c k (q .1) in
+    let p : k - i ≡ length (r .bytes) + 0 = omega (arith, r .place) in
+    let b : getD (r .rest) 0 0 ≡ 32 =
+    sym (getD-append-add (r .bytes) (r .rest) 0 0) ∙ sym (ap₂ (λ (x : List ℕ) (n : ℕ). getD x n 0) (r .split) p) ∙ q .3 in
+    let f = first-is (r .rest) 32 (omega arith) b in
+    (r .bytes, f .0, r .spelled, r .split ∙ ap (λ (x : List ℕ). r .bytes ++ x) (f .1), omega (arith, r .place, q .2))
 
 record LebRead (v w i : ℕ) (l : List ℕ) (c j : ℕ) : Type 0 where
   bytes : List ℕ
@@ -156,9 +216,6 @@ pub record LitRead (f : Format) (i : ℕ) (l : List ℕ) (c j : ℕ) : Type 0 wh
   pub spelled : Number f bytes c
   pub place : j ≡ i + length bytes
 
-decimal-lit : (sign i : ℕ) (l : List ℕ) (c j : ℕ) → decimalFrom sign 0 i l ≡ Lit c j → DecimalRead sign i [] l c j
-decimal-lit sign i l c j e = decimal-sound sign l 0 i c j [] start (omega arith) e
-
 no-lit-end : (i : ℕ) (l : List ℕ) (c j : ℕ) → endFrom i l ≡ Lit c j → ⊥
 unfolding endFrom
 no-lit-end i [] c j e = lit-bad c j (sym e)
@@ -168,33 +225,30 @@ no-lit-end i (b ∷ l) c j e = go (eqb b 10) e
     go true e = lit-stop c j (i + 1) (sym e)
     go false e = lit-bad c j (sym e)
 
+-- a number and its blank on a line
+pub line-sound : (i : ℕ) (l : List ℕ) (c j : ℕ) → lineFrom i l ≡ Lit c j
+    → (bs : List ℕ) × (m : List ℕ) × Signed bs c × (l ≡ bs ++ 32 ∷ m) × (j ≡ i + length bs + 1)
+unfolding lineFrom
+line-sound i [] c j e = absurd (lit-bad c j (sym e))
+line-sound i (b ∷ l) c j e = go (eqb b 48) e
+  where
+    go : (t : Bool) → pick t (endFrom (i + 1) l) (thenBlank i (b ∷ l) (signedFrom i (b ∷ l))) ≡ Lit c j
+        → (bs : List ℕ) × (m : List ℕ) × Signed bs c × (b ∷ l ≡ bs ++ 32 ∷ m) × (j ≡ i + length bs + 1)
+    go true e = absurd (no-lit-end (i + 1) l c j e)
+    go false e = spaced-sound i (b ∷ l) c j e
+
 pub token-sound : (f : Format) (i : ℕ) (l : List ℕ) (c j : ℕ) → Bytes l → token f i l ≡ Lit c j → LitRead f i l c j
 unfolding token
-token-sound Text i [] c j hb e = absurd (lit-bad c j (sym e))
+token-sound Text i l c j hb e =
+    let r = line-sound i l c j (sym (text-line i l) ∙ e) in
+    record {
+      bytes = r .0 ++ 32 ∷ [];
+      rest = r .1;
+      split = r .3 ∙ sym (append-assoc (r .0) (32 ∷ []) (r .1));
+      spelled = spaced (r .2);
+      place = r .4 ∙ simp length-append (omega arith);
+    }
 token-sound Binary i [] c j hb e = absurd (lit-bad c j (sym e))
-token-sound Text i (b ∷ l) c j hb e = go (eqb b 48) refl (eqb b 45) refl e
-  where
-    go : (t : Bool) → eqb b 48 ≡ t → (u : Bool) → eqb b 45 ≡ u → pick t (endFrom (i + 1) l) (pick u (decimalFrom 1 0 (i + 1) l) (decimalFrom 0 0 i (b ∷ l))) ≡ Lit c j → LitRead Text i (b ∷ l) c j
-    go true _ u _ e = absurd (no-lit-end (i + 1) l c j e)
-    go false _ true h e =
-        let r = decimal-lit 1 (i + 1) l c j e in
-        record {
-          bytes = 45 ∷ r .digits ++ 32 ∷ [];
-          rest = r .rest;
-          split = ap₂ (λ (x : ℕ) (m : List ℕ). x ∷ m) (eqb-true b 45 h) (r .split ∙ sym (append-assoc (r .digits) (32 ∷ []) (r .rest)));
-          spelled = subst (λ (x : ℕ). Number Text (45 ∷ r .digits ++ 32 ∷ []) x) (sym (r .isCode)) (minus (r .small) (r .spelled));
-          place = r .place ∙ simp length-append (omega arith);
-        }
-    go false _ false h e =
-        let r = decimal-lit 0 i (b ∷ l) c j e in
-        let ec : 2 * r .index ≡ c = omega (arith, r .isCode) in
-        record {
-          bytes = r .digits ++ 32 ∷ [];
-          rest = r .rest;
-          split = r .split ∙ sym (append-assoc (r .digits) (32 ∷ []) (r .rest));
-          spelled = subst (λ (x : ℕ). Number Text (r .digits ++ 32 ∷ []) x) ec (plus (r .small) (r .spelled));
-          place = r .place ∙ simp length-append (omega arith);
-        }
 token-sound Binary i (b ∷ l) c j hb e = go (eqb b 0) e
   where
     go : (t : Bool) → pick t (Stop (i + 1)) (lebFrom 0 1 i (b ∷ l)) ≡ Lit c j → LitRead Binary i (b ∷ l) c j
@@ -205,20 +259,15 @@ token-sound Binary i (b ∷ l) c j hb e = go (eqb b 0) e
         record { bytes = r .bytes; rest = r .rest; split = r .split; spelled = code {c = c} (omega (arith, r .isCode, r .small)) (subst (λ (x : ℕ). Numeral leb128 (r .bytes) x) en (r .spelled)); place = r .place }
 
 -- a step's end that was read
-decimal-no-stop : (sign : ℕ) (l : List ℕ) (v i j : ℕ) → decimalFrom sign v i l ≡ Stop j → ⊥
-unfolding decimalFrom
-decimal-no-stop sign [] v i j e = stop-bad j (sym e)
-decimal-no-stop sign (b ∷ l) v i j e = go (eqb b 32) e (decimal-no-stop sign l (10 * v + (b - 48)) (i + 1) j)
+blank-no-stop : (i : ℕ) (l : List ℕ) (t : Token) (j : ℕ) → thenBlank i l t ≡ Stop j → ⊥
+unfolding thenBlank
+blank-no-stop i l (Lit c k) j e = go (eqb (getD l (k - i) 0) 32) e
   where
-    go : (t : Bool)
-        → pick t (pick (eqb v 0) Bad (Lit (2 * (v - 1) + sign) (i + 1))) (pick (ltb b 48) Bad (pick (ltb 57 b) Bad (pick (eqb (10 * v + (b - 48)) 0) Bad (pick (ltb 4096 (10 * v + (b - 48))) Bad (decimalFrom sign (10 * v + (b - 48)) (i + 1) l))))) ≡ Stop j
-        → (decimalFrom sign (10 * v + (b - 48)) (i + 1) l ≡ Stop j → ⊥) → ⊥
-    go true e ih = lit-stop _ _ j (not-bad (eqb v 0) _ (Stop j) (stop-bad j) e .1)
-    go false e ih =
-        let z₁ = not-bad (ltb b 48) _ (Stop j) (stop-bad j) e in
-        let z₂ = not-bad (ltb 57 b) _ (Stop j) (stop-bad j) (z₁ .1) in
-        let z₃ = not-bad (eqb (10 * v + (b - 48)) 0) _ (Stop j) (stop-bad j) (z₂ .1) in
-        ih (not-bad (ltb 4096 (10 * v + (b - 48))) _ (Stop j) (stop-bad j) (z₃ .1) .1)
+    go : (u : Bool) → pick u (Lit c (k + 1)) Bad ≡ Stop j → ⊥
+    go true e = lit-stop c (k + 1) j e
+    go false e = stop-bad j (sym e)
+blank-no-stop i l (Stop k) j e = stop-bad j (sym e)
+blank-no-stop i l Bad j e = stop-bad j (sym e)
 
 leb-no-stop : (l : List ℕ) (v w i j : ℕ) → lebFrom v w i l ≡ Stop j → ⊥
 unfolding lebFrom
@@ -251,16 +300,21 @@ end-sound i (b ∷ l) j e = go (eqb b 10) refl e
     go true t e = (l, ap (λ (x : ℕ). x ∷ l) (eqb-true b 10 t), sym (stop-part (i + 1) j e))
     go false t e = absurd (stop-bad j (sym e))
 
+pub line-stop : (i : ℕ) (l : List ℕ) (j : ℕ) → lineFrom i l ≡ Stop j → EndRead Text i l j
+unfolding lineFrom
+line-stop i [] j e = absurd (stop-bad j (sym e))
+line-stop i (b ∷ l) j e = go (eqb b 48) refl e
+  where
+    go : (t : Bool) → eqb b 48 ≡ t → pick t (endFrom (i + 1) l) (thenBlank i (b ∷ l) (signedFrom i (b ∷ l))) ≡ Stop j → EndRead Text i (b ∷ l) j
+    go true h e =
+        let r = end-sound (i + 1) l j e in
+        record { rest = r .0; split = ap₂ (λ (x : ℕ) (m : List ℕ). x ∷ m) (eqb-true b 48 h) (r .1); place = r .2 ∙ omega arith }
+    go false h e = absurd (blank-no-stop i (b ∷ l) (signedFrom i (b ∷ l)) j e)
+
 pub token-stop : (f : Format) (i : ℕ) (l : List ℕ) (j : ℕ) → token f i l ≡ Stop j → EndRead f i l j
 unfolding token
-token-stop Text i [] j e = absurd (stop-bad j (sym e))
+token-stop Text i l j e = line-stop i l j (sym (text-line i l) ∙ e)
 token-stop Binary i [] j e = absurd (stop-bad j (sym e))
-token-stop Text i (b ∷ l) j e = go (eqb b 48) refl (eqb b 45) e
-  where
-    go : (t : Bool) → eqb b 48 ≡ t → (u : Bool) → pick t (endFrom (i + 1) l) (pick u (decimalFrom 1 0 (i + 1) l) (decimalFrom 0 0 i (b ∷ l))) ≡ Stop j → EndRead Text i (b ∷ l) j
-    go true h u e = let r = end-sound (i + 1) l j e in record { rest = r .0; split = ap₂ (λ (x : ℕ) (m : List ℕ). x ∷ m) (eqb-true b 48 h) (r .1); place = r .2 ∙ omega arith }
-    go false h true e = absurd (decimal-no-stop 1 l 0 (i + 1) j e)
-    go false h false e = absurd (decimal-no-stop 0 (b ∷ l) 0 i j e)
 token-stop Binary i (b ∷ l) j e = go (eqb b 0) refl e
   where
     go : (t : Bool) → eqb b 0 ≡ t → pick t (Stop (i + 1)) (lebFrom 0 1 i (b ∷ l)) ≡ Stop j → EndRead Binary i (b ∷ l) j

@@ -7,22 +7,28 @@ use native.Mathlib.Omega.{arith}
 use lib.Dec.{eqb}
 use borrow.Author.Tests.{eqb-true, eqb-false}
 use Rattle.base.specs.Choice.{pick}
-use Rattle.drat.specs.Numeral.{decimal, leb128, bytesOf}
-use Rattle.drat.specs.Grammar.{Step, ends, Number, plus, minus, code, Body, last, lit, Spells, none, step, blanked, number, numbers, encodeStep, encode, Codes, Valid}
+use Rattle.drat.specs.Numeral.{decimal, leb128, Numeral, bytesOf}
+use Rattle.drat.specs.Grammar.{Step, ends, Signed, plus, minus, Number, spaced, code, Body, last, lit, Spells, none, step, signed, number, numbers, encodeStep, encode, Codes, Valid}
 use Rattle.drat.specs.declared.Format.{Format}
 use Rattle.drat.specs.declared.Format.the-variants.{Text, Binary}
 use Rattle.drat.proofs.Numerals.{bytes-numeral}
 
+pub signed-spelled : (c : ℕ) → c < 8192 → Signed (signed c) c
+signed-spelled c h = go (eqb (c % 2) 0) refl
+  where
+    small : c / 2 < 4096
+    small = omega arith
+
+    digits : Numeral decimal (bytesOf decimal (c / 2 + 1)) (c / 2 + 1)
+    digits = bytes-numeral decimal (omega arith) (c / 2 + 1) (omega arith)
+
+    go : (t : Bool) → eqb (c % 2) 0 ≡ t → Signed (pick t [] (45 ∷ []) ++ bytesOf decimal (c / 2 + 1)) c
+    go true e = subst (Signed (bytesOf decimal (c / 2 + 1))) (omega (arith, eqb-true (c % 2) 0 e)) (plus small digits)
+    go false e = subst (Signed (45 ∷ bytesOf decimal (c / 2 + 1))) (omega (arith, eqb-false (c % 2) 0 e)) (minus small digits)
+
 pub number-spelled : (f : Format) (c : ℕ) → c < 8192 → Number f (number f c) c
 unfolding number
-number-spelled Text c h = go (eqb (c % 2) 0) refl
-  where
-    h' : c / 2 < 4096
-    h' = omega arith
-
-    go : (t : Bool) → eqb (c % 2) 0 ≡ t → Number Text (pick t [] (45 ∷ []) ++ blanked (c / 2 + 1)) c
-    go true e = subst (λ (x : ℕ). Number Text (bytesOf decimal (c / 2 + 1) ++ 32 ∷ []) x) (omega (arith, eqb-true (c % 2) 0 e)) (plus h' (bytes-numeral decimal (omega arith) (c / 2 + 1) (omega arith)))
-    go false e = subst (λ (x : ℕ). Number Text (45 ∷ bytesOf decimal (c / 2 + 1) ++ 32 ∷ []) x) (omega (arith, eqb-false (c % 2) 0 e)) (minus h' (bytes-numeral decimal (omega arith) (c / 2 + 1) (omega arith)))
+number-spelled Text c h = spaced (signed-spelled c h)
 number-spelled Binary c h = code h (bytes-numeral leb128 (omega arith) (c + 2) (omega arith))
 
 pub body-spelled : (f : Format) (cs : List ℕ) → Codes cs → Body f (numbers f cs ++ ends f) cs

@@ -30,10 +30,14 @@ abbrev pub ends : Format → List ℕ
 ends Text = 48 ∷ 10 ∷ []
 ends Binary = 0 ∷ []
 
--- The bytes of one literal, the blank after a decimal number among them, and its code.
+-- The DIMACS number of a literal, a minus before a negative one, and the literal's code.
+pub data Signed : List ℕ → ℕ → Type 0 where
+  plus : {bs : List ℕ} {i : ℕ} → i < 4096 → Numeral decimal bs (i + 1) → Signed bs (2 * i)
+  minus : {bs : List ℕ} {i : ℕ} → i < 4096 → Numeral decimal bs (i + 1) → Signed (45 ∷ bs) (2 * i + 1)
+
+-- The bytes of one literal and its code: its number and a blank; LEB128.
 pub data Number : Format → List ℕ → ℕ → Type 0 where
-  plus : {bs : List ℕ} {i : ℕ} → i < 4096 → Numeral decimal bs (i + 1) → Number Text (bs ++ 32 ∷ []) (2 * i)
-  minus : {bs : List ℕ} {i : ℕ} → i < 4096 → Numeral decimal bs (i + 1) → Number Text (45 ∷ bs ++ 32 ∷ []) (2 * i + 1)
+  spaced : {bs : List ℕ} {c : ℕ} → Signed bs c → Number Text (bs ++ 32 ∷ []) c
   code : {bs : List ℕ} {c : ℕ} → c < 8192 → Numeral leb128 bs (c + 2) → Number Binary bs c
 
 -- The bytes of a step's literals and of its end.
@@ -46,16 +50,19 @@ pub data Spells (f : Format) : List ℕ → List Step → Type 0 where
   none : Spells f [] []
   step : {bs rest cs : List ℕ} {ss : List Step} (k : Kind) → Body f bs cs → Spells f rest ss → Spells f ((opens f k ++ bs) ++ rest) (stepOf k cs ∷ ss)
 
--- A negative literal's minus; a number with a blank after it.
+-- A negative literal's minus; a literal's DIMACS number in decimal; any number with a blank after it.
 abbrev pub sign : ℕ → List ℕ
 sign c = pick (eqb (c % 2) 0) [] (45 ∷ [])
+
+abbrev pub signed : ℕ → List ℕ
+signed c = sign c ++ bytesOf decimal (c / 2 + 1)
 
 abbrev pub blanked : ℕ → List ℕ
 blanked n = bytesOf decimal n ++ 32 ∷ []
 
--- What is written for a literal code: its DIMACS number in decimal; the code + 2 in LEB128.
+-- What is written for a literal code: its number and a blank; the code + 2 in LEB128.
 unfoldable pub number : Format → ℕ → List ℕ
-number Text c = sign c ++ blanked (c / 2 + 1)
+number Text c = signed c ++ 32 ∷ []
 number Binary c = bytesOf leb128 (c + 2)
 
 unfoldable pub numbers : Format → List ℕ → List ℕ

@@ -1,8 +1,16 @@
 -- Numbers as digits: decimal and LEB128 are one definition over a radix.
 use Prim.Native.Nat.{ℕ, zero, suc, _+_, _*_, _/_, _%_, _<_}
+use mathlib.Core.Bool.{Bool, _&&_}
 use mathlib.Core.List.{List, [], _∷_, _++_}
-use lib.Dec.{ltb}
+use lib.Dec.{leb, ltb}
 use Rattle.base.specs.Choice.{pick}
+
+-- A byte from lo to hi; a decimal digit.
+abbrev pub within : ℕ → ℕ → ℕ → Bool
+within lo hi x = leb lo x && leb x hi
+
+abbrev pub digit : ℕ → Bool
+digit x = within 48 57 x
 
 -- A way to write digits: the base, the bytes of a number's highest digit, and the bytes of a number with one digit d below those of bs.
 pub record Radix : Type 0 where

@@ -2,8 +2,9 @@
 use Prim.Native.Nat.{ℕ, zero, suc, _+_, _-_, _*_}
 use mathlib.Core.List.{List, [], _∷_}
 use lib.Dec.{eqb, ltb}
-use lib.ListN.{length, drop}
+use lib.ListN.{length, getD, drop}
 use Rattle.base.specs.Choice.{pick}
+use Rattle.drat.specs.Numeral.{digit}
 use Rattle.drat.specs.Grammar.{Step, stepOf}
 use Rattle.drat.specs.declared.Kind.{Kind}
 use Rattle.drat.specs.declared.Kind.the-variants.{Add, Delete}
@@ -15,14 +16,32 @@ use Rattle.drat.specs.declared.Opening.{Opening}
 use Rattle.drat.specs.declared.Opening.the-variants.{Opens, Wrong}
 
 -- In each of these i is a place of the input and l the input from there on.
--- Decimal digits, with the value v of those before and the sign; then a blank.
-unfoldable pub decimalFrom : ℕ → ℕ → ℕ → List ℕ → Token
-decimalFrom sign v i [] = Bad
-decimalFrom sign v i (b ∷ l) =
-    pick (eqb b 32) (pick (eqb v 0) Bad (Lit (2 * (v - 1) + sign) (i + 1)))
-    (pick (ltb b 48) Bad (pick (ltb 57 b) Bad
-    (pick (eqb (10 * v + (b - 48)) 0) Bad
-    (pick (ltb 4096 (10 * v + (b - 48))) Bad (decimalFrom sign (10 * v + (b - 48)) (i + 1) l)))))
+-- The literal whose number is v; 0 is no number.
+abbrev pub numbered : ℕ → ℕ → ℕ → Token
+numbered sign v i = pick (eqb v 0) Bad (Lit (2 * (v - 1) + sign) i)
+
+-- A digit b after the digits of v.
+abbrev pub withDigit : ℕ → ℕ → ℕ
+withDigit v b = 10 * v + (b - 48)
+
+-- The longest run of decimal digits, with the value v of those before and the sign: a literal, and the place of the byte after the run.
+unfoldable pub digitsFrom : ℕ → ℕ → ℕ → List ℕ → Token
+digitsFrom sign v i [] = numbered sign v i
+digitsFrom sign v i (b ∷ l) =
+    pick (digit b)
+    (pick (eqb (withDigit v b) 0) Bad (pick (ltb 4096 (withDigit v b)) Bad (digitsFrom sign (withDigit v b) (i + 1) l)))
+    (numbered sign v i)
+
+-- A literal's number: an optional minus, and such a run.
+unfoldable pub signedFrom : ℕ → List ℕ → Token
+signedFrom i [] = Bad
+signedFrom i (b ∷ l) = pick (eqb b 45) (digitsFrom 1 0 (i + 1) l) (digitsFrom 0 0 i (b ∷ l))
+
+-- The blank after it.
+unfoldable pub thenBlank : ℕ → List ℕ → Token → Token
+thenBlank i l (Lit c j) = pick (eqb (getD l (j - i) 0) 32) (Lit c (j + 1)) Bad
+thenBlank i l (Stop j) = Bad
+thenBlank i l Bad = Bad
 
 -- LEB128 bytes, with the value v of those before, and the weight w of the next.
 unfoldable pub lebFrom : ℕ → ℕ → ℕ → List ℕ → Token
@@ -32,15 +51,20 @@ lebFrom v w i (b ∷ l) =
     (pick (eqb b 0) Bad (pick (ltb (v + w * b) 2) Bad (pick (ltb 8193 (v + w * b)) Bad (Lit (v + w * b - 2) (i + 1)))))
     (pick (ltb 64 w) Bad (lebFrom (v + w * (b - 128)) (w * 128) (i + 1) l))
 
--- The line feed that ends a text step.
+-- The line feed that ends a line.
 unfoldable pub endFrom : ℕ → List ℕ → Token
 endFrom i [] = Bad
 endFrom i (b ∷ l) = pick (eqb b 10) (Stop (i + 1)) Bad
 
+-- What stands at place i of a line: a number and the blank after it, or `0` and the line feed.
+unfoldable pub lineFrom : ℕ → List ℕ → Token
+lineFrom i [] = Bad
+lineFrom i (b ∷ l) = pick (eqb b 48) (endFrom (i + 1) l) (thenBlank i (b ∷ l) (signedFrom i (b ∷ l)))
+
 -- What stands at place i of a step.
 unfoldable pub token : Format → ℕ → List ℕ → Token
 token f i [] = Bad
-token Text i (b ∷ l) = pick (eqb b 48) (endFrom (i + 1) l) (pick (eqb b 45) (decimalFrom 1 0 (i + 1) l) (decimalFrom 0 0 i (b ∷ l)))
+token Text i (b ∷ l) = lineFrom i (b ∷ l)
 token Binary i (b ∷ l) = pick (eqb b 0) (Stop (i + 1)) (lebFrom 0 1 i (b ∷ l))
 
 -- The blank after a text step's `d`.

@@ -9,16 +9,16 @@ use lib.Dec.{eqb, ltb}
 use native.Mathlib.Omega.{arith}
 use borrow.Author.Tests.{ne-eqb, eqb-true, eqb-false, ltb-true, ltb-false}
 use Rattle.base.proofs.BelowLaws.{and-not-left, and-not-right}
-use Rattle.drat.proofs.Numerals.{numeral-pos}
+use Rattle.drat.proofs.Numerals.{numeral-pos, within-is, is-within}
 use Rattle.drat.proofs.Sound.{Bytes}
-use Rattle.drat.specs.Grammar.{Step, stepOf, opens, ends, Number, plus, minus, code, Body, last, lit, Spells, none, step}
-use Rattle.drat.specs.Numeral.{decimal, leb128, Numeral, one, more}
+use Rattle.drat.specs.Grammar.{Step, stepOf, opens, ends, Signed, plus, minus, Number, spaced, code, Body, last, lit, Spells, none, step}
+use Rattle.drat.specs.Numeral.{digit, decimal, leb128, Numeral, one, more}
 use Rattle.drat.specs.declared.Format.the-variants.{Text, Binary}
 use Rattle.drat.specs.declared.Format.{Format}
 use Rattle.drat.specs.declared.Kind.the-variants.{Add, Delete}
 use Rattle.drat.specs.declared.Kind.{Kind}
-use Rattle.drat_judge.specs.Local.{digit, closing, over, mayFollow, runs, judged}
-use Rattle.drat_judge.proofs.NextLaws.{within-is, is-within, runs-cons, runs-end, First, closes, negative, begins, blank-next, line-next, minus-next, d-next, zero-next, digit-next, no-fifth, fourth-small, start-next, inside-next, second-next}
+use Rattle.drat_judge.specs.Local.{closing, over, mayFollow, runs, judged}
+use Rattle.drat_judge.proofs.NextLaws.{runs-cons, runs-end, First, closes, negative, begins, blank-next, line-next, minus-next, d-next, zero-next, digit-next, no-fifth, fourth-small, start-next, inside-next, second-next}
 
 -- l spells steps
 pub record StepsHere (f : Format) (l : List ℕ) : Type 0 where
@@ -66,15 +66,16 @@ with-number f bs l c n b =
       then = b .then;
     }
 
+with-signed : (bs l : List ℕ) (c : ℕ) → Signed bs c → BodyHere Text l → BodyHere Text (bs ++ 32 ∷ l)
+with-signed bs l c n b = subst (BodyHere Text) (append-assoc bs (32 ∷ []) l) (with-number Text (bs ++ 32 ∷ []) l c (spaced n) b)
+
 positive : (l : List ℕ) → NumberHere [] l → BodyHere Text l
-positive l n =
-    subst (BodyHere Text) (append-assoc (n .digits) (32 ∷ []) (n .rest) ∙ sym (n .split))
-    (with-number Text (n .digits ++ 32 ∷ []) (n .rest) (2 * n .index) (plus (n .small) (n .spelled)) (n .then))
+positive l n = subst (BodyHere Text) (sym (n .split)) (with-signed (n .digits) (n .rest) (2 * n .index) (plus (n .small) (n .spelled)) (n .then))
 
 negated : (l : List ℕ) → NumberHere [] l → BodyHere Text (45 ∷ l)
 negated l n =
-    subst (BodyHere Text) (ap (λ (m : List ℕ). 45 ∷ m) (append-assoc (n .digits) (32 ∷ []) (n .rest) ∙ sym (n .split)))
-    (with-number Text (45 ∷ n .digits ++ 32 ∷ []) (n .rest) (2 * n .index + 1) (minus (n .small) (n .spelled)) (n .then))
+    subst (BodyHere Text) (ap (λ (m : List ℕ). 45 ∷ m) (sym (n .split)))
+    (with-signed (45 ∷ n .digits) (n .rest) (2 * n .index + 1) (minus (n .small) (n .spelled)) (n .then))
 
 with-digit : (ds : List ℕ) (x : ℕ) (l : List ℕ) → NumberHere (ds ++ x ∷ []) l → NumberHere ds (x ∷ l)
 with-digit ds x l n =

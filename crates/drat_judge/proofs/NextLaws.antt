@@ -6,17 +6,13 @@ use mathlib.Core.Logic.{_⊎_, inl, inr}
 use mathlib.Core.Path.{_≡_, refl, sym}
 use lib.Dec.{eqb, leb, ltb}
 use native.Mathlib.Omega.{arith}
-use borrow.Author.Tests.{leb-true, leb-false, ltb-true, ltb-false, eqb-true, eqb-false, le-leb, lt-ltb, le-ltb, ne-eqb, not-true}
-use Rattle.base.proofs.BelowLaws.{and-left, and-right, and-both}
+use borrow.Author.Tests.{leb-true, leb-false, ltb-true, ltb-false, eqb-true, eqb-false, lt-ltb, le-ltb, ne-eqb, not-true}
+use Rattle.base.proofs.BelowLaws.{and-left, and-right}
 use Rattle.base.specs.Choice.{pick}
+use Rattle.drat.proofs.Numerals.{within-is, is-within}
+use Rattle.drat.specs.Numeral.{within, digit}
 use Rattle.drat.specs.declared.Format.{Format}
-use Rattle.drat_judge.specs.Local.{mark, within, digit, closing, over, textNext, binaryNext, mayFollow, runs}
-
-pub within-is : (lo hi x : ℕ) → within lo hi x ≡ true → (lo ≤ x) × (x ≤ hi)
-within-is lo hi x e = (leb-true lo x (and-left (leb lo x) (leb x hi) e), leb-true x hi (and-right (leb lo x) (leb x hi) e))
-
-pub is-within : (lo hi x : ℕ) → lo ≤ x → x ≤ hi → within lo hi x ≡ true
-is-within lo hi x h k = and-both (le-leb lo x h) (le-leb x hi k)
+use Rattle.drat_judge.specs.Local.{mark, closing, over, textNext, binaryNext, mayFollow, runs}
 
 pub or-cases : (s t : Bool) → s || t ≡ true → (s ≡ true) ⊎ (t ≡ true)
 or-cases true t e = inl refl

@@ -12,7 +12,8 @@ use Rattle.base.specs.Choice.{pick}
 use Rattle.drat.proofs.Steps.{next}
 use Rattle.drat.specs.declared.Format.the-variants.{Text, Binary}
 use Rattle.drat.specs.declared.Format.{Format}
-use Rattle.drat_judge.specs.Local.{mark, within, textNext, binaryNext, mayFollow, runs, back, runsAt, tally}
+use Rattle.drat.specs.Numeral.{within}
+use Rattle.drat_judge.specs.Local.{mark, textNext, binaryNext, mayFollow, runs, back, runsAt, tally}
 
 back-suc : (f : Format) (s : List ℕ) (i k : ℕ) → back f s (i + 1) (k + 1) ≡ back f s i k
 back-suc f s i k =

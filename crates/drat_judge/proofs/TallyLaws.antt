@@ -2,22 +2,19 @@
 use Prim.Native.Nat.{ℕ, _+_, _-_, _*_, _≤_, _<_}
 use mathlib.Core.Bool.{Bool}
 use mathlib.Core.List.{List, [], _∷_, _++_}
-use mathlib.Core.Logic.{_⊎_, inl, inr}
+use mathlib.Core.Logic.{_⊎_, inl, inr, ⊎-elim}
 use mathlib.Core.Path.{_≡_, refl, ap, ap₂, _∙_}
-use lib.Dec.{leb}
 use lib.ListN.{length, length-append}
 use native.Mathlib.Omega.{arith}
-use borrow.Author.Tests.{lt-leb}
-use Rattle.base.proofs.BelowLaws.{and-not-left, and-not-right}
 use Rattle.base.specs.Choice.{pick}
+use Rattle.drat.proofs.Numerals.{is-within, below-within, above-within}
 use Rattle.drat.specs.Filled.{codesOf}
-use Rattle.drat.specs.Grammar.{Step, Number, plus, minus, code, Body, last, lit, Spells, none, step}
+use Rattle.drat.specs.Grammar.{Step, Signed, plus, minus, Number, spaced, code, Body, last, lit, Spells, none, step}
 use Rattle.drat.specs.Numeral.{decimal, leb128, Numeral, one, more}
 use Rattle.drat.specs.declared.Format.the-variants.{Text, Binary}
 use Rattle.drat.specs.declared.Format.{Format}
 use Rattle.drat.specs.declared.Kind.the-variants.{Add, Delete}
 use Rattle.drat_judge.specs.Local.{tally, stepsBy, litsBy}
-use Rattle.drat_judge.proofs.NextLaws.{is-within}
 
 tally-append : (lo hi : ℕ) (a b : List ℕ) → tally lo hi (a ++ b) ≡ tally lo hi a + tally lo hi b
 unfolding tally
@@ -31,8 +28,8 @@ tally-in lo hi x l h k = ap (λ (t : Bool). pick t 1 0 + tally lo hi l) (is-with
 
 tally-out : (lo hi x : ℕ) (l : List ℕ) → (x < lo) ⊎ (hi < x) → tally lo hi (x ∷ l) ≡ tally lo hi l
 unfolding tally
-tally-out lo hi x l (inl h) = ap (λ (t : Bool). pick t 1 0 + tally lo hi l) (and-not-left (leb lo x) (leb x hi) (lt-leb lo x h)) ∙ omega arith
-tally-out lo hi x l (inr h) = ap (λ (t : Bool). pick t 1 0 + tally lo hi l) (and-not-right (leb lo x) (leb x hi) (lt-leb x hi h)) ∙ omega arith
+tally-out lo hi x l (inl h) = ap (λ (t : Bool). pick t 1 0 + tally lo hi l) (below-within lo hi x h) ∙ omega arith
+tally-out lo hi x l (inr h) = ap (λ (t : Bool). pick t 1 0 + tally lo hi l) (above-within lo hi x h) ∙ omega arith
 
 tally-none : (lo hi : ℕ) → tally lo hi [] ≡ 0
 unfolding tally
@@ -68,18 +65,20 @@ unfoldable StepsCount : Format → List ℕ → ℕ → ℕ → Type 0
 StepsCount Text bs n m = (tally 10 10 bs ≡ m) × (tally 32 32 bs ≡ n + tally 100 100 bs)
 StepsCount Binary bs n m = (tally 0 0 bs ≡ m) × (tally 0 127 bs ≡ n + 2 * m)
 
-blanked : {bs : List ℕ} {v : ℕ} → Numeral decimal bs v → NumberCounts Text (bs ++ 32 ∷ [])
-unfolding NumberCounts tally
-blanked {bs} n = (
-  tally-append 10 10 bs (32 ∷ []) ∙ omega (arith, decimal-none n 10 10 (inl (omega arith))),
-  tally-append 32 32 bs (32 ∷ []) ∙ omega (arith, decimal-none n 32 32 (inl (omega arith))),
-  tally-append 100 100 bs (32 ∷ []) ∙ omega (arith, decimal-none n 100 100 (inr (omega arith))),
-)
+-- a signed number beside its digits has a minus only
+signed-none : {bs : List ℕ} {c : ℕ} → Signed bs c → (lo hi : ℕ) → (hi < 45) ⊎ (57 < lo) → tally lo hi bs ≡ 0
+signed-none (plus h n) lo hi k = decimal-none n lo hi (⊎-elim (λ (g : hi < 45). inl (omega arith)) (λ (g : 57 < lo). inr g) k)
+signed-none (minus {bs = bs} h n) lo hi k =
+    tally-out lo hi 45 bs (⊎-elim (λ (g : hi < 45). inr g) (λ (g : 57 < lo). inl (omega arith)) k)
+    ∙ decimal-none n lo hi (⊎-elim (λ (g : hi < 45). inl (omega arith)) (λ (g : 57 < lo). inr g) k)
 
 number-counts : {f : Format} {bs : List ℕ} {c : ℕ} → Number f bs c → NumberCounts f bs
 unfolding NumberCounts tally
-number-counts (plus h n) = blanked n
-number-counts (minus h n) = let k = blanked n in (omega (arith, k .0), omega (arith, k .1), omega (arith, k .2))
+number-counts (spaced {bs = bs} n) = (
+  tally-append 10 10 bs (32 ∷ []) ∙ omega (arith, signed-none n 10 10 (inl (omega arith))),
+  tally-append 32 32 bs (32 ∷ []) ∙ omega (arith, signed-none n 32 32 (inl (omega arith))),
+  tally-append 100 100 bs (32 ∷ []) ∙ omega (arith, signed-none n 100 100 (inr (omega arith))),
+)
 number-counts (code h n) = leb-last n
 
 body-counts : {f : Format} {bs cs : List ℕ} → Body f bs cs → BodyCounts f bs (length cs)

@@ -6,6 +6,7 @@ use mathlib.Core.List.{List, [], _∷_}
 use lib.Dec.{eqb, leb, ltb}
 use lib.ListN.{getD, drop}
 use Rattle.base.specs.Choice.{pick}
+use Rattle.drat.specs.Numeral.{within, digit}
 use Rattle.drat.specs.declared.Format.{Format}
 use Rattle.drat.specs.declared.Format.the-variants.{Text, Binary}
 use Rattle.drat_judge.specs.declared.Judged.{Judged}
@@ -16,13 +17,7 @@ abbrev pub mark : Format → ℕ
 mark Text = 10
 mark Binary = 0
 
--- A byte from lo to hi; a digit; a digit that begins a number.
-abbrev pub within : ℕ → ℕ → ℕ → Bool
-within lo hi x = leb lo x && leb x hi
-
-abbrev pub digit : ℕ → Bool
-digit x = within 48 57 x
-
+-- A digit that begins a number.
 abbrev pub leading : ℕ → Bool
 leading x = within 49 57 x
 

@@ -7,7 +7,8 @@ ghost use Prim.Native.Nat.{_+_, _-_, _≤_, _<_};
 ghost use lib.ListN.{length, drop};
 ghost use Rattle.base.specs.Choice.{pick};
 ghost use Rattle.base.specs.Lent.{old};
-ghost use Rattle.drat_judge.specs.Local.{mark, within, textNext, binaryNext, mayFollow, judged, back, runsAt, tally, stepsBy, litsBy, judgedOf};
+ghost use Rattle.drat.specs.Numeral.{within};
+ghost use Rattle.drat_judge.specs.Local.{mark, textNext, binaryNext, mayFollow, judged, back, runsAt, tally, stepsBy, litsBy, judgedOf};
 ghost use Rattle.drat.specs.declared.Format.the-variants.{Text, Binary};
 
 // Judged whole, with the numbers of literals and of steps; or not.

@@ -1,8 +1,8 @@
 -- What the fill is told of bytes that were judged whole, and what it says of a step's literals.
-use Prim.Native.Nat.{ℕ, _+_, _*_, _≤_}
+use Prim.Native.Nat.{ℕ, _+_, _*_, _≤_, _<_}
 use mathlib.Core.Path.{_≡_}
 use mathlib.Core.List.{List}
-use lib.ListN.{length, drop}
+use lib.ListN.{length, getD, drop}
 use lib.Seq.{sets}
 use Rattle.drat.specs.Grammar.{Step}
 use Rattle.drat.specs.Reading.{Part, whole, body, steps, readProof}
@@ -42,6 +42,14 @@ pub record BodyFilled (f : Format) (s : List ℕ) (i n : ℕ) (codes₀ codes : 
   pub reads : bodyFrom f s i ≡ whole cs j
   pub count : m ≡ n + length cs
   pub held : codes ≡ sets codes₀ n cs
+
+-- A number, and after it a byte below the digits, as a blank is.
+pub record IsNumber (s : List ℕ) (t : Token) : Type 0 where
+  pub code : ℕ
+  pub next : ℕ
+  pub is : t ≡ Lit code next
+  pub inside : next < length s
+  pub below : getD s next 0 < 48
 
 -- A literal.
 pub record IsLit (t : Token) : Type 0 where

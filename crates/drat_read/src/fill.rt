@@ -7,11 +7,11 @@ ghost use lib.Dec.{eqb};
 ghost use lib.ListN.{length, getD, drop};
 ghost use Rattle.base.specs.Choice.{pick};
 ghost use Rattle.base.specs.Lent.{old, new};
-ghost use Rattle.drat.specs.Reading.{decimalFrom, lebFrom, token, opening, readProof};
+ghost use Rattle.drat.specs.Reading.{digitsFrom, lebFrom, token, opening, readProof};
 ghost use Rattle.drat.specs.Filled.{counted, Scan};
 ghost use Rattle.drat.specs.declared.Format.the-variants.{Text, Binary};
 ghost use Rattle.drat.specs.declared.Token.the-variants.{Lit};
-ghost use Rattle.drat_read.specs.Known.{Fits, BodyFits, BodyFilled, IsLit, IsOpen, Opened};
+ghost use Rattle.drat_read.specs.Known.{Fits, BodyFits, BodyFilled, IsNumber, IsLit, IsOpen, Opened};
 
 // A literal's code and the place after it.
 struct Literal {
@@ -31,21 +31,21 @@ struct Start {
     first: usize,
 }
 
-// The digits from a place on, and the blank after them.
+// The digits from a place on, and the place of the byte after them.
 fn digits_at(s: &[u8], from: usize, sign: u32) -> Literal
     requires { ⌜ sign ≤ 1 ⌝ }
-    requires { ⌜ IsLit (decimalFrom sign 0 from (drop from (now s))) ⌝ }
-    ensures { λ r. ⌜ decimalFrom sign 0 from (drop from (old s)) ≡ Lit (r .code) (r .next) ⌝ }
+    requires { ⌜ IsNumber (now s) (digitsFrom sign 0 from (drop from (now s))) ⌝ }
+    ensures { λ r. ⌜ digitsFrom sign 0 from (drop from (old s)) ≡ Lit (r .code) (r .next) ⌝ }
 {
     let mut v: u32 = 0;
     let mut i = from;
-    while s[i] != 32 {
+    while 48 <= s[i] {
         v = 10 * v + (s[i] as u32 - 48);
         i += 1;
     }
     Literal {
         code: 2 * (v - 1) + sign,
-        next: i + 1,
+        next: i,
     }
 }
 
@@ -55,7 +55,11 @@ fn number_at(s: &[u8], at: usize) -> Literal
     ensures { λ r. ⌜ token Text at (drop at (old s)) ≡ Lit (r .code) (r .next) ⌝ }
 {
     let sign = minus(s[at]);
-    digits_at(s, at + sign as usize, sign)
+    let w = digits_at(s, at + sign as usize, sign);
+    Literal {
+        code: w.code,
+        next: w.next + 1,
+    }
 }
 
 fn code_at(s: &[u8], at: usize) -> Literal

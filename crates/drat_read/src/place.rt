@@ -4,13 +4,14 @@ use drat::Kind;
 use drat::Opening;
 use drat::Token;
 ghost use mathlib.Core.Path.{_≡_};
-ghost use Prim.Native.Nat.{_≤_};
+ghost use Prim.Native.Nat.{_+_, _≤_};
 ghost use lib.Dec.{eqb};
-ghost use lib.ListN.{drop};
+ghost use lib.ListN.{getD, drop};
 ghost use Rattle.base.specs.Choice.{pick};
 ghost use Rattle.base.specs.Lent.{old};
-ghost use Rattle.drat.specs.Reading.{decimalFrom, lebFrom, token, opening};
+ghost use Rattle.drat.specs.Reading.{numbered, digitsFrom, signedFrom, lebFrom, token, opening};
 ghost use Rattle.drat.specs.declared.Format.the-variants.{Text, Binary};
+ghost use Rattle.drat.specs.declared.Token.the-variants.{Lit, Bad};
 
 // 1 for a minus, without a branch: where signs mix it would be mispredicted.
 pub(crate) fn minus(b: u8) -> u32
@@ -19,26 +20,32 @@ pub(crate) fn minus(b: u8) -> u32
     if b == 45 { 1 } else { 0 }
 }
 
-// Decimal digits from a place on.
+// The literal whose number is v.
+fn literal(sign: u32, v: u32, at: usize) -> Token
+    requires { ⌜ sign ≤ 1 ⌝ }
+    requires { ⌜ v ≤ 4096 ⌝ }
+    ensures { λ r. ⌜ r ≡ numbered sign v at ⌝ }
+{
+    if v == 0 {
+        return Token::Bad;
+    }
+    Token::Lit(2 * (v - 1) + sign, at)
+}
+
+// The longest run of decimal digits from a place on, and the place of the byte after it.
 fn decimal_at(s: &[u8], at: usize, sign: u32) -> Token
     requires { ⌜ sign ≤ 1 ⌝ }
-    ensures { λ r. ⌜ r ≡ decimalFrom sign 0 at (drop at (old s)) ⌝ }
+    ensures { λ r. ⌜ r ≡ digitsFrom sign 0 at (drop at (old s)) ⌝ }
 {
     let mut v: u32 = 0;
     let mut i = at;
     while i < s.len() {
         let b = s[i] as u32;
-        if b == 32 {
-            if v == 0 {
-                return Token::Bad;
-            }
-            return Token::Lit(2 * (v - 1) + sign, i + 1);
-        }
         if b < 48 {
-            return Token::Bad;
+            return literal(sign, v, i);
         }
         if 57 < b {
-            return Token::Bad;
+            return literal(sign, v, i);
         }
         let w = 10 * v + (b - 48);
         if w == 0 {
@@ -49,6 +56,30 @@ fn decimal_at(s: &[u8], at: usize, sign: u32) -> Token
         }
         v = w;
         i += 1;
+    }
+    literal(sign, v, i)
+}
+
+// A literal's number from a place on, and the place of the byte after it.
+fn signed_at(s: &[u8], at: usize) -> Token
+    ensures { λ r. ⌜ r ≡ signedFrom at (drop at (old s)) ⌝ }
+{
+    if s.len() <= at {
+        return Token::Bad;
+    }
+    let sign = minus(s[at]);
+    decimal_at(s, at + sign as usize, sign)
+}
+
+// The blank after a number.
+fn spaced(s: &[u8], code: u32, end: usize) -> Token
+    ensures { λ r. ⌜ r ≡ pick (eqb (getD (old s) end 0) 32) (Lit code (end + 1)) Bad ⌝ }
+{
+    if s.len() <= end {
+        return Token::Bad;
+    }
+    if s[end] == 32 {
+        return Token::Lit(code, end + 1);
     }
     Token::Bad
 }
@@ -103,8 +134,11 @@ pub(crate) fn text_token(s: &[u8], at: usize) -> Token
         }
         return Token::Bad;
     }
-    let sign = minus(b);
-    decimal_at(s, at + sign as usize, sign)
+    match signed_at(s, at) {
+        Token::Lit(code, end) => spaced(s, code, end),
+        Token::Stop(_) => Token::Bad,
+        Token::Bad => Token::Bad,
+    }
 }
 
 // What stands at a place inside a binary step.

@@ -25,7 +25,7 @@ sign-cases P a b c = go (c % 2) (omega arith)
 pub number-bytes : (f : Format) (c : ℕ) → number f c ≡ dimacsBytes f (dimacsOf c)
 unfolding number
 number-bytes Text c =
-    sign-cases (λ n. pick (eqb n 0) [] (45 ∷ []) ++ (bytesOf decimal (c / 2 + 1) ++ 32 ∷ [])
+    sign-cases (λ n. (pick (eqb n 0) [] (45 ∷ []) ++ bytesOf decimal (c / 2 + 1)) ++ 32 ∷ []
     ≡ pick (eqb n 1) (45 ∷ []) [] ++ (bytesOf decimal (c / 2 + 1) ++ 32 ∷ []))
     refl refl c
 number-bytes Binary c = ap (bytesOf leb128) (go (c % 2) refl)

@@ -1,10 +1,13 @@
--- By the first byte.
+-- By the first byte: the step's end, or a number and a blank.
 use Prim.Native.Nat.{_+_, _-_}
-use mathlib.Core.Path.{sym, _∙_}
+use mathlib.Core.Path.{sym, ap, _∙_}
+use lib.ListN.{drop}
 use native.Mathlib.Omega.{arith}
 use borrow.Author.Needs.{needs}
 use borrow.Author.Tests.{eq-eqb, ne-eqb}
-use Rattle.drat.proofs.At.{end-here, text-here, end-past, token-past}
+use Rattle.drat.proofs.At.{end-here, text-here, end-past, token-past, blank-after, blank-stop, blank-bad}
+use Rattle.drat.proofs.Places.{signed-moves}
+use Rattle.drat.specs.Reading.{thenBlank}
 use Rattle.drat.specs.declared.Format.the-variants.{Text}
 use Rattle.drat_read.proofs.LitLaws.{text-literal}
 use Rattle.drat_read.proofs.place.text_token.Statement.{statement}
@@ -29,8 +32,8 @@ returns-2 c =
 shared-slice-read-if4 : tie.Need-shared-slice-read-if4
 shared-slice-read-if4 c = search needs
 
-add-t14 : tie.Need-add-t14
-add-t14 c = search needs
+add-t15 : tie.Need-add-t15
+add-t15 c = search needs
 
 returns-3 : tie.Need-returns-3
 returns-3 c =
@@ -42,24 +45,45 @@ returns-4 c =
     let a = c .before .before .before .before .before .before .before .args in
     sym (text-here (a .s .now) (a .at) (c .before .before .before .before .before .if1 .left) ∙ simp (eq-eqb _ _ (c .before .before .before .if2 .taken)) (end-here (a .s .now) (a .at + 1) (c .before .before .if3 .left) ∙ simp (ne-eqb _ _ (c .if4 .left))))
 
-minus-requires : tie.Need-minus-requires
-minus-requires c κs = search needs
+signed-at-requires : tie.Need-signed-at-requires
+signed-at-requires c κs = search needs
 
-cast-decimal-at : tie.Need-cast-decimal-at
-cast-decimal-at c = search needs
+enum-known-code : tie.Need-enum-known-code
+enum-known-code c = search needs
 
-add-decimal-at : tie.Need-add-decimal-at
-add-decimal-at c =
-    omega (arith, c .minus .ensures .1)
+spaced-requires : tie.Need-spaced-requires
+spaced-requires c κs = search needs
 
-decimal-at-requires : tie.Need-decimal-at-requires
-decimal-at-requires c κs = c .minus .ensures .1
+enum-told : tie.Need-enum-told
+enum-told c = search needs
+
+enum-told-2 : tie.Need-enum-told-2
+enum-told-2 c = search needs
 
 returns-5 : tie.Need-returns-5
 returns-5 c =
-    let a = c .before .before .before .before .before .before .args in
-    let m = c .before .minus in
-    sym (text-literal (a .s .now) (a .at) (m .result) (c .before .before .before .before .if1 .left) (c .before .before .if2 .left) (m .ensures .0) ∙ sym (c .decimal-at .ensures))
+    let a = c .before .before .before .before .before .before .before .before .before .args in
+    let s = a .s .now in
+    let t = text-literal s (a .at) (c .before .before .before .before .before .before .before .if1 .left) (c .before .before .before .before .before .if2 .left) in
+    let e = sym (c .before .before .before .before .signed-at .ensures) ∙ c .before .before .code .given .1 in
+    let code = c .before .before .code .given .0 .0 in
+    let end = c .before .before .code .given .0 .1 .0 in
+    let after = signed-moves (a .at) (drop (a .at) s) code end e .0 in
+    c .spaced .ensures ∙ sym (t ∙ ap (thenBlank (a .at) (drop (a .at) s)) e ∙ blank-after s (a .at) end (omega arith) code)
+
+returns-6 : tie.Need-returns-6
+returns-6 c =
+    let a = c .before .before .before .before .before .before .before .args in
+    let s = a .s .now in
+    let t = text-literal s (a .at) (c .before .before .before .before .before .if1 .left) (c .before .before .before .if2 .left) in
+    sym (t ∙ ap (thenBlank (a .at) (drop (a .at) s)) (sym (c .before .before .signed-at .ensures) ∙ c .enum-told .given .1) ∙ blank-stop (a .at) (drop (a .at) s) _)
+
+returns-7 : tie.Need-returns-7
+returns-7 c =
+    let a = c .before .before .before .before .before .before .before .args in
+    let s = a .s .now in
+    let t = text-literal s (a .at) (c .before .before .before .before .before .if1 .left) (c .before .before .before .if2 .left) in
+    sym (t ∙ ap (thenBlank (a .at) (drop (a .at) s)) (sym (c .before .before .signed-at .ensures) ∙ c .enum-told2 .given .1) ∙ blank-bad (a .at) (drop (a .at) s))
 
 pub text-token-spec : {M : Type 1} → statement M
 text-token-spec =
@@ -70,11 +94,14 @@ text-token-spec =
     add-j
     returns-2
     shared-slice-read-if4
-    add-t14
+    add-t15
     returns-3
     returns-4
-    minus-requires
-    cast-decimal-at
-    add-decimal-at
-    decimal-at-requires
-    returns-5)
+    signed-at-requires
+    enum-known-code
+    spaced-requires
+    enum-told
+    enum-told-2
+    returns-5
+    returns-6
+    returns-7)

@@ -1,0 +1,25 @@
+-- Past the end there is no blank.
+use mathlib.Core.Path.{sym, ap}
+use lib.ListN.{List·getD-eq-default}
+use borrow.Author.Needs.{needs}
+use borrow.Author.Tests.{eq-eqb, ne-eqb}
+use Rattle.drat_read.proofs.place.spaced.Statement.{statement}
+use Rattle.drat_read.proofs.place.spaced.Tie as tie
+
+returns : tie.Need-returns
+returns c = sym (simp (List·getD-eq-default (c .before .args .s .now) 0 (c .if1 .taken)))
+
+shared-slice-read-if2 : tie.Need-shared-slice-read-if2
+shared-slice-read-if2 c = search needs
+
+add-t8 : tie.Need-add-t8
+add-t8 c = search needs
+
+returns-2 : tie.Need-returns-2
+returns-2 c = sym (simp (eq-eqb _ _ (c .if2 .taken)))
+
+returns-3 : tie.Need-returns-3
+returns-3 c = sym (simp (ne-eqb _ _ (c .if2 .left)))
+
+pub spaced-spec : {M : Type 1} → statement M
+spaced-spec = tie.close (tie.spec returns shared-slice-read-if2 add-t8 returns-2 returns-3)
