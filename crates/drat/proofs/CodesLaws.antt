@@ -7,8 +7,8 @@ use native.Mathlib.Omega.{arith}
 use lib.Dec.{ltb}
 use lib.ListN.{length, getD, take, drop, length-drop, length-take}
 use lib.Seq.{getD-drop, getD-take}
-use borrow.Author.Tests.{ltb-true, lt-ltb}
-use Rattle.base.proofs.BelowLaws.{all-at, all-intro}
+use borrow.Author.Tests.{ltb-true}
+use Rattle.base.proofs.BelowLaws.{all-at}
 use Rattle.drat.specs.Grammar.{Step, Codes, Valid}
 use Rattle.drat.specs.Writing.{part, codesTest}
 
@@ -40,14 +40,6 @@ codes-part a b cs h = codes-take (b - a) (drop a cs) (codes-drop a cs h)
 -- the test says it
 pub codes-true : (cs : List ℕ) → codesTest cs ≡ true → Codes cs
 codes-true cs h i l = ltb-true (getD cs i 0) 8192 (all-at (length cs) (λ j. ltb (getD cs j 0) 8192) h i l)
-
-pub true-codes : (cs : List ℕ) → Codes cs → codesTest cs ≡ true
-true-codes cs h = all-intro (length cs) (λ i. ltb (getD cs i 0) 8192) (λ i l. lt-ltb (getD cs i 0) 8192 (h i l))
-
--- lists of steps
-pub valid-one : (s : Step) → Codes (s .lits) → Valid (s ∷ [])
-unfolding Valid
-valid-one s h = (h, tt)
 
 pub valid-append : (ss ts : List Step) → Valid ss → Valid ts → Valid (ss ++ ts)
 unfolding Valid

@@ -8,7 +8,7 @@ use native.Mathlib.Nat.{mul-le-mul-left}
 use lib.ListN.{length, getD, drop, length-append}
 use lib.Seq.{drop-at, getD-append-add}
 use borrow.Author.Tests.{ne-eqb, lt-ltb, le-ltb}
-use Rattle.drat.proofs.Numerals.{numeral-pos, is-within}
+use Rattle.drat.proofs.Numerals.{numeral-pos, is-in-range}
 use Rattle.drat.specs.Numeral.{digit, decimal, leb128, Numeral, one, more}
 use Rattle.drat.specs.Grammar.{Step, opens, ends, Signed, plus, minus, Number, spaced, code, Body, last, lit, Spells, none, step, encodeStep, encode, Valid}
 use Rattle.drat.proofs.Written.{encode-spells}
@@ -25,7 +25,7 @@ pub digit-read : (sign v d i : ℕ) (l : List ℕ) → d < 10 → 0 < 10 * v + d
 unfolding digitsFrom
 digit-read sign v d i l hd h0 h1 =
     let e : 48 + d - 48 ≡ d = omega arith in
-    simp (e, is-within 48 57 (48 + d) (omega arith) (omega arith), ne-eqb (10 * v + d) 0 (omega arith), le-ltb 4096 (10 * v + d) h1)
+    simp (e, is-in-range 48 57 (48 + d) (omega arith) (omega arith), ne-eqb (10 * v + d) 0 (omega arith), le-ltb 4096 (10 * v + d) h1)
 
 pub decimal-read : {bs : List ℕ} {v : ℕ} → Numeral decimal bs v → v ≤ 4096 → (sign i : ℕ) (l : List ℕ) → digitsFrom sign 0 i (bs ++ l) ≡ digitsFrom sign v (i + length bs) l
 decimal-read (one {d = d} p q) h sign i l = digit-read sign 0 d i l q (omega arith) (omega arith) ∙ ap (λ (x : ℕ). digitsFrom sign x (i + 1) l) (omega arith)
@@ -153,12 +153,12 @@ pub number-length : {f : Format} {bs : List ℕ} {c : ℕ} → Number f bs c →
 number-length (spaced n) = simp length-append (omega arith)
 number-length (code h n) = numeral-length n
 
-pub ends-length : (f : Format) → 0 < length (ends f)
-ends-length Text = omega arith
-ends-length Binary = omega arith
+pub ends-some : (f : Format) → 0 < length (ends f)
+ends-some Text = omega arith
+ends-some Binary = omega arith
 
 pub body-length : {f : Format} {bs cs : List ℕ} → Body f bs cs → length cs < length bs
-body-length {f} last = ends-length f
+body-length {f} last = ends-some f
 body-length (lit {bs = bs} {rest = r} p t) = simp length-append (omega (arith, number-length p, body-length t))
 
 pub body-read : {f : Format} {bs cs : List ℕ} → Body f bs cs → (n i : ℕ) (l : List ℕ) → length cs < n → body f n i (bs ++ l) ≡ whole cs (i + length bs)

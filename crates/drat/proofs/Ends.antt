@@ -1,7 +1,7 @@
 -- The place after a step, literal by literal; and what a call of the reader answers, from what its scans answer.
 use Prim.Native.Nat.{ℕ, zero, suc, _≤_, _<_}
 use mathlib.Core.Path.{_≡_, refl, sym, ap, ap₂, _∙_}
-use mathlib.Core.List.{List, [], _∷_, _++_}
+use mathlib.Core.List.{List, [], _∷_}
 use mathlib.Core.Bool.{Bool, true, _||_}
 use native.Mathlib.Omega.{arith}
 use lib.Dec.{ltb}
@@ -140,7 +140,3 @@ first-part f s hb = go (oneStep f 0 s) refl
     go : (o : One) → oneStep f 0 s ≡ o → first (take (endOf 0 o) s) ≡ firstBy s o
     go (got t j) e = let m = step-moves f 0 s t j hb e in some j s (m .0) (omega (arith, m .1))
     go fault e = refl
-
-pub empty-front : (l x : List ℕ) → length l ≡ 0 → l ++ x ≡ x
-empty-front [] x e = refl
-empty-front (a ∷ l) x e = absurd (omega arith)

@@ -1,7 +1,6 @@
 pub mod Anchored
 pub mod Numerals
 pub mod Written
-pub mod Cases
 pub mod Faults
 pub mod Ends
 pub mod Scanning

@@ -2,7 +2,7 @@
 use Prim.Native.Nat.{ℕ, suc, _+_, _-_, _*_, _≤_, _<_}
 use mathlib.Core.Path.{_≡_, refl, sym, ap, ap₂, _∙_}
 use mathlib.Core.List.{List, [], _∷_, _++_, append-assoc}
-use mathlib.Core.Bool.{Bool, true, false, _&&_, _||_, not, true≢false}
+use mathlib.Core.Bool.{Bool, true, false, _&&_, not}
 use native.Mathlib.Omega.{arith}
 use lib.Dec.{eqb, leb, ltb}
 use lib.ListN.{length, getD, drop, take-append-drop, length-append, length-take, length-drop, drop-of-length-le}
@@ -11,12 +11,12 @@ use borrow.Author.Tests.{eqb-true, eqb-false, leb-true, ltb-true, le-ltb, lt-ltb
 use Rattle.base.specs.Choice.{pick}
 use Rattle.base.specs.Answer.{accepted, refused}
 use Rattle.base.proofs.BelowLaws.{and-left, and-right, all-at}
+use Rattle.base.proofs.MemberLaws.{or-left, or-right}
 use Rattle.base.proofs.SetsLaws.{sets-append}
-use Rattle.drat.specs.Grammar.{Step, stepOf, opens, ends, number, numbers, encodeStep, encode, Codes, Valid}
+use Rattle.drat.specs.Grammar.{stepOf, opens, ends, number, numbers, encodeStep, encode, Codes, Valid}
 use Rattle.drat.specs.Writing.{part, codesTest}
 use Rattle.drat.specs.Filled.{kindNumber, codesOf, endsFrom, kindsOf, answerOf, readOf}
 use Rattle.drat.specs.Listed.{kindAt, listed, risesTo, kindsTest, unlisted, writeAllOf}
-use Rattle.drat.specs.declared.Kind.{Kind}
 use Rattle.drat.specs.declared.Kind.the-variants.{Add, Delete}
 use Rattle.drat.specs.declared.Format.{Format}
 use Rattle.drat.proofs.CodesLaws.{codes-true, codes-part}
@@ -218,14 +218,15 @@ module _ (codes es ks : List ℕ) where
   -- what is not refused is a proof
   pub is-listed : unlisted codes es ks ≡ false → Listed
   is-listed h =
-      let x = or-false (codesTest codes) _ h in
-      let y = or-false (eqb (length es) (length ks)) _ (x .1) in
-      let z = or-false (risesTo (length codes) 0 es) _ (y .1) in
-      record { coded = codes-true codes (x .0); paired = eqb-true (length es) (length ks) (y .0); rising = z .0; kinded = λ i l. ltb-true (getD ks i 0) 2 (all-at (length ks) (λ j. ltb (getD ks j 0) 2) (not-false (kindsTest ks) (z .1)) i l) }
-    where
-      or-false : (s t : Bool) → not s || t ≡ false → (s ≡ true) × (t ≡ false)
-      or-false true t e = (refl, e)
-      or-false false t e = absurd (true≢false e)
+      let x = or-right (not (codesTest codes)) _ h in
+      let y = or-right (not (eqb (length es) (length ks))) _ x in
+      let z = not-false (kindsTest ks) (or-right (not (risesTo (length codes) 0 es)) _ y) in
+      record {
+        coded = codes-true codes (not-false (codesTest codes) (or-left (not (codesTest codes)) _ h));
+        paired = eqb-true (length es) (length ks) (not-false (eqb (length es) (length ks)) (or-left (not (eqb (length es) (length ks))) _ x));
+        rising = not-false (risesTo (length codes) 0 es) (or-left (not (risesTo (length codes) 0 es)) _ y);
+        kinded = λ i l. ltb-true (getD ks i 0) 2 (all-at (length ks) (λ j. ltb (getD ks j 0) 2) z i l);
+      }
 
   module _ (f : Format) (room : ℕ) where
     pub all-unlisted : unlisted codes es ks ≡ true → writeAllOf f codes es ks room ≡ record { answer = refused 3 []; bytes = [] }

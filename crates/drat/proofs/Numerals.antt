@@ -9,20 +9,20 @@ use lib.Dec.{leb, ltb}
 use borrow.Author.Tests.{leb-true, le-leb, lt-leb, ltb-true, ltb-false}
 use Rattle.base.proofs.BelowLaws.{and-left, and-right, and-both, and-not-left, and-not-right}
 use Rattle.base.specs.Choice.{pick}
-use Rattle.drat.specs.Numeral.{within, Radix, Numeral, one, more, Digits, spell, further, bytesOf}
+use Rattle.drat.specs.Numeral.{inRange, Radix, Numeral, one, more, Digits, spell, further, bytesOf}
 
 -- a byte from lo to hi, and beside them
-pub within-is : (lo hi x : ℕ) → within lo hi x ≡ true → (lo ≤ x) × (x ≤ hi)
-within-is lo hi x e = (leb-true lo x (and-left (leb lo x) (leb x hi) e), leb-true x hi (and-right (leb lo x) (leb x hi) e))
+pub in-range-is : (lo hi x : ℕ) → inRange lo hi x ≡ true → (lo ≤ x) × (x ≤ hi)
+in-range-is lo hi x e = (leb-true lo x (and-left (leb lo x) (leb x hi) e), leb-true x hi (and-right (leb lo x) (leb x hi) e))
 
-pub is-within : (lo hi x : ℕ) → lo ≤ x → x ≤ hi → within lo hi x ≡ true
-is-within lo hi x h k = and-both (le-leb lo x h) (le-leb x hi k)
+pub is-in-range : (lo hi x : ℕ) → lo ≤ x → x ≤ hi → inRange lo hi x ≡ true
+is-in-range lo hi x h k = and-both (le-leb lo x h) (le-leb x hi k)
 
-pub below-within : (lo hi x : ℕ) → x < lo → within lo hi x ≡ false
-below-within lo hi x h = and-not-left (leb lo x) (leb x hi) (lt-leb lo x h)
+pub below-range : (lo hi x : ℕ) → x < lo → inRange lo hi x ≡ false
+below-range lo hi x h = and-not-left (leb lo x) (leb x hi) (lt-leb lo x h)
 
-pub above-within : (lo hi x : ℕ) → hi < x → within lo hi x ≡ false
-above-within lo hi x h = and-not-right (leb lo x) (leb x hi) (lt-leb x hi h)
+pub above-range : (lo hi x : ℕ) → hi < x → inRange lo hi x ≡ false
+above-range lo hi x h = and-not-right (leb lo x) (leb x hi) (lt-leb x hi h)
 
 -- what is spelled by length is spelled by the grammar
 pub spell-numeral : (r : Radix) → 1 < r .base → (k n : ℕ) → Digits (r .base) k n → Numeral r (spell r k n) n

@@ -12,7 +12,7 @@ use Rattle.drat.specs.declared.Format.{Format}
 use Rattle.drat.specs.declared.Token.{Token}
 use Rattle.drat.specs.declared.Token.the-variants.{Lit, Stop, Bad}
 use Rattle.drat.specs.declared.Opening.the-variants.{Opens, Wrong}
-use Rattle.drat.proofs.Complete.{signed-first, number-length, body-length, ends-length, body-lit, body-stop, body-bad, one-opens, one-wrong, steps-got, steps-not}
+use Rattle.drat.proofs.Complete.{signed-first, number-length, body-length, ends-some, body-lit, body-stop, body-bad, one-opens, one-wrong, steps-got, steps-not}
 use Rattle.drat.proofs.Steps.{next}
 use Rattle.drat.proofs.Sound.{Bytes, signed-sound, token-sound, token-stop, opening-sound, step-sound}
 
@@ -36,7 +36,7 @@ lit-moves f i l c j hb e =
 pub stop-moves : (f : Format) (i : ℕ) (l : List ℕ) (j : ℕ) → token f i l ≡ Stop j → (i < j) × (j ≤ i + length l)
 stop-moves f i l j e =
     let r = token-stop f i l j e in
-    omega (arith, r .place, ends-length f, ap length (r .split) ∙ length-append (ends f) (r .rest))
+    omega (arith, r .place, ends-some f, ap length (r .split) ∙ length-append (ends f) (r .rest))
 
 pub open-moves : (f : Format) (i : ℕ) (l : List ℕ) (k : Kind) (j : ℕ) → opening f i l ≡ Opens k j → (i ≤ j) × (j ≤ i + length l)
 open-moves f i l k j e =
@@ -103,15 +103,15 @@ module _ (f : Format) (s : List ℕ) (hb : Bytes s) where
   drops : (i j : ℕ) → i ≤ j → drop (j - i) (drop i s) ≡ drop j s
   drops i j h = let e : i + (j - i) ≡ j = omega arith in drop-drop (j - i) i s ∙ ap (λ (k : ℕ). drop k s) e
 
-  within : (i : ℕ) → length (drop i s) ≤ length s
-  within i = simp length-drop (omega arith)
+  rest-le : (i : ℕ) → length (drop i s) ≤ length s
+  rest-le i = simp length-drop (omega arith)
 
   pub lit-at : (i : ℕ) → i ≤ length s → (c j : ℕ) → token f i (drop i s) ≡ Lit c j → (bodyAt f s i ≡ consPart c (bodyAt f s j)) × (i < j) × (j ≤ length s)
   unfolding bodyAt
   lit-at i h c j e =
       let v = lit-moves f i (drop i s) c j (bytes-drop i s hb) e in
       let w = length-drop i s in (
-        body-depth f (length s) (suc (length s)) i (drop i s) (bytes-drop i s hb) (within i) (omega (arith, within i))
+        body-depth f (length s) (suc (length s)) i (drop i s) (bytes-drop i s hb) (rest-le i) (omega (arith, rest-le i))
             ∙ body-lit f (length s) i (drop i s) c j e
             ∙ ap (λ (l : List ℕ). consPart c (body f (length s) j l)) (drops i j (omega arith)),
         v .0,
@@ -123,11 +123,11 @@ module _ (f : Format) (s : List ℕ) (hb : Bytes s) where
   stop-at i h j e =
       let v = stop-moves f i (drop i s) j e in
       let w = length-drop i s in
-      (body-depth f (length s) (suc (length s)) i (drop i s) (bytes-drop i s hb) (within i) (omega (arith, within i)) ∙ body-stop f (length s) i (drop i s) j e, v .0, omega (arith, v .1))
+      (body-depth f (length s) (suc (length s)) i (drop i s) (bytes-drop i s hb) (rest-le i) (omega (arith, rest-le i)) ∙ body-stop f (length s) i (drop i s) j e, v .0, omega (arith, v .1))
 
   pub bad-at : (i : ℕ) → token f i (drop i s) ≡ Bad → bodyAt f s i ≡ broken
   unfolding bodyAt
-  bad-at i e = body-depth f (length s) (suc (length s)) i (drop i s) (bytes-drop i s hb) (within i) (omega (arith, within i)) ∙ body-bad f (length s) i (drop i s) e
+  bad-at i e = body-depth f (length s) (suc (length s)) i (drop i s) (bytes-drop i s hb) (rest-le i) (omega (arith, rest-le i)) ∙ body-bad f (length s) i (drop i s) e
 
   pub opens-at : (i : ℕ) → i ≤ length s → (k : Kind) (j : ℕ) → opening f i (drop i s) ≡ Opens k j → (stepAt f s i ≡ asStep k (bodyAt f s j)) × (i ≤ j) × (j ≤ length s)
   unfolding bodyAt stepAt
@@ -138,7 +138,7 @@ module _ (f : Format) (s : List ℕ) (hb : Bytes s) where
       let u : length (drop j s) ≤ length (drop i s) = omega (arith, length-drop j s, v .0) in (
         one-opens f i (drop i s) k j e
             ∙ ap (λ (l : List ℕ). asStep k (body f (length (drop i s)) j l)) d
-            ∙ ap (asStep k) (body-depth f (length (drop i s)) (length s) j (drop j s) (bytes-drop j s hb) u (within j)),
+            ∙ ap (asStep k) (body-depth f (length (drop i s)) (length s) j (drop j s) (bytes-drop j s hb) u (rest-le j)),
         v .0,
         omega (arith, v .1),
       )
@@ -151,7 +151,7 @@ module _ (f : Format) (s : List ℕ) (hb : Bytes s) where
   unfolding stepAt proofAt
   got-at i h t j e =
       let v = step-moves f i (drop i s) t j (bytes-drop i s hb) e in
-      steps-depth f (length s) (suc (length s)) i (drop i s) (bytes-drop i s hb) (within i) (omega (arith, within i))
+      steps-depth f (length s) (suc (length s)) i (drop i s) (bytes-drop i s hb) (rest-le i) (omega (arith, rest-le i))
       ∙ steps-got f (length s) i (drop i s) t j e
       ∙ ap (λ (l : List ℕ). consStep t (stepsFrom f (length s) j l)) (drops i j (omega arith))
 
@@ -159,7 +159,7 @@ module _ (f : Format) (s : List ℕ) (hb : Bytes s) where
   unfolding stepAt proofAt
   fault-at i h e =
       let d = next s i h in
-      steps-depth f (length s) (suc (length s)) i (drop i s) (bytes-drop i s hb) (within i) (omega (arith, within i))
+      steps-depth f (length s) (suc (length s)) i (drop i s) (bytes-drop i s hb) (rest-le i) (omega (arith, rest-le i))
       ∙ ap (stepsFrom f (suc (length s)) i) d
       ∙ steps-not f (length s) i (getD s i 0) (drop (i + 1) s) (ap (oneStep f i) (sym d) ∙ e)
 

@@ -47,10 +47,14 @@ steps-snoc ss s (steps ts) = ap steps (sym (append-assoc ss (s ∷ []) ts))
 steps-snoc ss s (faultAt i) = refl
 
 -- one step more at the end of what is filled
+pub codes-of-append : (ss ts : List Step) → codesOf (ss ++ ts) ≡ codesOf ss ++ codesOf ts
+unfolding codesOf
+codes-of-append [] ts = refl
+codes-of-append (s ∷ ss) ts = ap (λ (l : List ℕ). s .lits ++ l) (codes-of-append ss ts) ∙ sym (append-assoc (s .lits) (codesOf ss) (codesOf ts))
+
 codes-snoc : (ss : List Step) (s : Step) → codesOf (ss ++ s ∷ []) ≡ codesOf ss ++ s .lits
 unfolding codesOf
-codes-snoc [] s = append-nil (s .lits)
-codes-snoc (t ∷ ss) s = ap (λ (l : List ℕ). t .lits ++ l) (codes-snoc ss s) ∙ sym (append-assoc (t .lits) (codesOf ss) (s .lits))
+codes-snoc ss s = codes-of-append ss (s ∷ []) ∙ ap (λ (l : List ℕ). codesOf ss ++ l) (append-nil (s .lits))
 
 kinds-snoc : (ss : List Step) (s : Step) → kindsOf (ss ++ s ∷ []) ≡ kindsOf ss ++ kindNumber (s .kind) ∷ []
 unfolding kindsOf

@@ -130,7 +130,7 @@ short-sets l o p i h k =
     ap (λ (n : List ℕ). sets (sets o p n) (p + length n) (numbers Binary (drop (i + 1) l))) (sym e) ∙ numbers-sets Binary l o p i k
 
 -- a literal takes at most six bytes
-one-le : (t : Bool) → pick {A = ℕ} t 1 0 ≤ 1
+pub one-le : (t : Bool) → pick {A = ℕ} t 1 0 ≤ 1
 one-le true = omega arith
 one-le false = omega arith
 

@@ -20,25 +20,29 @@ use Rattle.drat.specs.declared.Token.{Token}
 use Rattle.drat.specs.declared.Token.the-variants.{Lit, Stop, Bad}
 use Rattle.drat.specs.declared.Opening.{Opening}
 use Rattle.drat.specs.declared.Opening.the-variants.{Opens, Wrong}
-use Rattle.drat.proofs.Numerals.{within-is}
+use Rattle.drat.proofs.Numerals.{in-range-is}
 use Rattle.drat.proofs.Complete.{text-line, body-lit, body-stop, body-bad, one-opens, one-wrong, steps-got, steps-not}
 
 abbrev pub Bytes : List ℕ → Type 0
 Bytes l = (k : ℕ) → getD l k 0 < 256
 
 -- where the result is no fault, the test for a fault failed
-not-bad : (t : Bool) (y z : Token) → (z ≡ Bad → ⊥) → pick t Bad y ≡ z → (t ≡ false) × (y ≡ z)
+pub not-bad : (t : Bool) (y z : Token) → (z ≡ Bad → ⊥) → pick t Bad y ≡ z → (t ≡ false) × (y ≡ z)
 not-bad true y z h e = absurd (h (sym e))
 not-bad false y z h e = (refl, e)
 
-lit-bad : (c j : ℕ) → Lit c j ≡ Bad → ⊥
+pub lit-bad : (c j : ℕ) → Lit c j ≡ Bad → ⊥
 lit-bad c j e = let z : _≡_ {A = ℕ} 0 1 = cc in omega arith
 
-stop-bad : (j : ℕ) → Stop j ≡ Bad → ⊥
+pub stop-bad : (j : ℕ) → Stop j ≡ Bad → ⊥
 stop-bad j e = let z : _≡_ {A = ℕ} 0 1 = cc in omega arith
 
-lit-stop : (c i j : ℕ) → Lit c i ≡ Stop j → ⊥
+pub lit-stop : (c i j : ℕ) → Lit c i ≡ Stop j → ⊥
 lit-stop c i j e = let z : _≡_ {A = ℕ} 0 1 = cc in omega arith
+
+-- a test for a fault failed, where a literal was read
+pub passed : (t : Bool) (y : Token) (c j : ℕ) → pick t Bad y ≡ Lit c j → (t ≡ false) × (y ≡ Lit c j)
+passed t y c j e = not-bad t y (Lit c j) (lit-bad c j) e
 
 -- the digits read so far
 data Sofar : List ℕ → ℕ → Type 0 where
@@ -69,7 +73,7 @@ lit-parts a b c d e = (cc, cc)
 
 run-sound : (sign i : ℕ) (p l : List ℕ) (v c j : ℕ) → Sofar p v → v ≤ 4096 → numbered sign v i ≡ Lit c j → DigitsRead sign i p l c j
 run-sound sign i p l v c j s h e =
-    let z = not-bad (eqb v 0) (Lit (2 * (v - 1) + sign) i) (Lit c j) (lit-bad c j) e in
+    let z = passed (eqb v 0) (Lit (2 * (v - 1) + sign) i) c j e in
     let nz = eqb-false v 0 (z .0) in
     let q = lit-parts (2 * (v - 1) + sign) i c j (z .1) in
     let n : Numeral decimal (p ++ []) (v - 1 + 1) =
@@ -86,9 +90,9 @@ digits-sound sign (b ∷ l) v i c j p s h e = go (digit b) refl e (digits-sound 
         → ((q : List ℕ) → Sofar q (withDigit v b) → withDigit v b ≤ 4096 → digitsFrom sign (withDigit v b) (i + 1) l ≡ Lit c j → DigitsRead sign (i + 1) q l c j)
         → DigitsRead sign i p (b ∷ l) c j
     go true t e ih =
-        let z₁ = not-bad (eqb (withDigit v b) 0) _ (Lit c j) (lit-bad c j) e in
-        let z₂ = not-bad (ltb 4096 (withDigit v b)) _ (Lit c j) (lit-bad c j) (z₁ .1) in
-        let (low, high) = within-is 48 57 b t in
+        let z₁ = passed (eqb (withDigit v b) 0) _ c j e in
+        let z₂ = passed (ltb 4096 (withDigit v b)) _ c j (z₁ .1) in
+        let (low, high) = in-range-is 48 57 b t in
         let h₁ = eqb-false (withDigit v b) 0 (z₁ .0) in
         let h₂ = ltb-false 4096 (withDigit v b) (z₂ .0) in
         let n = sofar-digit s (b - 48) (omega arith) (omega arith) in
@@ -183,16 +187,16 @@ leb-sound (b ∷ l) v w i c j hb e = go (ltb b 128) refl e (leb-sound l (v + w *
         → (lebFrom (v + w * (b - 128)) (w * 128) (i + 1) l ≡ Lit c j → LebRead (v + w * (b - 128)) (w * 128) (i + 1) l c j)
         → LebRead v w i (b ∷ l) c j
     go true t e ih =
-        let z₁ = not-bad (eqb b 0) _ (Lit c j) (lit-bad c j) e in
-        let z₂ = not-bad (ltb (v + w * b) 2) _ (Lit c j) (lit-bad c j) (z₁ .1) in
-        let z₃ = not-bad (ltb 8193 (v + w * b)) _ (Lit c j) (lit-bad c j) (z₂ .1) in
+        let z₁ = passed (eqb b 0) _ c j e in
+        let z₂ = passed (ltb (v + w * b) 2) _ c j (z₁ .1) in
+        let z₃ = passed (ltb 8193 (v + w * b)) _ c j (z₂ .1) in
         let h₁ = eqb-false b 0 (z₁ .0) in
         let h₂ = ltb-false (v + w * b) 2 (z₂ .0) in
         let h₃ = ltb-false 8193 (v + w * b) (z₃ .0) in
         let q = lit-parts (v + w * b - 2) (i + 1) c j (z₃ .1) in
         record { bytes = b ∷ []; rest = l; number = b; split = refl; spelled = one {d = b} (omega arith) (ltb-true b 128 t); isCode = omega arith; small = h₃; place = omega arith }
     go false t e ih =
-        let z = not-bad (ltb 64 w) _ (Lit c j) (lit-bad c j) e in
+        let z = passed (ltb 64 w) _ c j e in
         let r = ih (z .1) in
         let hl = ltb-false b 128 t in
         let d : b - 128 < 128 = omega (arith, hb 0) in
@@ -216,7 +220,7 @@ pub record LitRead (f : Format) (i : ℕ) (l : List ℕ) (c j : ℕ) : Type 0 wh
   pub spelled : Number f bytes c
   pub place : j ≡ i + length bytes
 
-no-lit-end : (i : ℕ) (l : List ℕ) (c j : ℕ) → endFrom i l ≡ Lit c j → ⊥
+pub no-lit-end : (i : ℕ) (l : List ℕ) (c j : ℕ) → endFrom i l ≡ Lit c j → ⊥
 unfolding endFrom
 no-lit-end i [] c j e = lit-bad c j (sym e)
 no-lit-end i (b ∷ l) c j e = go (eqb b 10) e
@@ -327,7 +331,7 @@ pub record OpenRead (f : Format) (i : ℕ) (l : List ℕ) (k : Kind) (j : ℕ) :
   pub split : l ≡ opens f k ++ rest
   pub place : j ≡ i + length (opens f k)
 
-opens-wrong : (k : Kind) (j : ℕ) → Opens k j ≡ Wrong → ⊥
+pub opens-wrong : (k : Kind) (j : ℕ) → Opens k j ≡ Wrong → ⊥
 opens-wrong k j e = let z : _≡_ {A = ℕ} 0 1 = cc in omega arith
 
 opens-parts : (a b : Kind) (i j : ℕ) → Opens a i ≡ Opens b j → (a ≡ b) × (i ≡ j)
@@ -378,13 +382,13 @@ pub record BodyRead (f : Format) (i : ℕ) (l : List ℕ) (cs : List ℕ) (j : �
   pub spelled : Body f bytes cs
   pub place : j ≡ i + length bytes
 
-broken-whole : (cs : List ℕ) (j : ℕ) → broken ≡ whole cs j → ⊥
+pub broken-whole : (cs : List ℕ) (j : ℕ) → broken ≡ whole cs j → ⊥
 broken-whole cs j e = let z : _≡_ {A = ℕ} 0 1 = cc in omega arith
 
 whole-parts : (cs ds : List ℕ) (i j : ℕ) → whole cs i ≡ whole ds j → (cs ≡ ds) × (i ≡ j)
 whole-parts cs ds i j e = (cc, cc)
 
-cons-part : (c : ℕ) (p : Part) (cs : List ℕ) (j : ℕ) → consPart c p ≡ whole cs j → (ds : List ℕ) × (p ≡ whole ds j) × (c ∷ ds ≡ cs)
+pub cons-part : (c : ℕ) (p : Part) (cs : List ℕ) (j : ℕ) → consPart c p ≡ whole cs j → (ds : List ℕ) × (p ≡ whole ds j) × (c ∷ ds ≡ cs)
 unfolding consPart
 cons-part c (whole ds i) cs j e = let q = whole-parts (c ∷ ds) cs i j e in (ds, ap (whole ds) (q .1), q .0)
 cons-part c broken cs j e = absurd (broken-whole cs j e)
@@ -426,7 +430,7 @@ fault-got s j e = let z : _≡_ {A = ℕ} 0 1 = cc in omega arith
 got-parts : (s t : Step) (i j : ℕ) → got s i ≡ got t j → (s ≡ t) × (i ≡ j)
 got-parts s t i j e = (cc, cc)
 
-as-step : (k : Kind) (p : Part) (s : Step) (j : ℕ) → asStep k p ≡ got s j → (cs : List ℕ) × (p ≡ whole cs j) × (stepOf k cs ≡ s)
+pub as-step : (k : Kind) (p : Part) (s : Step) (j : ℕ) → asStep k p ≡ got s j → (cs : List ℕ) × (p ≡ whole cs j) × (stepOf k cs ≡ s)
 unfolding asStep
 as-step k (whole cs i) s j e = let q = got-parts (stepOf k cs) s i j e in (cs, ap (whole cs) (q .1), q .0)
 as-step k broken s j e = absurd (fault-got s j e)
@@ -451,7 +455,7 @@ steps-fault ss i e = let z : _≡_ {A = ℕ} 0 1 = cc in omega arith
 pub steps-part : (ss ts : List Step) → steps ss ≡ steps ts → ss ≡ ts
 steps-part ss ts e = cc
 
-cons-step : (s : Step) (p : Proof) (ss : List Step) → consStep s p ≡ steps ss → (ts : List Step) × (p ≡ steps ts) × (s ∷ ts ≡ ss)
+pub cons-step : (s : Step) (p : Proof) (ss : List Step) → consStep s p ≡ steps ss → (ts : List Step) × (p ≡ steps ts) × (s ∷ ts ≡ ss)
 unfolding consStep
 cons-step s (steps ts) ss e = (ts, refl, steps-part (s ∷ ts) ss e)
 cons-step s (faultAt i) ss e = absurd (steps-fault ss i e)

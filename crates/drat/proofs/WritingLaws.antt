@@ -2,12 +2,13 @@
 use Prim.Native.Nat.{ℕ, _+_, _-_, _≤_, _<_}
 use mathlib.Core.Path.{_≡_, refl, ap}
 use mathlib.Core.List.{List, [], _∷_}
-use mathlib.Core.Bool.{Bool, true, false, _&&_, _||_, not, true≢false}
+use mathlib.Core.Bool.{Bool, true, false, _&&_, not}
 use native.Mathlib.Omega.{arith}
 use native.Mathlib.Numerals.{add-one}
 use lib.Dec.{ltb}
 use lib.ListN.{length, getD, drop, length-take}
-use borrow.Author.Tests.{ltb-false, lt-ltb, le-ltb}
+use borrow.Author.Tests.{ltb-false, lt-ltb, le-ltb, not-false}
+use Rattle.base.proofs.MemberLaws.{or-left, or-right}
 use Rattle.base.specs.Bounded.{allBelow}
 use Rattle.base.specs.Answer.{accepted, refused}
 use Rattle.drat.specs.Grammar.{stepOf, encodeStep, Codes}
@@ -50,18 +51,14 @@ module _ (buf : List ℕ) (a b : ℕ) where
   -- what is not outside is a clause that can be written
   pub inside : outside buf a b ≡ false → Clause
   inside h =
-      let x = or-false (ltb b a) _ h in
-      let y = or-false (ltb (length buf) b) _ (x .1) in
-      let z = or-false (ltb 8192 (b - a)) _ (y .1) in
-      record { ordered = ltb-false b a (x .0); within = ltb-false (length buf) b (y .0); short = omega (arith, ltb-false 8192 (b - a) (z .0), length-take (b - a) (drop a buf)); codes = codes-true (part a b buf) (not-false (codesTest (part a b buf)) (z .1)) }
-    where
-      or-false : (s t : Bool) → s || t ≡ false → (s ≡ false) × (t ≡ false)
-      or-false true t e = absurd (true≢false e)
-      or-false false t e = (refl, e)
-
-      not-false : (t : Bool) → not t ≡ false → t ≡ true
-      not-false true e = refl
-      not-false false e = absurd (true≢false e)
+      let x = or-right (ltb b a) _ h in
+      let y = or-right (ltb (length buf) b) _ x in
+      record {
+        ordered = ltb-false b a (or-left (ltb b a) _ h);
+        within = ltb-false (length buf) b (or-left (ltb (length buf) b) _ x);
+        short = omega (arith, ltb-false 8192 (b - a) (or-left (ltb 8192 (b - a)) _ y), length-take (b - a) (drop a buf));
+        codes = codes-true (part a b buf) (not-false (codesTest (part a b buf)) (or-right (ltb 8192 (b - a)) _ y));
+      }
 
 -- the call's three answers
 module _ (f : Format) (k : Kind) (buf : List ℕ) (a b room at : ℕ) where

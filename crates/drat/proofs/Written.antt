@@ -1,4 +1,4 @@
--- What is written is spelled by the grammar; and a spelling beside a spelling is a spelling.
+-- What is written is spelled by the grammar.
 use Prim.Native.Nat.{ℕ, suc, _+_, _/_, _%_, _<_}
 use mathlib.Core.Path.{_≡_, refl, subst}
 use mathlib.Core.List.{List, [], _∷_, _++_, append-assoc}
@@ -40,7 +40,3 @@ pub encode-spells : (f : Format) (ss : List Step) → Valid ss → Spells f (enc
 unfolding encode encodeStep Valid
 encode-spells f [] h = none
 encode-spells f (s ∷ ss) h = step (s .kind) (body-spelled f (s .lits) (h .0)) (encode-spells f ss (h .1))
-
-pub spells-append : (f : Format) {a b : List ℕ} {ss ts : List Step} → Spells f a ss → Spells f b ts → Spells f (a ++ b) (ss ++ ts)
-spells-append f none q = q
-spells-append f (step k h p) q = rw append-assoc (step k h (spells-append f p q))

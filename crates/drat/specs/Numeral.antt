@@ -6,11 +6,11 @@ use lib.Dec.{leb, ltb}
 use Rattle.base.specs.Choice.{pick}
 
 -- A byte from lo to hi; a decimal digit.
-abbrev pub within : ℕ → ℕ → ℕ → Bool
-within lo hi x = leb lo x && leb x hi
+abbrev pub inRange : ℕ → ℕ → ℕ → Bool
+inRange lo hi x = leb lo x && leb x hi
 
 abbrev pub digit : ℕ → Bool
-digit x = within 48 57 x
+digit x = inRange 48 57 x
 
 -- A way to write digits: the base, the bytes of a number's highest digit, and the bytes of a number with one digit d below those of bs.
 pub record Radix : Type 0 where

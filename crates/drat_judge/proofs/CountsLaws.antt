@@ -8,7 +8,7 @@ use Rattle.base.specs.Choice.{pick}
 use Rattle.drat.proofs.Complete.{spells-read}
 use Rattle.drat.proofs.Sound.{Bytes}
 use Rattle.drat.specs.Filled.{counted}
-use Rattle.drat.specs.Reading.{steps, readProof}
+use Rattle.drat.specs.Reading.{readProof}
 use Rattle.drat.specs.declared.Format.{Format}
 use Rattle.drat.specs.declared.Scanned.the-variants.{Whole}
 use Rattle.drat_judge.specs.Local.{judged, litsBy, stepsBy, judgedOf}

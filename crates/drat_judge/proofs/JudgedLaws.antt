@@ -9,7 +9,7 @@ use lib.Dec.{eqb, ltb}
 use native.Mathlib.Omega.{arith}
 use borrow.Author.Tests.{ne-eqb, eqb-true, eqb-false, ltb-true, ltb-false}
 use Rattle.base.proofs.BelowLaws.{and-not-left, and-not-right}
-use Rattle.drat.proofs.Numerals.{numeral-pos, within-is, is-within}
+use Rattle.drat.proofs.Numerals.{numeral-pos, in-range-is, is-in-range}
 use Rattle.drat.proofs.Sound.{Bytes}
 use Rattle.drat.specs.Grammar.{Step, stepOf, opens, ends, Signed, plus, minus, Number, spaced, code, Body, last, lit, Spells, none, step}
 use Rattle.drat.specs.Numeral.{digit, decimal, leb128, Numeral, one, more}
@@ -104,7 +104,7 @@ with-blank ds l v n h b =
 
 digit-more : (ds : List ℕ) (v x : ℕ) → digit x ≡ true → Numeral decimal ds v → Numeral decimal (ds ++ x ∷ []) (10 * v + (x - 48))
 digit-more ds v x h n =
-    let d = within-is 48 57 x h in
+    let d = in-range-is 48 57 x h in
     let e : 48 + (x - 48) ≡ x = omega arith in
     subst₂ (λ (y w : ℕ). Numeral decimal (ds ++ y ∷ []) w) e (omega arith) (more {d = x - 48} (omega arith) n)
 
@@ -119,7 +119,7 @@ not-closing-first c p h = and-not-left (eqb p 48) (eqb c 32 || eqb c 10) (ne-eqb
 
 pub not-closing-after : (c p : ℕ) → digit c ≡ true → closing c p ≡ false
 not-closing-after c p h =
-    let d = within-is 48 57 c h in
+    let d = in-range-is 48 57 c h in
     and-not-right (eqb p 48) (eqb c 32 || eqb c 10) (simp (ne-eqb c 32 (omega arith), ne-eqb c 10 (omega arith)))
 
 -- ---- text: what l must be where the bytes before it end so
@@ -144,9 +144,9 @@ text-none =
       sign = λ a b c e. absurd (omega (arith, runs-end Text a b c 45 e));
       dee = λ a b c e. absurd (omega (arith, runs-end Text a b c 100 e));
       first = λ a b c p h k e ds n. absurd (omega (arith, runs-end Text a b c p e));
-      second = λ a b c p hc hp e ds n. absurd (omega (arith, runs-end Text a b c p e, within-is 48 57 p hp));
-      third = λ a b c p hb hc hp e ds n. absurd (omega (arith, runs-end Text a b c p e, within-is 48 57 p hp));
-      fourth = λ a b c p ha hb hc hp e ds v n m. absurd (omega (arith, runs-end Text a b c p e, within-is 48 57 p hp));
+      second = λ a b c p hc hp e ds n. absurd (omega (arith, runs-end Text a b c p e, in-range-is 48 57 p hp));
+      third = λ a b c p hb hc hp e ds n. absurd (omega (arith, runs-end Text a b c p e, in-range-is 48 57 p hp));
+      fourth = λ a b c p ha hb hc hp e ds v n m. absurd (omega (arith, runs-end Text a b c p e, in-range-is 48 57 p hp));
     }
 
 module _ (x : ℕ) (l : List ℕ) (h : TextHere l) where
@@ -199,14 +199,14 @@ module _ (x : ℕ) (l : List ℕ) (h : TextHere l) where
       let r = runs-cons Text a b c p x l e in
       ⊎-elim (λ (z : x ≡ 32). ended b c p (p - 48) ds (r .1) n (omega arith) z)
       (λ (z : (digit x ≡ true) × (over a b c p x ≡ false)).
-      with-digit ds x l (h .second b c p x (is-within 48 57 p (omega arith) j) (z .0) (r .1) (ds ++ x ∷ []) (digit-more ds (p - 48) x (z .0) n)))
+      with-digit ds x l (h .second b c p x (is-in-range 48 57 p (omega arith) j) (z .0) (r .1) (ds ++ x ∷ []) (digit-more ds (p - 48) x (z .0) n)))
       (digit-next a b c p x (omega arith) j (not-closing-first c p i) (r .0))
 
   text-second : (a b c p : ℕ) → digit c ≡ true → digit p ≡ true → runs Text a b c p (x ∷ l) ≡ true → (ds : List ℕ) → Numeral decimal ds (10 * (c - 48) + (p - 48)) → NumberHere ds (x ∷ l)
   text-second a b c p hc hp e ds n =
       let r = runs-cons Text a b c p x l e in
-      let i = within-is 48 57 p hp in
-      let j = within-is 48 57 c hc in
+      let i = in-range-is 48 57 p hp in
+      let j = in-range-is 48 57 c hc in
       ⊎-elim (λ (z : x ≡ 32). ended b c p (10 * (c - 48) + (p - 48)) ds (r .1) n (omega arith) z)
       (λ (z : (digit x ≡ true) × (over a b c p x ≡ false)).
       with-digit ds x l (h .third b c p x hc hp (z .0) (r .1) (ds ++ x ∷ []) (digit-more ds (10 * (c - 48) + (p - 48)) x (z .0) n)))
@@ -215,9 +215,9 @@ module _ (x : ℕ) (l : List ℕ) (h : TextHere l) where
   text-third : (a b c p : ℕ) → digit b ≡ true → digit c ≡ true → digit p ≡ true → runs Text a b c p (x ∷ l) ≡ true → (ds : List ℕ) → Numeral decimal ds (10 * (10 * (b - 48) + (c - 48)) + (p - 48)) → NumberHere ds (x ∷ l)
   text-third a b c p hb hc hp e ds n =
       let r = runs-cons Text a b c p x l e in
-      let i = within-is 48 57 p hp in
-      let j = within-is 48 57 c hc in
-      let k = within-is 48 57 b hb in
+      let i = in-range-is 48 57 p hp in
+      let j = in-range-is 48 57 c hc in
+      let k = in-range-is 48 57 b hb in
       let v = 10 * (10 * (b - 48) + (c - 48)) + (p - 48) in
       ⊎-elim (λ (z : x ≡ 32). ended b c p v ds (r .1) n (omega arith) z)
       (λ (z : (digit x ≡ true) × (over a b c p x ≡ false)).
@@ -227,7 +227,7 @@ module _ (x : ℕ) (l : List ℕ) (h : TextHere l) where
   text-fourth : (a b c p : ℕ) → digit a ≡ true → digit b ≡ true → digit c ≡ true → digit p ≡ true → runs Text a b c p (x ∷ l) ≡ true → (ds : List ℕ) (v : ℕ) → Numeral decimal ds v → v ≤ 4096 → NumberHere ds (x ∷ l)
   text-fourth a b c p ha hb hc hp e ds v n m =
       let r = runs-cons Text a b c p x l e in
-      let i = within-is 48 57 p hp in
+      let i = in-range-is 48 57 p hp in
       ⊎-elim (λ (z : x ≡ 32). ended b c p v ds (r .1) n m z)
       (λ (z : (digit x ≡ true) × (over a b c p x ≡ false)). absurd (no-fifth a b c p x ha hb hc (z .1)))
       (digit-next a b c p x (i .0) (i .1) (not-closing-after c p hc) (r .0))

@@ -7,7 +7,7 @@ use mathlib.Core.Path.{_≡_, refl, ap, ap₂, _∙_}
 use lib.ListN.{length, length-append}
 use native.Mathlib.Omega.{arith}
 use Rattle.base.specs.Choice.{pick}
-use Rattle.drat.proofs.Numerals.{is-within, below-within, above-within}
+use Rattle.drat.proofs.Numerals.{is-in-range, below-range, above-range}
 use Rattle.drat.specs.Filled.{codesOf}
 use Rattle.drat.specs.Grammar.{Step, Signed, plus, minus, Number, spaced, code, Body, last, lit, Spells, none, step}
 use Rattle.drat.specs.Numeral.{decimal, leb128, Numeral, one, more}
@@ -24,12 +24,12 @@ tally-append lo hi (x ∷ a) b = let h = tally-append lo hi a b in omega arith
 -- one byte that counts, or not
 tally-in : (lo hi x : ℕ) (l : List ℕ) → lo ≤ x → x ≤ hi → tally lo hi (x ∷ l) ≡ 1 + tally lo hi l
 unfolding tally
-tally-in lo hi x l h k = ap (λ (t : Bool). pick t 1 0 + tally lo hi l) (is-within lo hi x h k)
+tally-in lo hi x l h k = ap (λ (t : Bool). pick t 1 0 + tally lo hi l) (is-in-range lo hi x h k)
 
 tally-out : (lo hi x : ℕ) (l : List ℕ) → (x < lo) ⊎ (hi < x) → tally lo hi (x ∷ l) ≡ tally lo hi l
 unfolding tally
-tally-out lo hi x l (inl h) = ap (λ (t : Bool). pick t 1 0 + tally lo hi l) (below-within lo hi x h) ∙ omega arith
-tally-out lo hi x l (inr h) = ap (λ (t : Bool). pick t 1 0 + tally lo hi l) (above-within lo hi x h) ∙ omega arith
+tally-out lo hi x l (inl h) = ap (λ (t : Bool). pick t 1 0 + tally lo hi l) (below-range lo hi x h) ∙ omega arith
+tally-out lo hi x l (inr h) = ap (λ (t : Bool). pick t 1 0 + tally lo hi l) (above-range lo hi x h) ∙ omega arith
 
 tally-none : (lo hi : ℕ) → tally lo hi [] ≡ 0
 unfolding tally

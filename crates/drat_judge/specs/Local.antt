@@ -6,20 +6,20 @@ use mathlib.Core.List.{List, [], _∷_}
 use lib.Dec.{eqb, leb, ltb}
 use lib.ListN.{getD, drop}
 use Rattle.base.specs.Choice.{pick}
-use Rattle.drat.specs.Numeral.{within, digit}
+use Rattle.drat.specs.Numeral.{inRange, digit}
 use Rattle.drat.specs.declared.Format.{Format}
 use Rattle.drat.specs.declared.Format.the-variants.{Text, Binary}
 use Rattle.drat_judge.specs.declared.Judged.{Judged}
 use Rattle.drat_judge.specs.declared.Judged.the-variants.{Counts, Unsure}
 
 -- The byte that ends a step: a line feed; 0.
-abbrev pub mark : Format → ℕ
-mark Text = 10
-mark Binary = 0
+abbrev pub endByte : Format → ℕ
+endByte Text = 10
+endByte Binary = 0
 
 -- A digit that begins a number.
 abbrev pub leading : ℕ → Bool
-leading x = within 49 57 x
+leading x = inRange 49 57 x
 
 -- In text, x is the byte in question and a b c p are the four before it.
 -- p is a step's closing 0: it stands where a number may begin.
@@ -44,7 +44,7 @@ textNext a b c p x =
 unfoldable pub binaryNext : ℕ → ℕ → Bool
 binaryNext p x =
     pick (ltb p 128) (pick (eqb p 0) (eqb x 97 || eqb x 100) (not (eqb x 1)))
-    (within 1 64 x && (ltb x 64 || leb p 129))
+    (inRange 1 64 x && (ltb x 64 || leb p 129))
 
 abbrev pub mayFollow : Format → ℕ → ℕ → ℕ → ℕ → ℕ → Bool
 mayFollow Text a b c p x = textNext a b c p x
@@ -52,17 +52,17 @@ mayFollow Binary a b c p x = binaryNext p x
 
 -- Each byte of l may follow the four before it, which for the first are a b c p, and the last ends a step.
 unfoldable pub runs : Format → ℕ → ℕ → ℕ → ℕ → List ℕ → Bool
-runs f a b c p [] = eqb p (mark f)
+runs f a b c p [] = eqb p (endByte f)
 runs f a b c p (x ∷ l) = mayFollow f a b c p x && runs f b c p x l
 
 -- What stands before the first byte counts as a step's end.
 abbrev pub judged : Format → List ℕ → Bool
-judged f l = runs f (mark f) (mark f) (mark f) (mark f) l
+judged f l = runs f (endByte f) (endByte f) (endByte f) (endByte f) l
 
 -- How many bytes of l are from lo to hi.
 unfoldable pub tally : ℕ → ℕ → List ℕ → ℕ
 tally lo hi [] = 0
-tally lo hi (x ∷ l) = pick (within lo hi x) 1 0 + tally lo hi l
+tally lo hi (x ∷ l) = pick (inRange lo hi x) 1 0 + tally lo hi l
 
 -- In text each step has one line feed, and each literal and each `d` one blank. In binary each step has one 0,
 -- and each literal, each letter and each 0 one byte below 128.
@@ -75,11 +75,11 @@ litsBy Text l = tally 32 32 l - tally 100 100 l
 litsBy Binary l = tally 0 127 l - 2 * tally 0 0 l
 
 -- The byte k places before place i, and the judging from place i on.
-abbrev pub back : Format → List ℕ → ℕ → ℕ → ℕ
-back f s i k = pick (ltb i k) (mark f) (getD s (i - k) 0)
+abbrev pub byteBack : Format → List ℕ → ℕ → ℕ → ℕ
+byteBack f s i k = pick (ltb i k) (endByte f) (getD s (i - k) 0)
 
 abbrev pub runsAt : Format → List ℕ → ℕ → Bool
-runsAt f s i = runs f (back f s i 4) (back f s i 3) (back f s i 2) (back f s i 1) (drop i s)
+runsAt f s i = runs f (byteBack f s i 4) (byteBack f s i 3) (byteBack f s i 2) (byteBack f s i 1) (drop i s)
 
 -- Judged whole, with the numbers of literals and of steps, or not.
 unfoldable pub judgedOf : Format → List ℕ → Judged

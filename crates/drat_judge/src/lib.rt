@@ -7,8 +7,8 @@ ghost use Prim.Native.Nat.{_+_, _-_, _≤_, _<_};
 ghost use lib.ListN.{length, drop};
 ghost use Rattle.base.specs.Choice.{pick};
 ghost use Rattle.base.specs.Lent.{old};
-ghost use Rattle.drat.specs.Numeral.{within};
-ghost use Rattle.drat_judge.specs.Local.{mark, textNext, binaryNext, mayFollow, judged, back, runsAt, tally, stepsBy, litsBy, judgedOf};
+ghost use Rattle.drat.specs.Numeral.{inRange};
+ghost use Rattle.drat_judge.specs.Local.{endByte, textNext, binaryNext, mayFollow, judged, byteBack, runsAt, tally, stepsBy, litsBy, judgedOf};
 ghost use Rattle.drat.specs.declared.Format.the-variants.{Text, Binary};
 
 // Judged whole, with the numbers of literals and of steps; or not.
@@ -17,8 +17,8 @@ pub enum Judged {
     Unsure,
 }
 
-fn mark_of(f: Format) -> u8
-    ensures { λ r. ⌜ r ≡ mark f ⌝ }
+fn end_byte(f: Format) -> u8
+    ensures { λ r. ⌜ r ≡ endByte f ⌝ }
 {
     match f {
         Format::Text => 10,
@@ -26,8 +26,8 @@ fn mark_of(f: Format) -> u8
     }
 }
 
-fn is_within(x: u8, lo: u8, hi: u8) -> bool
-    ensures { λ r. ⌜ r ≡ within lo hi x ⌝ }
+fn in_range(x: u8, lo: u8, hi: u8) -> bool
+    ensures { λ r. ⌜ r ≡ inRange lo hi x ⌝ }
 {
     (lo <= x) & (x <= hi)
 }
@@ -42,16 +42,16 @@ fn choose(t: bool, u: bool, v: bool) -> bool
 fn text_next(a: u8, b: u8, c: u8, p: u8, x: u8) -> bool
     ensures { λ r. ⌜ r ≡ textNext a b c p x ⌝ }
 {
-    let digit = is_within(x, 48, 57);
+    let digit = in_range(x, 48, 57);
     let closing = (p == 48) & ((c == 32) | (c == 10));
     let above = (b == 52) & ((49 <= c) | ((p == 57) & (55 <= x)));
-    let over = is_within(b, 48, 57)
-        & (is_within(c, 48, 57) & (is_within(a, 48, 57) | ((53 <= b) | above)));
+    let over = in_range(b, 48, 57)
+        & (in_range(c, 48, 57) & (in_range(a, 48, 57) | ((53 <= b) | above)));
     let after_digit = choose(closing, x == 10, choose(digit, !over, x == 32));
-    let after_minus = choose(p == 45, is_within(x, 49, 57), (p == 100) & (x == 32));
+    let after_minus = choose(p == 45, in_range(x, 49, 57), (p == 100) & (x == 32));
     let after_line = choose(p == 10, digit | ((x == 45) | (x == 100)), after_minus);
     let after_blank = choose(p == 32, digit | (x == 45), after_line);
-    choose(is_within(p, 48, 57), after_digit, after_blank)
+    choose(in_range(p, 48, 57), after_digit, after_blank)
 }
 
 // Whether x may stand after p.
@@ -59,11 +59,7 @@ fn binary_next(p: u8, x: u8) -> bool
     ensures { λ r. ⌜ r ≡ binaryNext p x ⌝ }
 {
     let first = choose(p == 0, (x == 97) | (x == 100), !(x == 1));
-    choose(
-        p < 128,
-        first,
-        is_within(x, 1, 64) & ((x < 64) | (p <= 129)),
-    )
+    choose(p < 128, first, in_range(x, 1, 64) & ((x < 64) | (p <= 129)))
 }
 
 fn next(f: Format, a: u8, b: u8, c: u8, p: u8, x: u8) -> bool
@@ -79,9 +75,9 @@ fn next(f: Format, a: u8, b: u8, c: u8, p: u8, x: u8) -> bool
 fn byte_back(f: Format, s: &[u8], i: usize, k: usize) -> u8
     requires { ⌜ i ≤ length (now s) ⌝ }
     requires { ⌜ 0 < k ⌝ }
-    ensures { λ r. ⌜ r ≡ back f (old s) i k ⌝ }
+    ensures { λ r. ⌜ r ≡ byteBack f (old s) i k ⌝ }
 {
-    if i < k { mark_of(f) } else { s[i - k] }
+    if i < k { end_byte(f) } else { s[i - k] }
 }
 
 // The first n bytes.
@@ -159,7 +155,7 @@ fn tail_runs(f: Format, s: &[u8]) -> bool
         i += 4096;
     }
     let n = s.len();
-    part_runs(f, s, i, n) & (s[n - 1] == mark_of(f))
+    part_runs(f, s, i, n) & (s[n - 1] == end_byte(f))
 }
 
 fn is_judged(f: Format, s: &[u8]) -> bool
@@ -167,7 +163,7 @@ fn is_judged(f: Format, s: &[u8]) -> bool
 {
     let n = s.len();
     if n < 4 {
-        return head_runs(f, s, n) & (byte_back(f, s, n, 1) == mark_of(f));
+        return head_runs(f, s, n) & (byte_back(f, s, n, 1) == end_byte(f));
     }
     if !head_runs(f, s, 4) {
         return false;
@@ -191,7 +187,7 @@ fn block(s: &[u8], from: usize, to: usize, lo: u8, hi: u8) -> u8
     let mut k: u8 = 0;
     let mut i = from;
     while i < to {
-        k += one(is_within(s[i], lo, hi));
+        k += one(in_range(s[i], lo, hi));
         i += 1;
     }
     k

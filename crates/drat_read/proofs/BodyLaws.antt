@@ -1,22 +1,19 @@
 -- The fill inside a step: what stands ahead is known, so that each turn fills one literal more.
 use Prim.Native.Nat.{ℕ, _+_, _-_, _≤_, _<_}
-use mathlib.Core.Bool.{Bool, true, false}
 use mathlib.Core.List.{List, [], _∷_, _++_, append-assoc, append-nil}
 use mathlib.Core.Logic.{_⊎_, ⊎-elim}
 use mathlib.Core.Path.{_≡_, refl, sym, ap, ap₂, _∙_, subst}
-use lib.Dec.{eqb}
 use lib.ListN.{length, getD, drop, set, length-append}
 use lib.Seq.{sets, getD-drop}
 use native.Mathlib.Omega.{arith}
 use borrow.Author.Tests.{eq-eqb}
 use Rattle.base.proofs.SetsLaws.{sets-append}
 use Rattle.base.proofs.Truth.{split}
-use Rattle.base.specs.Choice.{pick}
 use Rattle.drat.proofs.At.{text-here, binary-here, token-past}
 use Rattle.drat.proofs.Places.{bodyAt, lit-at, stop-at, bad-at}
-use Rattle.drat.proofs.Sound.{Bytes, token-stop}
+use Rattle.drat.proofs.Sound.{Bytes, lit-bad, lit-stop, stop-bad, broken-whole, cons-part, no-lit-end, token-stop}
 use Rattle.drat.specs.Grammar.{ends}
-use Rattle.drat.specs.Reading.{endFrom, token, Part, whole, broken, consPart}
+use Rattle.drat.specs.Reading.{endFrom, token, whole}
 use Rattle.drat.specs.declared.Format.the-variants.{Text, Binary}
 use Rattle.drat.specs.declared.Format.{Format}
 use Rattle.drat.specs.declared.Token.the-variants.{Lit, Stop, Bad}
@@ -32,33 +29,25 @@ abbrev pub stopByte : Format → ℕ
 stopByte Text = 48
 stopByte Binary = 0
 
-whole-broken : (cs : List ℕ) (j : ℕ) → broken ≡ whole cs j → ⊥
-whole-broken cs j e = let z : _≡_ {A = ℕ} 0 1 = cc in omega arith
-
-cons-whole : (c : ℕ) (p : Part) (cs : List ℕ) (j : ℕ) → consPart c p ≡ whole cs j → (ds : List ℕ) × (p ≡ whole ds j) × (cs ≡ c ∷ ds)
-unfolding consPart
-cons-whole c (whole ds i) cs j e = (ds, cc, cc)
-cons-whole c broken cs j e = absurd (whole-broken cs j e)
-
 -- what stands ahead of a place where literals and an end are whole
-pub data Ahead (f : Format) (s : List ℕ) (i : ℕ) (cs : List ℕ) (j : ℕ) : Type 0 where
-  stops : token f i (drop i s) ≡ Stop j → cs ≡ [] → j ≤ length s → Ahead f s i cs j
-  goes : (c k : ℕ) (ds : List ℕ) → token f i (drop i s) ≡ Lit c k → cs ≡ c ∷ ds → bodyAt f s k ≡ whole ds j → i < k → k ≤ length s → Ahead f s i cs j
+pub data NextToken (f : Format) (s : List ℕ) (i : ℕ) (cs : List ℕ) (j : ℕ) : Type 0 where
+  stops : token f i (drop i s) ≡ Stop j → cs ≡ [] → j ≤ length s → NextToken f s i cs j
+  goes : (c k : ℕ) (ds : List ℕ) → token f i (drop i s) ≡ Lit c k → cs ≡ c ∷ ds → bodyAt f s k ≡ whole ds j → i < k → k ≤ length s → NextToken f s i cs j
 
-pub ahead : (f : Format) (s : List ℕ) (i : ℕ) (cs : List ℕ) (j : ℕ) → Bytes s → i ≤ length s → bodyAt f s i ≡ whole cs j → Ahead f s i cs j
-ahead f s i cs j hb h e = go (token f i (drop i s)) refl
+pub next-token : (f : Format) (s : List ℕ) (i : ℕ) (cs : List ℕ) (j : ℕ) → Bytes s → i ≤ length s → bodyAt f s i ≡ whole cs j → NextToken f s i cs j
+next-token f s i cs j hb h e = go (token f i (drop i s)) refl
   where
-    go : (t : Token) → token f i (drop i s) ≡ t → Ahead f s i cs j
+    go : (t : Token) → token f i (drop i s) ≡ t → NextToken f s i cs j
     go (Lit c k) t =
         let l = lit-at f s hb i h c k t in
-        let r = cons-whole c (bodyAt f s k) cs j (sym (l .0) ∙ e) in
-        goes c k (r .0) t (r .2) (r .1) (l .1) (l .2)
+        let r = cons-part c (bodyAt f s k) cs j (sym (l .0) ∙ e) in
+        goes c k (r .0) t (sym (r .2)) (r .1) (l .1) (l .2)
     go (Stop k) t =
         let l = stop-at f s hb i h k t in
         let q : whole [] k ≡ whole cs j = sym (l .0) ∙ e in
         let z : k ≡ j = cc in
         stops (t ∙ ap Stop z) (cc) (omega (arith, l .2))
-    go Bad t = absurd (whole-broken cs j (sym (bad-at f s hb i t) ∙ e))
+    go Bad t = absurd (broken-whole cs j (sym (bad-at f s hb i t) ∙ e))
 
 -- the byte there tells which
 head-is : (s : List ℕ) (i x : ℕ) (l : List ℕ) → drop i s ≡ x ∷ l → getD s i 0 ≡ x
@@ -68,36 +57,21 @@ stop-byte : (f : Format) (s : List ℕ) (i j : ℕ) → token f i (drop i s) ≡
 stop-byte Text s i j e = let r = token-stop Text i (drop i s) j e in (head-is s i 48 (10 ∷ r .rest) (r .split), r .place)
 stop-byte Binary s i j e = let r = token-stop Binary i (drop i s) j e in (head-is s i 0 (r .rest) (r .split), r .place)
 
-lit-bad : (c j : ℕ) → Bad ≡ Lit c j → ⊥
-lit-bad c j e = let z : _≡_ {A = ℕ} 0 1 = cc in omega arith
-
-lit-stop : (c i j : ℕ) → Stop i ≡ Lit c j → ⊥
-lit-stop c i j e = let z : _≡_ {A = ℕ} 0 1 = cc in omega arith
-
-end-no-lit : (i : ℕ) (l : List ℕ) (c j : ℕ) → endFrom i l ≡ Lit c j → ⊥
-unfolding endFrom
-end-no-lit i [] c j e = lit-bad c j e
-end-no-lit i (b ∷ l) c j e = go (eqb b 10) e
-  where
-    go : (t : Bool) → pick t (Stop (i + 1)) Bad ≡ Lit c j → ⊥
-    go true e = lit-stop c (i + 1) j e
-    go false e = lit-bad c j e
-
 here : (f : Format) (s : List ℕ) (i : ℕ) (t : Token) → token f i (drop i s) ≡ t → (t ≡ Bad → ⊥) → i < length s
 here f s i t e n = ⊎-elim (λ (h : i < length s). h) (λ (h : length s ≤ i). absurd (n (sym e ∙ token-past s i h f))) (split i (length s))
 
 lit-byte : (f : Format) (s : List ℕ) (i c j : ℕ) → token f i (drop i s) ≡ Lit c j → getD s i 0 ≡ stopByte f → ⊥
 lit-byte Text s i c j e h =
-    let l = here Text s i (Lit c j) e (λ b. lit-bad c j (sym b)) in
+    let l = here Text s i (Lit c j) e (lit-bad c j) in
     let t : token Text i (drop i s) ≡ endFrom (i + 1) (drop (i + 1) s) = text-here s i l ∙ simp (eq-eqb (getD s i 0) 48 h) in
-    end-no-lit (i + 1) (drop (i + 1) s) c j (sym t ∙ e)
+    no-lit-end (i + 1) (drop (i + 1) s) c j (sym t ∙ e)
 lit-byte Binary s i c j e h =
-    let l = here Binary s i (Lit c j) e (λ b. lit-bad c j (sym b)) in
+    let l = here Binary s i (Lit c j) e (lit-bad c j) in
     let t : token Binary i (drop i s) ≡ Stop (i + 1) = binary-here s i l ∙ simp (eq-eqb (getD s i 0) 0 h) in
-    lit-stop c (i + 1) j (sym t ∙ e)
+    lit-stop c j (i + 1) (sym e ∙ t)
 
 -- between two literals: ds were filled, rest is ahead
-pub record Filling (f : Format) (s codes₀ : List ℕ) (i n : ℕ) (codes : List ℕ) (at m : ℕ) : Type 0 where
+pub record BodyFilling (f : Format) (s codes₀ : List ℕ) (i n : ℕ) (codes : List ℕ) (at m : ℕ) : Type 0 where
   pub ds : List ℕ
   pub rest : List ℕ
   pub end : ℕ
@@ -108,26 +82,26 @@ pub record Filling (f : Format) (s codes₀ : List ℕ) (i n : ℕ) (codes : Lis
   pub count : m ≡ n + length ds
   pub held : codes ≡ sets codes₀ n ds
 
-pub filling-start : (f : Format) (s codes : List ℕ) (i n : ℕ) → BodyFits f s i n (length codes) → Filling f s codes i n codes i n
+pub filling-start : (f : Format) (s codes : List ℕ) (i n : ℕ) → BodyFits f s i n (length codes) → BodyFilling f s codes i n codes i n
 filling-start f s codes i n b =
     record { ds = []; rest = b .cs; end = b .end; inside = b .inside; all = b .reads; ahead = body-is f s i ∙ b .reads; fits = b .fits; count = omega arith; held = refl }
 
-module _ (f : Format) (s codes₀ codes : List ℕ) (i n at m : ℕ) (hb : Bytes s) (r : Filling f s codes₀ i n codes at m) where
-  known : Ahead f s at (r .rest) (r .end)
-  known = ahead f s at (r .rest) (r .end) hb (r .inside) (r .ahead)
+module _ (f : Format) (s codes₀ codes : List ℕ) (i n at m : ℕ) (hb : Bytes s) (r : BodyFilling f s codes₀ i n codes at m) where
+  known : NextToken f s at (r .rest) (r .end)
+  known = next-token f s at (r .rest) (r .end) hb (r .inside) (r .ahead)
 
   pub filling-inside : at < length s
   filling-inside = go known
     where
-      go : Ahead f s at (r .rest) (r .end) → at < length s
-      go (stops t z k) = here f s at (Stop (r .end)) t (λ b. let z : _≡_ {A = ℕ} 0 1 = cc in omega arith)
+      go : NextToken f s at (r .rest) (r .end) → at < length s
+      go (stops t z k) = here f s at (Stop (r .end)) t (stop-bad (r .end))
       go (goes c k ds t z b o p) = omega arith
 
   -- the step's end
   pub filling-stop : getD s at 0 ≡ stopByte f → (at + length (ends f) ≤ length s) × BodyFilled f s i n codes₀ codes (at + length (ends f)) m
   filling-stop h = go known
     where
-      go : Ahead f s at (r .rest) (r .end) → (at + length (ends f) ≤ length s) × BodyFilled f s i n codes₀ codes (at + length (ends f)) m
+      go : NextToken f s at (r .rest) (r .end) → (at + length (ends f) ≤ length s) × BodyFilled f s i n codes₀ codes (at + length (ends f)) m
       go (stops t z k) =
           let p = stop-byte f s at (r .end) t .1 in (
             omega (arith, p),
@@ -139,16 +113,16 @@ module _ (f : Format) (s codes₀ codes : List ℕ) (i n at m : ℕ) (hb : Bytes
   pub filling-lit : (getD s at 0 ≡ stopByte f → ⊥) → IsLit (token f at (drop at s))
   filling-lit h = go known
     where
-      go : Ahead f s at (r .rest) (r .end) → IsLit (token f at (drop at s))
+      go : NextToken f s at (r .rest) (r .end) → IsLit (token f at (drop at s))
       go (stops t z k) = absurd (h (stop-byte f s at (r .end) t .0))
       go (goes c k ds t z b o p) = record { code = c; next = k; is = t }
 
   -- one literal more
-  pub filling-more : (c k : ℕ) → token f at (drop at s) ≡ Lit c k → (at < k) × (k ≤ length s) × (m < length codes₀) × Filling f s codes₀ i n (set codes m c) k (m + 1)
+  pub filling-more : (c k : ℕ) → token f at (drop at s) ≡ Lit c k → (at < k) × (k ≤ length s) × (m < length codes₀) × BodyFilling f s codes₀ i n (set codes m c) k (m + 1)
   filling-more c k e = go known
     where
-      go : Ahead f s at (r .rest) (r .end) → (at < k) × (k ≤ length s) × (m < length codes₀) × Filling f s codes₀ i n (set codes m c) k (m + 1)
-      go (stops t z o) = absurd (lit-stop c (r .end) k (sym t ∙ e))
+      go : NextToken f s at (r .rest) (r .end) → (at < k) × (k ≤ length s) × (m < length codes₀) × BodyFilling f s codes₀ i n (set codes m c) k (m + 1)
+      go (stops t z o) = absurd (lit-stop c k (r .end) (sym e ∙ t))
       go (goes d j ds t z b o p) =
           let q : Lit d j ≡ Lit c k = sym t ∙ e in
           let qd : d ≡ c = cc in

@@ -1,25 +1,25 @@
 -- The fill from step to step: all steps are whole, so that each turn fills one more.
 use Prim.Native.Nat.{ℕ, _+_, _-_, _≤_, _<_}
-use mathlib.Core.List.{List, [], _∷_, _++_, append-assoc}
+use mathlib.Core.List.{List, [], _∷_, _++_}
 use mathlib.Core.Path.{_≡_, refl, sym, ap, _∙_, subst, subst₂}
 use lib.ListN.{length, drop, set, length-append}
 use lib.Seq.{sets}
 use native.Mathlib.Numerals.{add-one}
 use native.Mathlib.Omega.{arith}
 use Rattle.drat.proofs.Places.{bodyAt, stepAt, proofAt, opens-at, stop-at, wrong-at, got-at, fault-at, proof-at-zero}
-use Rattle.drat.proofs.Scanning.{prependSteps, Inner, Outer, inner-start, inner-more, outer-more, outer-end}
-use Rattle.drat.proofs.Sound.{Bytes, steps-fault, fault-got}
+use Rattle.drat.proofs.Scanning.{prependSteps, codes-of-append, Inner, Outer, inner-start, inner-more, outer-more, outer-end}
+use Rattle.drat.proofs.Sound.{Bytes, as-step, cons-step, steps-fault, fault-got}
 use Rattle.drat.specs.Filled.{kindNumber, codesOf, counted, Scan}
-use Rattle.drat.specs.Grammar.{Step, stepOf}
-use Rattle.drat.specs.Reading.{token, opening, Part, whole, broken, One, got, fault, asStep, Proof, steps, faultAt, consStep, readProof}
+use Rattle.drat.specs.Grammar.{Step}
+use Rattle.drat.specs.Reading.{token, opening, whole, One, got, fault, Proof, steps, faultAt, readProof}
 use Rattle.drat.specs.declared.Format.{Format}
 use Rattle.drat.specs.declared.Kind.{Kind}
 use Rattle.drat.specs.declared.Opening.the-variants.{Opens, Wrong}
 use Rattle.drat.specs.declared.Opening.{Opening}
 use Rattle.drat.specs.declared.Scanned.the-variants.{Whole}
 use Rattle.drat.specs.declared.Token.the-variants.{Lit, Stop}
-use Rattle.drat_read.specs.Known.{Fits, BodyFits, BodyFilled, IsOpen}
-use Rattle.drat_read.proofs.BodyLaws.{body-is, Ahead, stops, goes, ahead}
+use Rattle.drat_read.specs.Known.{StepsFit, BodyFits, BodyFilled, IsOpen}
+use Rattle.drat_read.proofs.BodyLaws.{body-is, NextToken, stops, goes, next-token}
 
 -- ---- what a whole is made of
 rest-steps : (ds : List Step) (p : Proof) (ss : List Step) → prependSteps ds p ≡ steps ss → (ts : List Step) × (p ≡ steps ts) × (ss ≡ ds ++ ts)
@@ -27,35 +27,20 @@ unfolding prependSteps
 rest-steps ds (steps ts) ss e = (ts, refl, cc)
 rest-steps ds (faultAt i) ss e = absurd (steps-fault ss i e)
 
-next-step : (t : Step) (p : Proof) (ss : List Step) → consStep t p ≡ steps ss → (ts : List Step) × (p ≡ steps ts) × (ss ≡ t ∷ ts)
-unfolding consStep
-next-step t (steps ts) ss e = (ts, refl, cc)
-next-step t (faultAt i) ss e = absurd (steps-fault ss i e)
-
-step-parts : (k : Kind) (p : Part) (t : Step) (j : ℕ) → asStep k p ≡ got t j → (cs : List ℕ) × (p ≡ whole cs j) × (t ≡ stepOf k cs)
-unfolding asStep
-step-parts k (whole cs i) t j e = let z : i ≡ j = cc in (cs, ap (whole cs) z, cc)
-step-parts k broken t j e = absurd (fault-got t j e)
-
-codes-append : (ss ts : List Step) → codesOf (ss ++ ts) ≡ codesOf ss ++ codesOf ts
-unfolding codesOf
-codes-append [] ts = refl
-codes-append (s ∷ ss) ts = ap (λ (l : List ℕ). s .lits ++ l) (codes-append ss ts) ∙ sym (append-assoc (s .lits) (codesOf ss) (codesOf ts))
-
 codes-more : (ss ts : List Step) (t : Step) → length (codesOf ss) + length (t .lits) ≤ length (codesOf (ss ++ t ∷ ts))
 unfolding codesOf
-codes-more ss ts t = omega (arith, ap length (codes-append ss (t ∷ ts)), length-append (codesOf ss) (t .lits ++ codesOf ts), length-append (t .lits) (codesOf ts))
+codes-more ss ts t = omega (arith, ap length (codes-of-append ss (t ∷ ts)), length-append (codesOf ss) (t .lits ++ codesOf ts), length-append (t .lits) (codesOf ts))
 
 -- literals that were filled, one by one
 along : (f : Format) (s : List ℕ) → Bytes s → (rest codes₁ codes₂ : List ℕ) (at₁ n₁ at₂ n₂ j : ℕ) → Inner f s codes₁ at₁ n₁ codes₂ at₂ n₂ → bodyAt f s at₂ ≡ whole rest j → (z : ℕ) × Inner f s codes₁ at₁ n₁ (sets codes₂ n₂ rest) z (n₂ + length rest) × (token f z (drop z s) ≡ Stop j)
-along f s hb [] codes₁ codes₂ at₁ n₁ at₂ n₂ j i e = go (ahead f s at₂ [] j hb (i .within) e)
+along f s hb [] codes₁ codes₂ at₁ n₁ at₂ n₂ j i e = go (next-token f s at₂ [] j hb (i .within) e)
   where
-    go : Ahead f s at₂ [] j → (z : ℕ) × Inner f s codes₁ at₁ n₁ codes₂ z (n₂ + 0) × (token f z (drop z s) ≡ Stop j)
+    go : NextToken f s at₂ [] j → (z : ℕ) × Inner f s codes₁ at₁ n₁ codes₂ z (n₂ + 0) × (token f z (drop z s) ≡ Stop j)
     go (stops t q k) = let z : n₂ ≡ n₂ + 0 = omega arith in (at₂, subst (Inner f s codes₁ at₁ n₁ codes₂ at₂) z i, t)
     go (goes c k ds t q b u v) = let z : _≡_ {A = ℕ} 0 1 = cc in absurd (omega arith)
-along f s hb (x ∷ rest) codes₁ codes₂ at₁ n₁ at₂ n₂ j i e = go (ahead f s at₂ (x ∷ rest) j hb (i .within) e) (λ codes k n. along f s hb rest codes₁ codes at₁ n₁ k n j)
+along f s hb (x ∷ rest) codes₁ codes₂ at₁ n₁ at₂ n₂ j i e = go (next-token f s at₂ (x ∷ rest) j hb (i .within) e) (λ codes k n. along f s hb rest codes₁ codes at₁ n₁ k n j)
   where
-    go : Ahead f s at₂ (x ∷ rest) j
+    go : NextToken f s at₂ (x ∷ rest) j
         → ((codes : List ℕ) (k n : ℕ) → Inner f s codes₁ at₁ n₁ codes k n → bodyAt f s k ≡ whole rest j → (z : ℕ) × Inner f s codes₁ at₁ n₁ (sets codes n rest) z (n + length rest) × (token f z (drop z s) ≡ Stop j))
         → (z : ℕ) × Inner f s codes₁ at₁ n₁ (sets codes₂ n₂ (x ∷ rest)) z (n₂ + length (x ∷ rest)) × (token f z (drop z s) ≡ Stop j)
     go (stops t q k) ih = let z : _≡_ {A = ℕ} 0 1 = cc in absurd (omega arith)
@@ -83,11 +68,11 @@ module _ (f : Format) (s codes₀ ends₀ kinds₀ codes ends kinds : List ℕ) 
 
       go : (t : One) → stepAt f s at ≡ t → Coming ss
       go (got t j) g =
-          let q = next-step t (proofAt f s j) (r .0) (sym (got-at f s hb at (o .within) t j g) ∙ r .1) in
-          record { now = t; end = j; later = q .0; here = g; all = r .2 ∙ ap (λ (l : List Step). o .ss ++ l) (q .2) }
+          let q = cons-step t (proofAt f s j) (r .0) (sym (got-at f s hb at (o .within) t j g) ∙ r .1) in
+          record { now = t; end = j; later = q .0; here = g; all = r .2 ∙ ap (λ (l : List Step). o .ss ++ l) (sym (q .2)) }
       go fault g = absurd (steps-fault (r .0) at (sym (fault-at f s hb at h g) ∙ r .1))
 
-  module _ (a b c : ℕ) (w : Fits f s a b c) (h : at < length s) where
+  module _ (a b c : ℕ) (w : StepsFit f s a b c) (h : at < length s) where
     fill-wrong : opening f at (drop at s) ≡ Wrong → ⊥
     fill-wrong e = let g = coming (w .ss) (w .reads) h in fault-got (g .now) (g .end) (sym (wrong-at f s hb at e) ∙ g .here)
 
@@ -102,8 +87,8 @@ module _ (f : Format) (s codes₀ ends₀ kinds₀ codes ends kinds : List ℕ) 
     fill-opens k first e =
         let g = coming (w .ss) (w .reads) h in
         let x = opens-at f s hb at (o .within) k first e in
-        let p = step-parts k (bodyAt f s first) (g .now) (g .end) (sym (x .0) ∙ g .here) in
-        let l : length (g .now .lits) ≡ length (p .0) = ap (λ (t : Step). length (t .lits)) (p .2) in
+        let p = as-step k (bodyAt f s first) (g .now) (g .end) (sym (x .0) ∙ g .here) in
+        let l : length (g .now .lits) ≡ length (p .0) = sym (ap (λ (t : Step). length (t .lits)) (p .2)) in
         record {
           cs = p .0;
           end = g .end;
@@ -133,11 +118,11 @@ module _ (f : Format) (s codes₀ ends₀ kinds₀ codes ends kinds : List ℕ) 
   fill-end h = let r = outer-end f s codes₀ ends₀ kinds₀ codes ends kinds at n m hb o h in record { answer = refl; filled = r .filled }
 
 -- the numbers of literals and of steps say whether slices hold them
-pub whole-fits : (f : Format) (s : List ℕ) (n m a b c : ℕ) → Whole n m ≡ counted (readProof f s) → n ≤ a → m ≤ b → m ≤ c → Fits f s a b c
+pub whole-fits : (f : Format) (s : List ℕ) (n m a b c : ℕ) → Whole n m ≡ counted (readProof f s) → n ≤ a → m ≤ b → m ≤ c → StepsFit f s a b c
 unfolding counted
 whole-fits f s n m a b c e ha hb hc = go (readProof f s) refl e
   where
-    go : (p : Proof) → readProof f s ≡ p → Whole n m ≡ counted p → Fits f s a b c
+    go : (p : Proof) → readProof f s ≡ p → Whole n m ≡ counted p → StepsFit f s a b c
     go (steps ss) q e =
         let qn : n ≡ length (codesOf ss) = cc in
         let qm : m ≡ length ss = cc in

@@ -8,13 +8,13 @@ use lib.Dec.{eqb, ltb}
 use lib.ListN.{length, getD, drop, List·getD-eq-default}
 use lib.Seq.{getD-drop}
 use native.Mathlib.Omega.{arith}
-use borrow.Author.Tests.{eqb-false, ltb-false, eq-eqb, ne-eqb, lt-ltb, le-ltb}
+use borrow.Author.Tests.{eqb-false, ltb-false, ne-eqb, lt-ltb, le-ltb}
 use Rattle.base.proofs.Truth.{split}
 use Rattle.base.specs.Choice.{pick}
 use Rattle.drat.proofs.At.{digits-here, signed-here, leb-here, text-here, binary-here, digits-past, leb-past, token-past}
-use Rattle.drat.proofs.Numerals.{within-is, below-within}
+use Rattle.drat.proofs.Numerals.{in-range-is, below-range}
 use Rattle.drat.proofs.Places.{signed-moves}
-use Rattle.drat.proofs.Sound.{blank-read}
+use Rattle.drat.proofs.Sound.{lit-bad, passed, blank-read}
 use Rattle.drat.specs.Numeral.{digit}
 use Rattle.drat.specs.Reading.{numbered, withDigit, digitsFrom, signedFrom, thenBlank, lebFrom, token}
 use Rattle.drat.specs.declared.Format.the-variants.{Text, Binary}
@@ -27,21 +27,13 @@ use Rattle.drat_read.specs.Known.{IsNumber, IsLit}
 pub lit-code : (x : Token) (c k j : ℕ) → x ≡ Lit c j → k ≡ c → x ≡ Lit k j
 lit-code x c k j e h = e ∙ ap (λ (i : ℕ). Lit i j) (sym h)
 
-lit-bad : (c j : ℕ) → Bad ≡ Lit c j → ⊥
-lit-bad c j e = let z : _≡_ {A = ℕ} 0 1 = cc in omega arith
-
--- a test for a fault failed
-passed : (t : Bool) (y : Token) (c j : ℕ) → pick t Bad y ≡ Lit c j → (t ≡ false) × (y ≡ Lit c j)
-passed true y c j e = absurd (lit-bad c j e)
-passed false y c j e = (refl, e)
-
 kept : (t : Bool) (y : Token) (c j : ℕ) → pick t y Bad ≡ Lit c j → y ≡ Lit c j
 kept true y c j e = e
-kept false y c j e = absurd (lit-bad c j e)
+kept false y c j e = absurd (lit-bad c j (sym e))
 
 -- what is read stands in the input
-within : (s : List ℕ) (i : ℕ) (t : Token) (c j : ℕ) → t ≡ Lit c j → (length s ≤ i → t ≡ Bad) → i < length s
-within s i t c j e past = ⊎-elim (λ (h : i < length s). h) (λ (h : length s ≤ i). absurd (lit-bad c j (sym (past h) ∙ e))) (split i (length s))
+standing : (s : List ℕ) (i : ℕ) (t : Token) (c j : ℕ) → t ≡ Lit c j → (length s ≤ i → t ≡ Bad) → i < length s
+standing s i t c j e past = ⊎-elim (λ (h : i < length s). h) (λ (h : length s ≤ i). absurd (lit-bad c j (sym e ∙ past h))) (split i (length s))
 
 -- digits of a number t, with a byte below the digits after them; v is the value of those before place i
 module _ (s : List ℕ) (sign v i : ℕ) (t : Token) (n : IsNumber s t) (e : digitsFrom sign v i (drop i s) ≡ t) where
@@ -58,7 +50,7 @@ module _ (s : List ℕ) (sign v i : ℕ) (t : Token) (n : IsNumber s t) (e : dig
 
   pub digits-ended : getD s i 0 < 48 → (0 < v) × (t ≡ Lit (2 * (v - 1) + sign) i)
   digits-ended h =
-      let d : digitsFrom sign v i (drop i s) ≡ numbered sign v i = digits-here s i digits-inside sign v ∙ simp (below-within 48 57 (getD s i 0) h) in
+      let d : digitsFrom sign v i (drop i s) ≡ numbered sign v i = digits-here s i digits-inside sign v ∙ simp (below-range 48 57 (getD s i 0) h) in
       let o = run-over (sym d ∙ e) in
       (o .0, o .2)
 
@@ -75,11 +67,11 @@ module _ (s : List ℕ) (sign v i : ℕ) (t : Token) (n : IsNumber s t) (e : dig
       go true q o =
           let z₁ = passed (eqb (withDigit v (getD s i 0)) 0) _ (n .code) (n .next) (o ∙ n .is) in
           let z₂ = passed (ltb 4096 (withDigit v (getD s i 0))) _ (n .code) (n .next) (z₁ .1) in
-          (within-is 48 57 (getD s i 0) q .1, ltb-false 4096 (withDigit v (getD s i 0)) (z₂ .0), z₂ .1 ∙ sym (n .is))
+          (in-range-is 48 57 (getD s i 0) q .1, ltb-false 4096 (withDigit v (getD s i 0)) (z₂ .0), z₂ .1 ∙ sym (n .is))
       go false q o = absurd (omega (arith, n .below, ap (λ (k : ℕ). getD s k 0) (run-over o .1)))
 
 pub token-inside : (f : Format) (s : List ℕ) (i c j : ℕ) → token f i (drop i s) ≡ Lit c j → i < length s
-token-inside f s i c j e = within s i (token f i (drop i s)) c j e (λ h. token-past s i h f)
+token-inside f s i c j e = standing s i (token f i (drop i s)) c j e (λ h. token-past s i h f)
 
 -- a byte above 0 stands in the input
 filled : (s : List ℕ) (i : ℕ) → 0 < getD s i 0 → i < length s
@@ -133,7 +125,7 @@ binary-literal s i h n = binary-here s i h ∙ ap (λ (t : Bool). pick t (Stop (
 
 module _ (s : List ℕ) (i c j : ℕ) (e : lebFrom 0 1 i (drop i s) ≡ Lit c j) where
   pub leb-inside : i < length s
-  leb-inside = within s i (lebFrom 0 1 i (drop i s)) c j e (λ h. leb-past s i h 0 1)
+  leb-inside = standing s i (lebFrom 0 1 i (drop i s)) c j e (λ h. leb-past s i h 0 1)
 
   pub leb-one : getD s i 0 < 128 → (2 ≤ getD s i 0) × (lebFrom 0 1 i (drop i s) ≡ Lit (getD s i 0 - 2) (i + 1))
   leb-one h =
@@ -152,7 +144,7 @@ module _ (s : List ℕ) (i c j : ℕ) (e : lebFrom 0 1 i (drop i s) ≡ Lit c j)
       let b = getD s (i + 1) 0 in
       let v = 0 + 1 * (a - 128) in
       let d : lebFrom 0 1 i (drop i s) ≡ lebFrom v (1 * 128) (i + 1) (drop (i + 1) s) = leb-here s i leb-inside 0 1 ∙ simp (le-ltb (getD s i 0) 128 h) in
-      let k = within s (i + 1) (lebFrom v (1 * 128) (i + 1) (drop (i + 1) s)) c j (sym d ∙ e) (λ o. leb-past s (i + 1) o v (1 * 128)) in
+      let k = standing s (i + 1) (lebFrom v (1 * 128) (i + 1) (drop (i + 1) s)) c j (sym d ∙ e) (λ o. leb-past s (i + 1) o v (1 * 128)) in
       let n = v + 1 * 128 * b in
       let z₀ = kept (ltb b 128) (pick (eqb b 0) Bad (pick (ltb n 2) Bad (pick (ltb 8193 n) Bad (Lit (n - 2) (i + 1 + 1))))) c j (sym (leb-here s (i + 1) k v (1 * 128)) ∙ sym d ∙ e) in
       let z₁ = passed (eqb b 0) _ c j z₀ in

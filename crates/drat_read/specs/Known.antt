@@ -16,7 +16,7 @@ use Rattle.drat.specs.declared.Token.{Token}
 use Rattle.drat.specs.declared.Token.the-variants.{Lit}
 
 -- All steps are whole, and slices of a, b and c words hold them.
-pub record Fits (f : Format) (s : List ℕ) (a b c : ℕ) : Type 0 where
+pub record StepsFit (f : Format) (s : List ℕ) (a b c : ℕ) : Type 0 where
   pub ss : List Step
   pub reads : readProof f s ≡ steps ss
   pub codes-fit : length (codesOf ss) ≤ a
@@ -63,7 +63,7 @@ pub record IsOpen (t : Opening) : Type 0 where
   pub first : ℕ
   pub is : t ≡ Opens kind first
 
-pub record Opened (t : Opening) (number first : ℕ) : Type 0 where
+pub record OpenedAs (t : Opening) (number first : ℕ) : Type 0 where
   pub kind : Kind
   pub is : t ≡ Opens kind first
   pub numbered : number ≡ kindNumber kind

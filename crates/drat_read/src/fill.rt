@@ -7,11 +7,11 @@ ghost use lib.Dec.{eqb};
 ghost use lib.ListN.{length, getD, drop};
 ghost use Rattle.base.specs.Choice.{pick};
 ghost use Rattle.base.specs.Lent.{old, new};
-ghost use Rattle.drat.specs.Reading.{digitsFrom, lebFrom, token, opening, readProof};
+ghost use Rattle.drat.specs.Reading.{digitsFrom, token, opening, readProof};
 ghost use Rattle.drat.specs.Filled.{counted, Scan};
 ghost use Rattle.drat.specs.declared.Format.the-variants.{Text, Binary};
 ghost use Rattle.drat.specs.declared.Token.the-variants.{Lit};
-ghost use Rattle.drat_read.specs.Known.{Fits, BodyFits, BodyFilled, IsNumber, IsLit, IsOpen, Opened};
+ghost use Rattle.drat_read.specs.Known.{StepsFit, BodyFits, BodyFilled, IsNumber, IsLit, IsOpen, OpenedAs};
 
 // A literal's code and the place after it.
 struct Literal {
@@ -129,7 +129,7 @@ fn kind_by(b: u8) -> u8
 // How a step opens that is known to open. Without a branch on the kind: where additions and deletions mix it would be mispredicted.
 fn start_at(f: Format, s: &[u8], at: usize) -> Start
     requires { ⌜ IsOpen (opening f at (drop at (now s))) ⌝ }
-    ensures { λ r. ⌜ Opened (opening f at (drop at (old s))) (r .kind) (r .first) ⌝ }
+    ensures { λ r. ⌜ OpenedAs (opening f at (drop at (old s))) (r .kind) (r .first) ⌝ }
 {
     let kind = kind_by(s[at]);
     match f {
@@ -146,7 +146,7 @@ fn start_at(f: Format, s: &[u8], at: usize) -> Start
 
 // Fills all steps. Where they are whole every step opens.
 pub(crate) fn fill(f: Format, s: &[u8], codes: &mut [u32], ends: &mut [u64], kinds: &mut [u8])
-    requires { ⌜ Fits f (now s) (length (now codes)) (length (now ends)) (length (now kinds)) ⌝ }
+    requires { ⌜ StepsFit f (now s) (length (now codes)) (length (now ends)) (length (now kinds)) ⌝ }
     ensures { λ _. ⌜ Scan f (old s) (old codes) (old ends) (old kinds) (new codes) (new ends) (new kinds) (counted (readProof f (old s))) ⌝ }
 {
     let mut at: usize = 0;

@@ -11,7 +11,7 @@ ghost use mathlib.Core.List.{[], _∷_};
 ghost use Prim.Native.Nat.{_+_, _/_, _%_, _≤_, _<_};
 ghost use lib.Dec.{leb, ltb};
 ghost use lib.ListN.{length, getD};
-ghost use Rattle.base.specs.Lent.{old, new, Fills};
+ghost use Rattle.base.specs.Lent.{old, Fills};
 ghost use Rattle.base.specs.Choice.{pick};
 ghost use Rattle.base.specs.Bounded.{allBelow};
 ghost use Rattle.drat.specs.declared.Format.the-variants.{Text, Binary};

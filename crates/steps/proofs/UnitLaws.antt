@@ -15,10 +15,6 @@ use Rattle.drat.proofs.Steps.{next}
 use Rattle.scope.specs.declared.Writes.the-variants.{AddEach}
 use Rattle.scope.specs.Steps.{written}
 
-pub encode-one : (f : Format) (s : Step) → encode f (s ∷ []) ≡ encodeStep f s
-unfolding encode
-encode-one f s = append-nil (encodeStep f s)
-
 pub encode-none : (f : Format) → encode f [] ≡ []
 unfolding encode
 encode-none f = refl

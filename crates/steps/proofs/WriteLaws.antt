@@ -26,7 +26,8 @@ use Rattle.steps.specs.declared.write.Recorded.{Recorded}
 use Rattle.steps.specs.declared.write.Recorded.the-variants as W
 use Rattle.steps.specs.Refusals.{laid, laidBytes}
 use Rattle.steps.specs.Answers.{recorded}
-use Rattle.steps.proofs.UnitLaws.{encode-one, encode-none}
+use Rattle.drat.proofs.Complete.{encode-one}
+use Rattle.steps.proofs.UnitLaws.{encode-none}
 use Rattle.steps.proofs.StepLaws.{literals-part, refused-first, refused-later}
 use Rattle.scope.proofs.ResultLaws.{unless-some, unless-none}
 use Rattle.steps.proofs.CallLaws.{Told, told, told-refusal}

@@ -7,8 +7,8 @@ use Rattle.drat_judge.proofs.binary_next.Tie as tie
 choose-requires : tie.Need-choose-requires
 choose-requires c κs = search needs
 
-is-within-requires : tie.Need-is-within-requires
-is-within-requires c κs = search needs
+in-range-requires : tie.Need-in-range-requires
+in-range-requires c κs = search needs
 
 choose-requires-2 : tie.Need-choose-requires-2
 choose-requires-2 c κs = search needs
@@ -19,4 +19,4 @@ returns c = cc
 
 pub binary-next-spec : {M : Type 1} → statement M
 binary-next-spec =
-    tie.close (tie.spec choose-requires is-within-requires choose-requires-2 returns)
+    tie.close (tie.spec choose-requires in-range-requires choose-requires-2 returns)

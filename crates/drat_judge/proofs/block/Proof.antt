@@ -6,7 +6,8 @@ use lib.ListN.{drop}
 use native.Mathlib.Omega.{arith}
 use borrow.Author.Needs.{needs}
 use Rattle.base.specs.Choice.{pick}
-use Rattle.drat_judge.proofs.RunsLaws.{one-most, tally-next}
+use Rattle.drat.proofs.Shapes.{one-le}
+use Rattle.drat_judge.proofs.RunsLaws.{tally-next}
 use Rattle.drat_judge.specs.Local.{tally}
 use Rattle.drat_judge.proofs.block.Statement.{statement}
 use Rattle.drat_judge.proofs.block.Tie as tie
@@ -20,18 +21,18 @@ abbrev μ-loop : tie.MeasureT-loop
 loop-holds : tie.Need-loop-holds Inv-loop μ-loop
 loop-holds c = search needs
 
-shared-slice-read-is-within : tie.Need-shared-slice-read-is-within Inv-loop μ-loop
-shared-slice-read-is-within c = search needs
+shared-slice-read-in-range : tie.Need-shared-slice-read-in-range Inv-loop μ-loop
+shared-slice-read-in-range c = search needs
 
-is-within-requires : tie.Need-is-within-requires Inv-loop μ-loop
-is-within-requires c κs = search needs
+in-range-requires : tie.Need-in-range-requires Inv-loop μ-loop
+in-range-requires c κs = search needs
 
 one-requires : tie.Need-one-requires Inv-loop μ-loop
 one-requires c κs = search needs
 
 add-k : tie.Need-add-k Inv-loop μ-loop
 add-k c =
-    let h = one-most (c .before .is-within .result) in
+    let h = one-le (c .before .in-range .result) in
     omega (arith, c .one .ensures)
 
 add-i : tie.Need-add-i Inv-loop μ-loop
@@ -44,9 +45,9 @@ loop-again : tie.Need-loop-again Inv-loop μ-loop
 loop-again c =
     let a = c .before .before .before .before .before .before .args in
     let l = c .before .before .before .before .loop in
-    let h = one-most (c .before .is-within .result) in
+    let h = one-le (c .before .in-range .result) in
     let e = tally-next (a .lo) (a .hi) (a .s .now) (l .i) (omega arith) in
-    let r = c .one .ensures ∙ ap (λ (t : Bool). pick t 1 0) (c .before .is-within .ensures) in
+    let r = c .one .ensures ∙ ap (λ (t : Bool). pick t 1 0) (c .before .in-range .ensures) in
     (omega arith, omega arith, omega (arith, c .one .ensures), omega (arith, r, l .inv .3))
 
 returns : tie.Need-returns Inv-loop μ-loop
@@ -63,8 +64,8 @@ block-spec =
     Inv-loop
     μ-loop
     loop-holds
-    shared-slice-read-is-within
-    is-within-requires
+    shared-slice-read-in-range
+    in-range-requires
     one-requires
     add-k
     add-i

@@ -17,15 +17,15 @@ head-runs-requires c κs = search needs
 byte-back-requires : tie.Need-byte-back-requires
 byte-back-requires c κs = search needs
 
-mark-of-requires : tie.Need-mark-of-requires
-mark-of-requires c κs = search needs
+end-byte-requires : tie.Need-end-byte-requires
+end-byte-requires c κs = search needs
 
 returns : tie.Need-returns
 returns c =
     let a = c .before .before .before .before .before .args in
     let s = a .s .now in
     let h = c .before .before .head-runs in
-    ap₂ (λ (x y : ℕ). h .result && eqb x y) (c .before .byte-back .ensures) (c .mark-of .ensures)
+    ap₂ (λ (x y : ℕ). h .result && eqb x y) (c .before .byte-back .ensures) (c .end-byte .ensures)
     ∙ ap (λ (t : Bool). h .result && t) (sym (runs-done (a .f) s (length s) (omega arith)))
     ∙ h .ensures
 
@@ -53,7 +53,7 @@ is-judged-spec =
     (tie.spec
     head-runs-requires
     byte-back-requires
-    mark-of-requires
+    end-byte-requires
     returns
     head-runs-requires-2
     returns-2

@@ -60,8 +60,8 @@ sub-result c = search needs
 shared-slice-read-result : tie.Need-shared-slice-read-result Inv-loop μ-loop
 shared-slice-read-result c = search needs
 
-mark-of-requires : tie.Need-mark-of-requires Inv-loop μ-loop
-mark-of-requires c κs = search needs
+end-byte-requires : tie.Need-end-byte-requires Inv-loop μ-loop
+end-byte-requires c κs = search needs
 
 returns-2 : tie.Need-returns-2 Inv-loop μ-loop
 returns-2 c =
@@ -69,7 +69,7 @@ returns-2 c =
     let s = a .s .now in
     let l = c .before .before .before .before .loop in
     let p = c .before .before .part-runs2 in
-    ap (λ (m : ℕ). p .result && eqb (getD s (length s - 1) 0) m) (c .mark-of .ensures)
+    ap (λ (m : ℕ). p .result && eqb (getD s (length s - 1) 0) m) (c .end-byte .ensures)
     ∙ runs-out (a .f) s (runsAt (a .f) s 4) (length s) (omega arith) (omega arith) (p .result) (p .ensures ∙ l .inv .2)
 
 pub tail-runs-spec : {M : Type 1} → statement M
@@ -89,5 +89,5 @@ tail-runs-spec =
     part-runs-requires-2
     sub-result
     shared-slice-read-result
-    mark-of-requires
+    end-byte-requires
     returns-2)

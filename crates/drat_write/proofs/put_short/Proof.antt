@@ -1,6 +1,5 @@
 -- The invariant: writing the literals left gives what writing all of them gives, so each turn is one `short-sets`.
 use Prim.Native.Nat.{ℕ, _+_, _-_, _≤_, _<_}
-use mathlib.Core.List.{List}
 use mathlib.Core.Path.{_≡_, refl, sym, ap, _∙_}
 use native.Mathlib.Omega.{arith}
 use lib.Seq.{sets}

@@ -7,12 +7,12 @@ use native.Mathlib.Omega.{arith}
 use borrow.Author.Needs.{needs}
 use Rattle.drat.proofs.Sound.{Bytes}
 use Rattle.drat.specs.declared.Format.the-variants.{Binary}
-use Rattle.drat_read.proofs.BodyLaws.{Filling, filling-start, filling-inside, filling-stop, filling-lit, filling-more}
+use Rattle.drat_read.proofs.BodyLaws.{BodyFilling, filling-start, filling-inside, filling-stop, filling-lit, filling-more}
 use Rattle.drat_read.proofs.fill.codes_from.Statement.{statement}
 use Rattle.drat_read.proofs.fill.codes_from.Tie as tie
 
 abbrev Inv-loop : tie.InvT-loop
-Inv-loop s codes₀ from first at₀ n₀ codes at n = Filling Binary s codes₀ from first codes at n
+Inv-loop s codes₀ from first at₀ n₀ codes at n = BodyFilling Binary s codes₀ from first codes at n
 
 abbrev μ-loop : tie.MeasureT-loop
 μ-loop s codes₀ from first at₀ n₀ codes at n = length s - at

@@ -1,6 +1,6 @@
 -- Digits of a number, with a byte below the digits after them: so each byte ends it or is a digit that keeps it in range.
 use Prim.Native.Nat.{_-_, _≤_}
-use mathlib.Core.Path.{_≡_, refl, sym, _∙_}
+use mathlib.Core.Path.{_≡_, refl}
 use lib.ListN.{length, drop}
 use native.Mathlib.Omega.{arith}
 use Rattle.drat.specs.Reading.{digitsFrom}

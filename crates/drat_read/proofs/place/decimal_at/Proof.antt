@@ -6,7 +6,7 @@ use native.Mathlib.Omega.{arith}
 use borrow.Author.Needs.{needs}
 use borrow.Author.Tests.{eq-eqb, ne-eqb, lt-ltb, le-ltb}
 use Rattle.drat.proofs.At.{digits-here, digits-past}
-use Rattle.drat.proofs.Numerals.{is-within, below-within, above-within}
+use Rattle.drat.proofs.Numerals.{is-in-range, below-range, above-range}
 use Rattle.drat.specs.Reading.{digitsFrom}
 use Rattle.drat_read.proofs.place.decimal_at.Statement.{statement}
 use Rattle.drat_read.proofs.place.decimal_at.Tie as tie
@@ -34,7 +34,7 @@ returns c =
     let a = c .before .before .before .before .before .before .args in
     let l = c .before .before .before .before .loop in
     let d = digits-here (a .s .now) (l .i) (omega arith) (a .sign) (l .v) in
-    c .literal .ensures ∙ sym (sym (l .inv .1) ∙ d ∙ simp (below-within 48 57 _ (c .before .if1 .taken)))
+    c .literal .ensures ∙ sym (sym (l .inv .1) ∙ d ∙ simp (below-range 48 57 _ (c .before .if1 .taken)))
 
 literal-requires-2 : tie.Need-literal-requires-2 Inv-loop μ-loop
 literal-requires-2 c κs = search needs
@@ -44,7 +44,7 @@ returns-2 c =
     let a = c .before .before .before .before .before .before .before .args in
     let l = c .before .before .before .before .before .loop in
     let d = digits-here (a .s .now) (l .i) (omega arith) (a .sign) (l .v) in
-    c .literal2 .ensures ∙ sym (sym (l .inv .1) ∙ d ∙ simp (above-within 48 57 _ (c .before .if2 .taken)))
+    c .literal2 .ensures ∙ sym (sym (l .inv .1) ∙ d ∙ simp (above-range 48 57 _ (c .before .if2 .taken)))
 
 mul-w : tie.Need-mul-w Inv-loop μ-loop
 mul-w c = search needs
@@ -57,14 +57,14 @@ returns-3 c =
     let a = c .before .before .before .before .before .before .before .args in
     let l = c .before .before .before .before .before .loop in
     let d = digits-here (a .s .now) (l .i) (omega arith) (a .sign) (l .v) in
-    sym (sym (l .inv .1) ∙ d ∙ simp (is-within 48 57 _ (c .before .before .if1 .left) (c .before .if2 .left), eq-eqb _ _ (c .if3 .taken)))
+    sym (sym (l .inv .1) ∙ d ∙ simp (is-in-range 48 57 _ (c .before .before .if1 .left) (c .before .if2 .left), eq-eqb _ _ (c .if3 .taken)))
 
 returns-4 : tie.Need-returns-4 Inv-loop μ-loop
 returns-4 c =
     let a = c .before .before .before .before .before .before .before .before .args in
     let l = c .before .before .before .before .before .before .loop in
     let d = digits-here (a .s .now) (l .i) (omega arith) (a .sign) (l .v) in
-    sym (sym (l .inv .1) ∙ d ∙ simp (is-within 48 57 _ (c .before .before .before .if1 .left) (c .before .before .if2 .left), ne-eqb _ _ (c .before .if3 .left), lt-ltb _ _ (c .if4 .taken)))
+    sym (sym (l .inv .1) ∙ d ∙ simp (is-in-range 48 57 _ (c .before .before .before .if1 .left) (c .before .before .if2 .left), ne-eqb _ _ (c .before .if3 .left), lt-ltb _ _ (c .if4 .taken)))
 
 add-i : tie.Need-add-i Inv-loop μ-loop
 add-i c = search needs
@@ -77,7 +77,7 @@ loop-again c =
     let a = c .before .before .before .before .before .before .before .before .args in
     let l = c .before .before .before .before .before .before .loop in
     let d = digits-here (a .s .now) (l .i) (omega arith) (a .sign) (l .v) in
-    (c .if4 .left, sym (sym (l .inv .1) ∙ d ∙ simp (is-within 48 57 _ (c .before .before .before .if1 .left) (c .before .before .if2 .left), ne-eqb _ _ (c .before .if3 .left), le-ltb _ _ (c .if4 .left))))
+    (c .if4 .left, sym (sym (l .inv .1) ∙ d ∙ simp (is-in-range 48 57 _ (c .before .before .before .if1 .left) (c .before .before .if2 .left), ne-eqb _ _ (c .before .if3 .left), le-ltb _ _ (c .if4 .left))))
 
 literal-requires-3 : tie.Need-literal-requires-3 Inv-loop μ-loop
 literal-requires-3 c κs = search needs

@@ -1,6 +1,5 @@
 -- 0 is no number.
 use mathlib.Core.Path.{sym}
-use native.Mathlib.Omega.{arith}
 use borrow.Author.Needs.{needs}
 use borrow.Author.Tests.{eq-eqb, ne-eqb}
 use Rattle.drat_read.proofs.place.literal.Statement.{statement}

@@ -8,12 +8,12 @@ use borrow.Author.Needs.{needs}
 use Rattle.drat.proofs.Places.{opens-at, lit-at, stop-at}
 use Rattle.drat.proofs.Sound.{Bytes}
 use Rattle.drat.specs.declared.Scanned.the-variants.{Whole, Fault}
-use Rattle.drat_read.proofs.ScanLaws.{Between, Inside, between-start, inside-start, inside-more, between-more, between-wrong, between-bad, between-end}
+use Rattle.drat_read.proofs.ScanLaws.{Between, InStep, between-start, inside-start, inside-more, between-more, between-wrong, between-bad, between-end}
 use Rattle.drat_read.proofs.scan.scan.Statement.{statement}
 use Rattle.drat_read.proofs.scan.scan.Tie as tie
 
 abbrev Inv-loop : tie.InvT-loop
-Inv-loop f s at₀ n₀ m start first at n = Inside f s at₀ n₀ at n
+Inv-loop f s at₀ n₀ m start first at n = InStep f s at₀ n₀ at n
 
 abbrev μ-loop : tie.MeasureT-loop
 μ-loop f s at₀ n₀ m start first at n = length s - at

@@ -1,12 +1,11 @@
 -- The invariant: the count so far and the frames left make up all frames; four a step bound the sum.
-use Prim.Native.Nat.{ℕ, _+_, _-_, _*_, _≤_, _<_}
-use mathlib.Core.List.{List}
-use mathlib.Core.Path.{_≡_, refl, sym, ap, ap₂, _∙_}
+use Prim.Native.Nat.{_+_, _-_, _*_, _≤_, _<_}
+use mathlib.Core.Path.{_≡_, ap}
 use native.Mathlib.Omega.{arith}
 use lib.ListN.{length, drop}
 use Rattle.drat.proofs.ListedLaws.{frames, frames-next, frames-done}
 use Rattle.drat.proofs.Steps.{opens-le, ends-le}
-use Rattle.drat.specs.Grammar.{opens, ends}
+use Rattle.drat.specs.Grammar.{opens}
 use Rattle.drat.specs.declared.Kind.{Kind}
 use borrow.Author.Needs.{needs}
 use Rattle.drat_write.proofs.proof.frames_len.Statement.{statement}
