@@ -28,7 +28,9 @@ use Rattle.removal.specs.Asks.{Holding}
 use Rattle.removal.specs.declared.Removed.the-variants.{Done, Refused}
 use Rattle.removal.specs.Answers.{removed}
 use Rattle.removal.proofs.CountingLaws.{removal-notes, removal-few}
-use Rattle.removal.proofs.RefusalLaws.{found-nothing, remove-is, remove-holding}
+use Rattle.scope.proofs.MarkLaws.{held-past}
+use Rattle.table.proofs.FoundLaws.{global-word}
+use Rattle.removal.proofs.RefusalLaws.{remove-is, remove-holding}
 
 -- S(g,-) alone
 abbrev taken : ℕ → ℕ → Table → Result (List ℕ)
@@ -86,14 +88,14 @@ pub removable : (t : Table) (s room n : ℕ) → n ≡ removeRefusal t s room �
 unfolding removeRefusal notHeld
 removable t s room n e z =
     let a = past (not (soundb t)) 1 _ (omega arith) (sym e ∙ z) in
-    let b = past (eqb (getD (t .globalFromSolver) s 0) 0) 8 _ (omega arith) (a .1) in
+    let b = held-past t s _ (a .1) in
     let k = past (ltb room (3 * length (remove s t .notes))) 2 0 (omega arith) (b .1) in
     record { sound = not-false (soundb t) (a .0); held = eqb-false _ _ (b .0); words = ltb-false _ _ (k .0) }
 
 module _ (t : Table) (s room : ℕ) (h : Removable t s room) where
   -- nothing found is no case of it
   pub never-nothing : Nothing ≡ foundGlobal (getD (t .globalFromSolver) s 0) → ⊥
-  never-nothing e = h .held (found-nothing _ e)
+  never-nothing e = h .held (global-word _ Nothing e)
 
   module _ (g : Global) (e : At g ≡ foundGlobal (getD (t .globalFromSolver) s 0)) where
     pub held-asks : Holding t (g .0) s × Room (removeHeld (g .0) s t) 0 room

@@ -60,7 +60,7 @@ module _ (t : Table) (y : soundb t ≡ true) (s at : ℕ) (left : Table) (words 
       let a = sweep-passed t (sound-of t y) s in
       let z = sound-of t y .sizes in
       let x = a .sound .sizes in
-      let c = ap (λ (d : Counts). d .capacity) (a .counts) in
+      let c = a .marks .capacity in
       let sizes : (length (each s sweepOne t .table .solverFromGlobal) ≡ length (t .solverFromGlobal)) × (length (each s sweepOne t .table .globalFromSolver) ≡ length (t .globalFromSolver)) × (length (each s sweepOne t .table .records) ≡ length (t .records)) = omega arith in
       record {
         solvers = ap (λ (u : Table). length (u .solverFromGlobal)) (h .table) ∙ sizes .0;

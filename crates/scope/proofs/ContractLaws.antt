@@ -8,11 +8,11 @@ use Rattle.base.specs.Answer.{accepted, refused}
 use Rattle.base.specs.Bounded.{allBelow, least, count}
 use Rattle.base.specs.Lent.{Slice, Lent}
 use Rattle.scope.specs.declared.Counts.{Counts}
-use Rattle.scope.specs.Table.{Table, tableOf, word, isShown, giveUser}
+use Rattle.scope.specs.Table.{Table, tableOf, word, isShown, giveUser, leastFree, undeleted}
 use Rattle.scope.specs.Sound.{soundb, sizesb, marksb, atMostb, tailb, backb, namedb, deletedb, tailsb, pairsb}
 use Rattle.scope.specs.Notes.{notesWords}
 use Rattle.scope.specs.Outcome.{each, unless}
-use Rattle.scope.specs.Map.{leastFree, globalFor, mapOne, fillGap, mapUser, nextUser, newUser, undeleted, newUserRefusal, newUserOf}
+use Rattle.scope.specs.Map.{globalFor, mapOne, fillGap, mapUser, nextUser, newUser, newUserRefusal, newUserOf}
 use Rattle.scope.specs.Contract.{given, Said, lent, quiet, Meets}
 use Rattle.scope.specs.Anchors.{w2, w3, w4, tab}
 use Rattle.scope.specs.AnchorsNames.{opened2}

@@ -9,7 +9,7 @@ use native.Mathlib.Omega.{arith}
 use native.Mathlib.Decide.{decLt}
 use lib.ListN.{getD, length, length-set, set}
 use lib.Seq.{getD-set-same}
-use Rattle.scope.specs.Table.{Table, recordOf, modeOf, unitOf, isolatedOf, giveUser, takeUser, giveSolver, takeSolver, putRecord, putValue}
+use Rattle.scope.specs.Table.{Table, recordOf, modeOf, unitOf, isolatedOf, giveUser, takeUser, giveSolver, takeSolver, putRecord, putValue, dropGlobal}
 use Rattle.scope.specs.Sound.{Shown, Row, Sound}
 use Rattle.scope.specs.Notes.{user+, user-, solver+, solver-, deletes, changes}
 use Rattle.scope.specs.Entries.{Entry, noted, hides}
@@ -34,7 +34,7 @@ apply (takes-user g u r) t = takeUser g u r t
 apply (gives-solver g s) t = giveSolver g s t
 apply (takes-solver g s) t = takeSolver g s t
 apply (puts-record g r) t = putRecord g r t
-apply (deletes-global g) t = putRecord g (recordOf t g + 36) t
+apply (deletes-global g) t = dropGlobal g t
 apply (puts-value s v) t = putValue s v t
 apply (tells-mode g sample) t = t
 apply (hides-again g) t = t
@@ -223,7 +223,8 @@ put-record-sound t g r p l =
     record-sound t g r p (undeleted-below t g p (l .old))
     (row-record (recordOf t g) r (getD (t .userFromGlobal) g 0) (getD (t .solverFromGlobal) g 0) (l .old) (l .new) (l .to) (l .from) (p .rows .row g))
 
-drop-sound : (t : Table) (g : ℕ) → Sound t → DeletesGlobal t g → Sound (putRecord g (recordOf t g + 36) t)
+drop-sound : (t : Table) (g : ℕ) → Sound t → DeletesGlobal t g → Sound (dropGlobal g t)
+unfolding dropGlobal
 drop-sound t g p l =
     record-sound t g (recordOf t g + 36) p (undeleted-below t g p (l .undeleted))
     (rw (l .noSolver) (row-drop (recordOf t g) (getD (t .userFromGlobal) g 0) (l .undeleted) (l .hidden) (l .isolated) (rw (l .noSolver) at (p .rows .row g))))

@@ -16,16 +16,16 @@ use Rattle.base.specs.Choice.{pick}
 use Rattle.base.specs.Bounded.{count, anyOf}
 use Rattle.base.proofs.MemberLaws.{any-append, any-more, or-first, any-none}
 use Rattle.scope.specs.Literals.{indexOf}
-use Rattle.scope.specs.Table.{Table, word}
+use Rattle.scope.specs.Table.{Table, word, undeleted}
 use Rattle.scope.specs.Sound.{Sound}
 use Rattle.scope.specs.Outcome.{Result, giving, each}
-use Rattle.scope.specs.Map.{mapUser, undeleted, toMap}
+use Rattle.scope.specs.Map.{mapUser, toMap}
 use Rattle.scope.specs.Grant.{grant}
 use Rattle.scope.specs.Pose.{poseOne, pose, wanted, usersToMap}
 use Rattle.scope.proofs.MoveLaws.{reach-sound}
 use Rattle.scope.proofs.ResultLaws.{Good, good-more, each-keeps, each-good}
 use Rattle.scope.proofs.MapLaws.{MapRoom, Mapped, map-user-mapped, mapped-global, isUngranted, ungranted-free, ungranted-has}
-use Rattle.scope.proofs.GrantLaws.{Granted, grant-granted, toGrant}
+use Rattle.scope.proofs.GrantLaws.{GrantDone, grant-granted, toGrant}
 use Rattle.scope.proofs.WantedLaws.{isFree, takesIn, to-map-count, map-frees, map-covers, count-either, count-within, count-never, count-point}
 
 -- ---- the literals of a prefix
@@ -176,7 +176,7 @@ pose-turn-room t lits i s r l o =
 -- the user's global is granted a solver index
 pub record OnePosed (s : Table) (u : ℕ) (x y : Result ℕ) : Type 0 where
   pub mapped : Mapped s u x
-  pub granted : Granted (x .table) (x .value) y
+  pub granted : GrantDone (x .table) (x .value) y
 
 pub pose-one-posed : (s : Table) (u : ℕ) → MapRoom s u → OnePosed s u (mapUser u s) (grant (mapUser u s .value) (mapUser u s .table))
 pose-one-posed s u m =
@@ -187,7 +187,7 @@ pose-one-posed s u m =
     }
 
 -- a grant to the global of u gives u a solver index, and no other user
-grant-ungranted : (t : Table) (u g : ℕ) (y : Result ℕ) → Sound t → getD (t .globalFromUser) u 0 ≡ g + 1 → Granted t g y → (v : ℕ)
+grant-ungranted : (t : Table) (u g : ℕ) (y : Result ℕ) → Sound t → getD (t .globalFromUser) u 0 ≡ g + 1 → GrantDone t g y → (v : ℕ)
     → isUngranted (y .table) v ≡ isUngranted t v && not (eqb u v)
 grant-ungranted t u g y p h d v = go (ℕ-discrete u v) (getD (t .globalFromUser) v 0) refl
   where

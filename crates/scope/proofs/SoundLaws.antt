@@ -50,7 +50,7 @@ atMost-to : (m d : ℕ) (xs : List ℕ) → ((i : ℕ) → getD xs i d ≤ m) �
 unfolding atMostb
 atMost-to m d xs h = all-intro (length xs) _ (λ i l. simp truth (rw (getD-default xs i 0 d l) (h i)))
 
-tail-of : (mark blank : ℕ) (xs : List ℕ) → tailb mark blank xs ≡ true → (i : ℕ) → mark ≤ i → getD xs i blank ≡ blank
+pub tail-of : (mark blank : ℕ) (xs : List ℕ) → tailb mark blank xs ≡ true → (i : ℕ) → mark ≤ i → getD xs i blank ≡ blank
 unfolding tailb
 tail-of mark blank xs h =
     everywhere (λ (i x : ℕ). mark ≤ i → x ≡ blank) xs blank
@@ -77,7 +77,7 @@ back-to a b h = all-intro (length a) _ (λ i l. simp truth (λ n. h i (getD a i 
 
 -- ---- sizes
 
-sizes-of : (t : Table) → sizesb t ≡ true → marksb (t .counts) ≡ true → Sizes t
+pub sizes-of : (t : Table) → sizesb t ≡ true → marksb (t .counts) ≡ true → Sizes t
 unfolding sizesb marksb
 sizes-of t h m = let k = simp truth at h in let l = simp truth at m in omega arith
 

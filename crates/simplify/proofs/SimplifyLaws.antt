@@ -28,17 +28,17 @@ use Rattle.scope.specs.Contract.{Does}
 use Rattle.scope.specs.Sound.{soundb}
 use Rattle.scope.specs.Steps.{clauseSteps}
 use Rattle.scope.specs.Outcome.{Outcome, refusal, unless}
-use Rattle.scope.specs.Write.{renameLits, holders, outside, unheld}
+use Rattle.scope.specs.Write.{renameLits, holders, outside}
 use Rattle.scope.specs.Literals.{indexOf}
-use Rattle.scope.specs.Marks.{notHeld}
+use Rattle.scope.specs.Marks.{notHeld, unheld, litsHeldElse}
 use Rattle.scope.specs.Simplify.{isFalse, unfalse, simplified, restOf, flagOf, deleteCause, simplifySteps, simplifyBytes, simplifyRefusal, simplifiedNumber, simplifyOf}
-use Rattle.scope.proofs.ResultLaws.{past}
+use Rattle.scope.proofs.ResultLaws.{past, unless-some}
+use Rattle.scope.proofs.MarkLaws.{lits-past, lits-else, lits-refuses}
 use Rattle.steps.specs.declared.write.Recorded.{Recorded}
 use Rattle.steps.specs.declared.write.Recorded.the-variants as W
 use Rattle.steps.specs.Refusals.{literalRefusal, laid, laidBytes}
 use Rattle.steps.proofs.WriteLaws.{short-laid, whole-laid, laid-done, laid-refused, filled-done, filled-refused}
 use Rattle.steps.proofs.LiteralLaws.{clear, few, names-part, names-within, names-given as names-written}
-use Rattle.scope.proofs.ResultLaws.{unless-some}
 use Rattle.steps.proofs.ChainLaws.{first-some, first-none}
 use Rattle.steps.proofs.UnitLaws.{encode-none}
 use Rattle.simplify.specs.declared.Reduced.{Reduced}
@@ -86,10 +86,11 @@ module _ (t : Table) (lits : List ℕ) where
       let q = clear t true lits (p .1) in
       record { sound = not-false (soundb t) (p .0); inside = q .inside; held = q .held }
 
+  -- those before 8
   tests : List (Bool × ℕ)
-  tests = (not (soundb t), 0) ∷ (ltb 8192 (length lits), 2) ∷ (unheld t true lits, 7) ∷ []
+  tests = (not (soundb t), 0) ∷ (ltb 8192 (length lits), 2) ∷ []
 
-  clause-tests : clauseRefusal t lits ≡ pick (not (soundb t)) 1 (pick (ltb 8192 (length lits)) 3 (pick (unheld t true lits) 8 0))
+  clause-tests : clauseRefusal t lits ≡ pick (not (soundb t)) 1 (pick (ltb 8192 (length lits)) 3 (litsHeldElse t true lits 0))
   unfolding clauseRefusal literalRefusal outside
   clause-tests = rw (or-false (ltb 8192 (length lits)))
 
@@ -103,11 +104,15 @@ module _ (f : Format) (t : Table) (lits : List ℕ) (redundant : Bool) (outs roo
 
   first : (n : ℕ) → n ≡ clauseRefusal t lits → (n ≡ 0 → ⊥) → n ≡ simplifyRefusal f t lits redundant outs room
   unfolding simplifyRefusal tests
-  first n e h = first-some (tests t lits) n later (e ∙ clause-tests t lits) h
+  first n e h =
+      first-some (tests t lits) n (litsHeldElse t true lits 0) (litsHeldElse t true lits later) (λ q. lits-refuses t true lits n later q h)
+      (e ∙ clause-tests t lits)
 
   after : clauseRefusal t lits ≡ 0 → simplifyRefusal f t lits redundant outs room ≡ later
   unfolding simplifyRefusal tests
-  after e = first-none (tests t lits) (clauseRefusal t lits) later (clause-tests t lits) e
+  after e =
+      let x = first-none (tests t lits) (litsHeldElse t true lits 0) (litsHeldElse t true lits later) (sym (clause-tests t lits) ∙ e) in
+      x .1 ∙ lits-else t true lits later (lits-past t true lits 0 (x .0) .0)
 
   -- ---- an outcome by the sort
 
@@ -391,9 +396,9 @@ module _ (f : Format) (t : Table) (lits : List ℕ) (redundant : Bool) (o b : Li
       go false e = sym (ap (λ (p : Outcome). sets o 0 (p .words)) (comes-filled f t lits redundant (length o) (length b) Dropped z s (few-dropped t lits s) (omega arith) e))
 
 -- the table that an answer leaves is the one given
-left-same : (r : Reduced) (t : Table) → tableOf (reduced r (t .counts) .counts) (t .globalFromUser) (t .userFromGlobal) (t .solverFromGlobal) (t .globalFromSolver) (t .assignment) (t .records) ≡ t
-left-same (Done what rest flag bytes) t = refl
-left-same (Refused n) t = refl
+reduced-same : (r : Reduced) (t : Table) → tableOf (reduced r (t .counts) .counts) (t .globalFromUser) (t .userFromGlobal) (t .solverFromGlobal) (t .globalFromSolver) (t .assignment) (t .records) ≡ t
+reduced-same (Done what rest flag bytes) t = refl
+reduced-same (Refused n) t = refl
 
 pub meets : (f : Format) (t : Table) (lits : List ℕ) (redundant : Bool) (outs room : ℕ) (r : Reduced) → reduced r (t .counts) .answer ≡ outcome f t lits redundant outs room .answer
     → Does (outcome f t lits redundant outs room) (reduced r (t .counts))
@@ -401,4 +406,4 @@ pub meets : (f : Format) (t : Table) (lits : List ℕ) (redundant : Bool) (outs 
 unfolding notesWords
 meets f t lits redundant outs room r e =
     let w = comes-still f t lits redundant outs room in
-    record { answer = e; table = left-same r t ∙ sym (w .0); noted = sym (ap (λ (ns : List Note). sets [] 0 (notesWords ns)) (w .1)) }
+    record { answer = e; table = reduced-same r t ∙ sym (w .0); noted = sym (ap (λ (ns : List Note). sets [] 0 (notesWords ns)) (w .1)) }

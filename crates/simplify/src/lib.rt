@@ -47,7 +47,7 @@ fn clause_refusal(
     if !is_sound(c, gu, ug, sg, gs, assignment, records) {
         return 1;
     }
-    literal_refusal(c, gu, ug, sg, gs, assignment, records, true, lits)
+    literal_refusal(c, gs, true, lits)
 }
 
 // The add step's redundant flag: only if the clause was and over two remain.
@@ -282,7 +282,7 @@ pub fn simplify_clause(
     if n != 0 {
         return Reduced::Refused(n);
     }
-    let what = sort_clause(c, gu, ug, sg, gs, assignment, records, lits);
+    let what = sort_clause(assignment, lits);
     match what {
         Simplified::Kept => keep_clause(c, gu, ug, sg, gs, assignment, records, lits, out),
         Simplified::Dropped => drop_clause(

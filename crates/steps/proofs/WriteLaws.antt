@@ -104,9 +104,9 @@ filled-refused bs o p e q = q ∙ rw e
 -- ---- the call
 
 -- the table that an answer leaves is the one given
-left-same : (r : Recorded) (t : Table) → tableOf (recorded r (t .counts) .counts) (t .globalFromUser) (t .userFromGlobal) (t .solverFromGlobal) (t .globalFromSolver) (t .assignment) (t .records) ≡ t
-left-same (W.Done n) t = refl
-left-same (W.Refused n) t = refl
+recorded-same : (r : Recorded) (t : Table) → tableOf (recorded r (t .counts) .counts) (t .globalFromUser) (t .userFromGlobal) (t .solverFromGlobal) (t .globalFromSolver) (t .assignment) (t .records) ≡ t
+recorded-same (W.Done n) t = refl
+recorded-same (W.Refused n) t = refl
 
 module _ (f : Format) (t : Table) (step : ProofStep) (s : Bool) (lits hashes d : List ℕ) where
   abbrev outcome : Outcome
@@ -155,5 +155,5 @@ module _ (f : Format) (t : Table) (step : ProofStep) (s : Bool) (lits hashes d :
           → Told outcome (recorded r (t .counts))
           (tableOf (recorded r (t .counts) .counts) (t .globalFromUser) (t .userFromGlobal) (t .solverFromGlobal) (t .globalFromSolver) (t .assignment) (t .records))
           [] [] d [] [] x
-      go true y a w = told outcome (refusal 2 t) (recorded r (t .counts)) _ [] [] d [] [] x (unless-some 2 refusing t _ (sym (after true y)) (λ q. omega arith)) refl (ap (λ (q : Recorded). recorded q (t .counts) .answer) a) (left-same r t) refl refl w
-      go false y a w = told outcome filled (recorded r (t .counts)) _ [] [] d [] [] x (unless-none refusing t filled (after false y)) refl (ap (λ (q : Recorded). recorded q (t .counts) .answer) a) (left-same r t) refl refl w
+      go true y a w = told outcome (refusal 2 t) (recorded r (t .counts)) _ [] [] d [] [] x (unless-some 2 refusing t _ (sym (after true y)) (λ q. omega arith)) refl (ap (λ (q : Recorded). recorded q (t .counts) .answer) a) (recorded-same r t) refl refl w
+      go false y a w = told outcome filled (recorded r (t .counts)) _ [] [] d [] [] x (unless-none refusing t filled (after false y)) refl (ap (λ (q : Recorded). recorded q (t .counts) .answer) a) (recorded-same r t) refl refl w

@@ -1,6 +1,6 @@
-use Rattle.removal.proofs.RefusalLaws.{remove-1, remove-8, remove-holding, remove-2, remove-0}
+use Rattle.removal.proofs.RefusalLaws.{remove-1, remove-unheld, remove-holding, remove-2, remove-0}
 use borrow.Author.Tests.{not-true, not-false}
-use mathlib.Core.Path.{sym, _∙_}
+use mathlib.Core.Path.{refl, sym, _∙_}
 use borrow.Author.Needs.{needs}
 use Rattle.removal.proofs.remove_refusal.Statement.{statement}
 use Rattle.removal.proofs.remove_refusal.Tie as tie
@@ -20,8 +20,11 @@ enum-known-global c = search needs
 enum-told : tie.Need-enum-told
 enum-told c = search needs
 
+held-refusal-requires : tie.Need-held-refusal-requires
+held-refusal-requires c κs = search needs
+
 returns-2 : tie.Need-returns-2
-returns-2 c = remove-8 _ _ _ (sym (c .before .before .before .before .is-sound .ensures) ∙ not-false _ (c .before .before .before .if1 .left)) (sym (c .enum-told .given .1) ∙ (c .before .before .holder .ensures))
+returns-2 c = remove-unheld _ _ _ (sym (c .before .before .before .before .before .is-sound .ensures) ∙ not-false _ (c .before .before .before .before .if1 .left)) (sym (c .before .enum-told .given .1) ∙ (c .before .before .before .holder .ensures)) _ (c .held-refusal .ensures _ refl refl)
 
 cast-g : tie.Need-cast-g
 cast-g c = search needs
@@ -62,6 +65,7 @@ remove-refusal-spec =
     holder-requires
     enum-known-global
     enum-told
+    held-refusal-requires
     returns-2
     cast-g
     mul-removal-notes

@@ -1,6 +1,6 @@
 use Rattle.steps.proofs.StepLaws.{rename-clear, literals-most, literals-part, literals-fit, hashes-most, hashes-fit}
 use Rattle.steps.proofs.RenameLaws.{rename-refused, rename-done}
-use Rattle.scope.specs.Write.{unheld}
+use Rattle.scope.specs.Marks.{unheld}
 use lib.Seq.{length-take-le}
 use mathlib.Core.Path.{sym, ap, _∙_}
 use borrow.Author.Needs.{needs}

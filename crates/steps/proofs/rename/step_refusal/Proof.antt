@@ -1,6 +1,6 @@
 use Rattle.steps.proofs.StepLaws.{refuse-1, refuse-14, refuse-literals, literals-most}
 use lib.Seq.{length-take-le}
-use mathlib.Core.Path.{sym, _∙_}
+use mathlib.Core.Path.{refl, sym, _∙_}
 use borrow.Author.Tests.{not-true, not-false}
 use borrow.Author.Needs.{needs}
 use Rattle.steps.proofs.rename.step_refusal.Statement.{statement}
@@ -28,7 +28,7 @@ literal-refusal-requires : tie.Need-literal-refusal-requires
 literal-refusal-requires c κs = search needs
 
 returns-3 : tie.Need-returns-3
-returns-3 c = refuse-literals _ (c .before .before .before .before .before .before .before .before .before .before .before .before .before .before .before .args .step) (c .before .before .before .before .before .before .before .before .before .before .before .before .before .before .before .args .solvervars) (c .before .before .before .before .before .before .before .before .before .before .before .before .before .before .before .args .lits .now) (c .before .before .before .before .before .before .before .before .before .before .before .before .before .before .before .args .hashes .now) _ _ (sym (c .before .before .before .before .before .before .is-sound .ensures) ∙ not-false _ (c .before .before .before .before .before .if1 .left)) (sym (c .before .before .before .before .differ .ensures) ∙ (c .before .before .before .if2 .left)) (c .before .before .carried .ensures) (c .literal-refusal .ensures)
+returns-3 c = refuse-literals _ (c .before .before .before .before .before .before .before .before .before .before .before .before .before .before .before .args .step) (c .before .before .before .before .before .before .before .before .before .before .before .before .before .before .before .args .solvervars) (c .before .before .before .before .before .before .before .before .before .before .before .before .before .before .before .args .lits .now) (c .before .before .before .before .before .before .before .before .before .before .before .before .before .before .before .args .hashes .now) _ _ (sym (c .before .before .before .before .before .before .is-sound .ensures) ∙ not-false _ (c .before .before .before .before .before .if1 .left)) (sym (c .before .before .before .before .differ .ensures) ∙ (c .before .before .before .if2 .left)) (c .before .before .carried .ensures) (c .literal-refusal .ensures _ refl refl)
 
 pub step-refusal-spec : {M : Type 1} → statement M
 step-refusal-spec =

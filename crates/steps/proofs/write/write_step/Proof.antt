@@ -1,6 +1,7 @@
 use Rattle.steps.proofs.WriteLaws.{write-first, write-lacked, write-judged, lacked-by}
 use Rattle.steps.proofs.StepLaws.{literals-most, literals-part, step-clear}
-use Rattle.scope.specs.Write.{outside, unheld}
+use Rattle.scope.specs.Marks.{unheld}
+use Rattle.scope.specs.Write.{outside}
 use lib.Seq.{length-take-le}
 use mathlib.Core.Path.{sym, ap, _∙_}
 use borrow.Author.Needs.{needs}

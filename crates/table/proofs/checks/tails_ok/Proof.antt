@@ -1,5 +1,5 @@
+use Rattle.scope.proofs.SoundLaws.{sizes-of}
 use Rattle.scope.specs.Sound.{tailsb}
-use Rattle.table.proofs.CheckLaws.{sizes-is}
 use mathlib.Core.Bool.{_&&_}
 use mathlib.Core.Path.{ap₂}
 use native.Mathlib.Omega.{arith}
@@ -8,32 +8,32 @@ use Rattle.table.proofs.checks.tails_ok.Tie as tie
 
 tail-ok-requires : tie.Need-tail-ok-requires
 tail-ok-requires c κs =
-    let s = sizes-is _ (c .before .before .before .before .before .before .pre .0) (c .before .before .before .before .before .before .pre .1) in
+    let s = sizes-of _ (c .before .before .before .before .before .before .pre .0) (c .before .before .before .before .before .before .pre .1) in
     omega arith
 
 tail-ok-requires-2 : tie.Need-tail-ok-requires-2
 tail-ok-requires-2 c κs =
-    let s = sizes-is _ (c .before .before .before .before .before .before .before .pre .0) (c .before .before .before .before .before .before .before .pre .1) in
+    let s = sizes-of _ (c .before .before .before .before .before .before .before .pre .0) (c .before .before .before .before .before .before .before .pre .1) in
     omega arith
 
 tail-ok-requires-3 : tie.Need-tail-ok-requires-3
 tail-ok-requires-3 c κs =
-    let s = sizes-is _ (c .before .before .before .before .before .before .before .before .pre .0) (c .before .before .before .before .before .before .before .before .pre .1) in
+    let s = sizes-of _ (c .before .before .before .before .before .before .before .before .pre .0) (c .before .before .before .before .before .before .before .before .pre .1) in
     omega arith
 
 tail-ok-requires-4 : tie.Need-tail-ok-requires-4
 tail-ok-requires-4 c κs =
-    let s = sizes-is _ (c .before .before .before .before .before .before .before .before .before .pre .0) (c .before .before .before .before .before .before .before .before .before .pre .1) in
+    let s = sizes-of _ (c .before .before .before .before .before .before .before .before .before .pre .0) (c .before .before .before .before .before .before .before .before .before .pre .1) in
     omega arith
 
 tail-ok-requires-5 : tie.Need-tail-ok-requires-5
 tail-ok-requires-5 c κs =
-    let s = sizes-is _ (c .before .before .before .before .before .before .before .before .before .before .pre .0) (c .before .before .before .before .before .before .before .before .before .before .pre .1) in
+    let s = sizes-of _ (c .before .before .before .before .before .before .before .before .before .before .pre .0) (c .before .before .before .before .before .before .before .before .before .before .pre .1) in
     omega arith
 
 tail-ok-requires-6 : tie.Need-tail-ok-requires-6
 tail-ok-requires-6 c κs =
-    let s = sizes-is _ (c .before .before .before .before .before .before .before .before .before .before .before .pre .0) (c .before .before .before .before .before .before .before .before .before .before .before .pre .1) in
+    let s = sizes-of _ (c .before .before .before .before .before .before .before .before .before .before .before .pre .0) (c .before .before .before .before .before .before .before .before .before .before .before .pre .1) in
     omega arith
 
 returns : tie.Need-returns

@@ -6,10 +6,10 @@ use lib.ListN.{length, take}
 use Rattle.base.specs.Bounded.{anyOf}
 use Rattle.base.proofs.MemberLaws.{any-start}
 use Rattle.scope.specs.Literals.{indexOf}
-use Rattle.posing.proofs.CountLaws.{any-on, any-all}
+use Rattle.table.proofs.CheckLaws.{any-on, any-all}
 use borrow.Author.Needs.{needs}
-use Rattle.posing.proofs.any_outside.Statement.{statement}
-use Rattle.posing.proofs.any_outside.Tie as tie
+use Rattle.table.proofs.any_outside.Statement.{statement}
+use Rattle.table.proofs.any_outside.Tie as tie
 
 abbrev Inv-loop : tie.InvT-loop
 Inv-loop capacity lits found₀ i₀ found i = (i ≤ length lits) × (found ≡ anyOf (λ c. leb capacity (indexOf c)) (take i lits))
