@@ -16,7 +16,7 @@ use Rattle.scope.specs.Remove.{removeHeld, learn, sweepHeld, sweepOne, sweep}
 use Rattle.scope.proofs.ResultLaws.{each-zero}
 use Rattle.scope.proofs.RemoveLaws.{Swept, sweep-passed, learn-same}
 use Rattle.deletion.proofs.LeavingLaws.{each-count}
-use Rattle.removal.specs.Counting.{learnt, isLoose, sweptNotes, notesAt, notesBy}
+use Rattle.removal.specs.Counting.{learnt, isLoose, sweptNotes, notesAt, notesBy, Counted}
 use Rattle.removal.proofs.CountingLaws.{removal-notes, removal-few}
 use Rattle.removal.proofs.HeldLaws.{holding-of}
 
@@ -76,18 +76,15 @@ count-more t h s n k p q =
 pub count-none : (t : Table) → 0 ≡ length (each 0 sweepOne t .notes)
 count-none t = ap (λ (x : Result (List ℕ)). length (x .notes)) (sym (each-zero sweepOne t))
 
--- so many notes are made of the first s indices, of every sound table with these lists
-abbrev pub Counted : List ℕ → List ℕ → List ℕ → List ℕ → ℕ → ℕ → Type 0
-Counted ug gs assignment records s n =
-    (t : Table) → Sound t → (t .userFromGlobal ≡ ug) × (t .globalFromSolver ≡ gs) × (t .assignment ≡ assignment) × (t .records ≡ records)
-    → n ≡ length (each s sweepOne t .notes)
-
 pub counted-none : (ug gs assignment records : List ℕ) → Counted ug gs assignment records 0 0
 counted-none ug gs assignment records t h e = count-none t
 
 pub counted-more : (ug gs assignment records : List ℕ) (s n k : ℕ) → Counted ug gs assignment records s n → k ≡ notesBy ug gs assignment records s
     → Counted ug gs assignment records (s + 1) (n + k)
 counted-more ug gs assignment records s n k p q t h e = count-more t h s n k (p t h e) (rw (e .0, e .1, e .2, e .3) q)
+
+pub counted-end : (ug gs assignment records : List ℕ) (s mark n : ℕ) → s ≡ mark → Counted ug gs assignment records s n → Counted ug gs assignment records mark n
+counted-end ug gs assignment records s mark n e p t h q = p t h q ∙ ap (λ (i : ℕ). length (each i sweepOne t .notes)) e
 
 pub count-end : (t : Table) (s n : ℕ) → s ≡ t .counts .solver → n ≡ length (each s sweepOne t .notes) → n ≡ length (sweep t .notes)
 unfolding sweep
@@ -110,8 +107,9 @@ notes-few ug gs assignment records s = go (getD gs s 0)
 pub count-small : (ug gs assignment records : List ℕ) (s n k : ℕ) → n ≤ 2 * s → k ≡ notesBy ug gs assignment records s → n + k ≤ 2 * (s + 1)
 count-small ug gs assignment records s n k l e = let w = notes-few ug gs assignment records s in omega arith
 
-pub count-fits : (t : Table) → Sound t → (s n k : ℕ) → s < t .counts .solver → n ≤ 2 * s → k ≡ notesAt t s → n + k < 2 ^ 32
-count-fits t h s n k l m e = let w = count-small _ _ _ _ s n k m e in let z = h .sizes in omega arith
+pub count-fits : (ug gs assignment records : List ℕ) (mark s n k : ℕ) → s < mark → mark ≤ 4096 → n ≤ 2 * s → k ≡ notesBy ug gs assignment records s
+    → n + k < 2 ^ 32
+count-fits ug gs assignment records mark s n k l z m e = let w = count-small ug gs assignment records s n k m e in omega arith
 
 -- a sweep makes two notes at most of each index
 turns-few : (t : Table) → Sound t → (s : ℕ) → length (each s sweepOne t .notes) ≤ 2 * s

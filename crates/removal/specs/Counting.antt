@@ -1,11 +1,15 @@
 -- How many notes a removal and a sweep make, told before anything is written.
 use Prim.Native.Nat.{ℕ}
+use mathlib.Core.Path.{_≡_}
 use mathlib.Core.Bool.{Bool, _&&_}
 use mathlib.Core.List.{List}
 use lib.Dec.{eqb}
-use lib.ListN.{getD}
+use lib.ListN.{length, getD}
 use Rattle.base.specs.Choice.{pick}
 use Rattle.scope.specs.Table.{Table, word, isolatedOf, assumedOf, withUnit}
+use Rattle.scope.specs.Sound.{Sound}
+use Rattle.scope.specs.Outcome.{each}
+use Rattle.scope.specs.Remove.{sweepOne}
 
 -- Of the removal of a solver index, by the user word and the record of its global: S, and D if there is no user and it is isolated.
 unfoldable pub removalNotes : ℕ → ℕ → ℕ
@@ -29,3 +33,9 @@ notesBy ug gs assignment records s = word 0 (λ g. sweptNotes (getD ug g 0) (get
 
 abbrev pub notesAt : Table → ℕ → ℕ
 notesAt t s = notesBy (t .userFromGlobal) (t .globalFromSolver) (t .assignment) (t .records) s
+
+-- So many are made of the solver indices below s, of every sound table with these lists.
+abbrev pub Counted : List ℕ → List ℕ → List ℕ → List ℕ → ℕ → ℕ → Type 0
+Counted ug gs assignment records s n =
+    (t : Table) → Sound t → (t .userFromGlobal ≡ ug) × (t .globalFromSolver ≡ gs) × (t .assignment ≡ assignment) × (t .records ≡ records)
+    → n ≡ length (each s sweepOne t .notes)

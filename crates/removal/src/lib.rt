@@ -20,7 +20,7 @@ ghost use Rattle.scope.specs.Sound.{soundb};
 ghost use Rattle.scope.specs.Outcome.{each};
 ghost use Rattle.scope.specs.Remove.{removeHeld, removeRefusal, removeOf, sweepOne, sweep, sweepRefusal, sweepOf};
 ghost use Rattle.deletion.specs.Leaving.{Leaves, Room};
-ghost use Rattle.removal.specs.Counting.{removalNotes, learnt, isLoose, notesBy};
+ghost use Rattle.removal.specs.Counting.{removalNotes, learnt, isLoose, notesBy, Counted};
 ghost use Rattle.removal.specs.Asks.{Holding, Readable, Sweepable};
 ghost use Rattle.removal.specs.Answers.{removed};
 
@@ -178,23 +178,15 @@ fn notes_at(ug: &[u32], gs: &[u32], assignment: &[u32], records: &[u32], solver:
     removal_notes(ug[g], w)
 }
 
-// How many notes a sweep makes. Nothing is written.
-fn count_notes(
-    c: Counts,
-    gu: &[u32],
-    ug: &[u32],
-    sg: &[u32],
-    gs: &[u32],
-    assignment: &[u32],
-    records: &[u32],
-) -> u32
-    requires { ⌜ soundb (given c gu ug sg gs assignment records) ≡ true ⌝ }
-    ensures { λ r. ⌜ r ≡ length (sweep (before c gu ug sg gs assignment records) .notes) ⌝ }
+// How many notes a sweep makes of the solver indices below the mark. Nothing is written.
+fn count_notes(mark: u32, ug: &[u32], gs: &[u32], assignment: &[u32], records: &[u32]) -> u32
+    requires { ⌜ mark ≤ 4096 ⌝ }
+    requires { ⌜ ((g s : ℕ) → getD (now gs) s 0 ≡ g + 1 → Readable (now ug) (now assignment) (now records) g s) ⌝ }
+    ensures { λ r. ⌜ Counted (old ug) (old gs) (old assignment) (old records) mark r ⌝ }
 {
-    let last = c.solver;
     let mut n: u32 = 0;
     let mut s: u32 = 0;
-    while s < last {
+    while s < mark {
         n += notes_at(ug, gs, assignment, records, Solver(s));
         s += 1;
     }
@@ -216,7 +208,7 @@ fn sweep_refusal(
     if !is_sound(c, gu, ug, sg, gs, assignment, records) {
         return 1;
     }
-    let n = count_notes(c, gu, ug, sg, gs, assignment, records) as usize;
+    let n = count_notes(c.solver, ug, gs, assignment, records) as usize;
     if room < 3 * n {
         return 2;
     }
