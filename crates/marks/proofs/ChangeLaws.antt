@@ -79,7 +79,8 @@ module _ (t : Table) (m : Mark) (s : ℕ) (b : Bool) (e : b ≡ soundb t) where
       let d : holderOf t s ≡ g = omega arith in
       let w = held-facts t b s g e y h .record-word in
       doing t (mark m s t) _ c _ (rw k (held-else t s 0 (ne-eqb (getD (t .globalFromSolver) s 0) 0 (λ z. omega arith))))
-      (λ i. tableOf (t .counts) (t .globalFromUser) (t .userFromGlobal) (t .solverFromGlobal) (t .globalFromSolver) (t .assignment) ((q ∙ ap (λ (r : ℕ). set (t .records) g (marked m r)) w ∙ ap (λ (j : ℕ). set (t .records) j (marked m (recordOf t j))) (sym d)) i))
+      (λ i. tableOf (t .counts) (t .globalFromUser) (t .userFromGlobal) (t .solverFromGlobal) (t .globalFromSolver) (t .assignment)
+      ((q ∙ ap (λ (r : ℕ). set (t .records) g (marked m r)) w ∙ ap (λ (j : ℕ). set (t .records) j (marked m (recordOf t j))) (sym d)) i))
 
 -- ---- Assign
 
@@ -106,10 +107,10 @@ module _ (t : Table) (lit : ℕ) (b : Bool) (e : b ≡ soundb t) where
       let w = held-else t (indexOf lit) _ (ne-eqb (getD (t .globalFromSolver) (indexOf lit) 0) 0 (λ z. omega arith)) in
       refusing 9 t _ c _ (λ z. omega arith) (rw k (w ∙ rw (ne-eqb (getD (t .assignment) (indexOf lit) 0) 0 n)))
 
-  pub assign-done : (c : Counts) (g : ℕ) → not b ≡ false → getD (t .globalFromSolver) (indexOf lit) 0 ≡ g + 1 → getD (t .assignment) (indexOf lit) 0 ≡ 0
-      → Does (assignOf t lit) (record { answer = accepted []; counts = c }) (putValue (indexOf lit) (trueValue lit) t) [] []
+  pub assign-done : (c : Counts) (g v : ℕ) → not b ≡ false → getD (t .globalFromSolver) (indexOf lit) 0 ≡ g + 1 → getD (t .assignment) (indexOf lit) 0 ≡ 0
+      → v ≡ trueValue lit → Does (assignOf t lit) (record { answer = accepted []; counts = c }) (putValue (indexOf lit) v t) [] []
   unfolding assignOf assignRefusal notHeld
-  assign-done c g y h z =
+  assign-done c g v y h z p =
       let k : soundb t ≡ true = yes-of e y in
       let w = held-else t (indexOf lit) _ (ne-eqb (getD (t .globalFromSolver) (indexOf lit) 0) 0 (λ q. omega arith)) in
-      doing t _ _ c _ (rw k (w ∙ rw z)) refl
+      doing t _ _ c _ (rw k (w ∙ rw z)) (ap (λ (x : ℕ). putValue (indexOf lit) x t) p)

@@ -35,7 +35,8 @@ choose-notes true x t = refl
 choose-notes false x t = refl
 
 -- of a held index
-swept-notes : (g s : ℕ) (t : Table) → g < length (t .records) → length (sweepHeld g s (learn g s t) .notes) ≡ sweptNotes (getD (t .userFromGlobal) g 0) (recordOf t g) (getD (t .assignment) s 0)
+swept-notes : (g s : ℕ) (t : Table) → g < length (t .records)
+    → length (sweepHeld g s (learn g s t) .notes) ≡ sweptNotes (getD (t .userFromGlobal) g 0) (recordOf t g) (getD (t .assignment) s 0)
 unfolding sweepHeld sweptNotes
 swept-notes g s t l =
     let e = record-learnt g s t l in
@@ -50,7 +51,8 @@ unfolding sweepOne notesBy word
 one-notes s t h = go (getD (t .globalFromSolver) s 0) refl
   where
     go : (w : ℕ) → getD (t .globalFromSolver) s 0 ≡ w
-        → length (word (stay [] t) (λ g. sweepHeld g s (learn g s t)) w .notes) ≡ word 0 (λ g. sweptNotes (getD (t .userFromGlobal) g 0) (recordOf t g) (getD (t .assignment) s 0)) w
+        → length (word (stay [] t) (λ g. sweepHeld g s (learn g s t)) w .notes) ≡ word 0
+        (λ g. sweptNotes (getD (t .userFromGlobal) g 0) (recordOf t g) (getD (t .assignment) s 0)) w
     go zero e = refl
     go (suc g) e = swept-notes g s t (h g (e ∙ sym (add-one g)))
 
@@ -60,7 +62,8 @@ unfolding notesBy word
 notes-ahead t n left a = rw (a .holders n (omega arith), a .userFromGlobal, a .assignment) (go (getD (t .globalFromSolver) n 0) refl)
   where
     go : (w : ℕ) → getD (t .globalFromSolver) n 0 ≡ w
-        → word 0 (λ g. sweptNotes (getD (t .userFromGlobal) g 0) (recordOf left g) (getD (t .assignment) n 0)) w ≡ word 0 (λ g. sweptNotes (getD (t .userFromGlobal) g 0) (recordOf t g) (getD (t .assignment) n 0)) w
+        → word 0 (λ g. sweptNotes (getD (t .userFromGlobal) g 0) (recordOf left g) (getD (t .assignment) n 0)) w ≡ word 0
+        (λ g. sweptNotes (getD (t .userFromGlobal) g 0) (recordOf t g) (getD (t .assignment) n 0)) w
     go zero e = refl
     go (suc g) e = ap (λ (r : ℕ). sweptNotes (getD (t .userFromGlobal) g 0) r (getD (t .assignment) n 0)) (a .records n g (omega arith) (e ∙ sym (add-one g)))
 

@@ -90,10 +90,12 @@ module _ (t : Table) (s at : ℕ) where
     mid-is = ap at-record (sym (learnt-is (t .assignment) (t .records) (g .0) s w (h .live .words) p)) ∙ go (getD (t .assignment) s 0)
       where
         at-record : ℕ → Table
-        at-record r = tableOf (t .counts) (t .globalFromUser) (t .userFromGlobal) (t .solverFromGlobal) (t .globalFromSolver) (t .assignment) (set (t .records) (g .0) r)
+        at-record r = tableOf (t .counts) (t .globalFromUser) (t .userFromGlobal) (t .solverFromGlobal) (t .globalFromSolver) (t .assignment)
+            (set (t .records) (g .0) r)
 
         go : (v : ℕ) → at-record (learnt (recordOf t (g .0)) v) ≡ word t (λ i. putRecord (g .0) (withUnit (recordOf t (g .0)) v) t) v
-        go zero = ap (λ (l : List ℕ). tableOf (t .counts) (t .globalFromUser) (t .userFromGlobal) (t .solverFromGlobal) (t .globalFromSolver) (t .assignment) l) (set-getD (t .records) (g .0) 47)
+        go zero = ap (λ (l : List ℕ). tableOf (t .counts) (t .globalFromUser) (t .userFromGlobal) (t .solverFromGlobal) (t .globalFromSolver) (t .assignment) l)
+            (set-getD (t .records) (g .0) 47)
         go (suc v) = refl
 
     mid-record : recordOf mid (g .0) ≡ w
@@ -114,19 +116,23 @@ module _ (t : Table) (s at : ℕ) where
     remove-is b = one-is ∙ choose-then (isLoose (recordOf mid (g .0))) _ _ (ap isLoose mid-record ∙ b)
 
     pub one-kept : (words : List ℕ) → isLoose w ≡ false
-        → Leaves (sweepOne s t) at at (tableOf (t .counts) (t .globalFromUser) (t .userFromGlobal) (t .solverFromGlobal) (t .globalFromSolver) (t .assignment) (set (t .records) (g .0) w)) words words
+        → Leaves (sweepOne s t) at at (tableOf (t .counts) (t .globalFromUser) (t .userFromGlobal) (t .solverFromGlobal) (t .globalFromSolver) (t .assignment)
+        (set (t .records) (g .0) w)) words words
     unfolding mid
     one-kept words b = subst (λ (x : Result (List ℕ)). Leaves x at at mid words words) (sym (stay-is b)) (leaves-stay mid at words)
 
     pub one-removed : (next : ℕ) (left : Table) (words words2 : List ℕ) → isLoose w ≡ true
-        → Leaves (removeHeld (g .0) s (tableOf (t .counts) (t .globalFromUser) (t .userFromGlobal) (t .solverFromGlobal) (t .globalFromSolver) (t .assignment) (set (t .records) (g .0) w))) at next left words words2
+        → Leaves (removeHeld (g .0) s (tableOf (t .counts) (t .globalFromUser) (t .userFromGlobal) (t .solverFromGlobal) (t .globalFromSolver) (t .assignment)
+        (set (t .records) (g .0) w))) at next left words words2
         → Leaves (sweepOne s t) at next left words words2
     unfolding mid
     one-removed next left words words2 b k = subst (λ (x : Result (List ℕ)). Leaves x at next left words words2) (sym (remove-is b)) k
 
     pub one-asks : (room : ℕ) → Room (sweepOne s t) at room → isLoose w ≡ true
-        → Holding (tableOf (t .counts) (t .globalFromUser) (t .userFromGlobal) (t .solverFromGlobal) (t .globalFromSolver) (t .assignment) (set (t .records) (g .0) w)) (g .0) s
-        × Room (removeHeld (g .0) s (tableOf (t .counts) (t .globalFromUser) (t .userFromGlobal) (t .solverFromGlobal) (t .globalFromSolver) (t .assignment) (set (t .records) (g .0) w))) at room
+        → Holding (tableOf (t .counts) (t .globalFromUser) (t .userFromGlobal) (t .solverFromGlobal) (t .globalFromSolver) (t .assignment)
+        (set (t .records) (g .0) w)) (g .0) s
+        × Room (removeHeld (g .0) s (tableOf (t .counts) (t .globalFromUser) (t .userFromGlobal) (t .solverFromGlobal) (t .globalFromSolver) (t .assignment)
+        (set (t .records) (g .0) w))) at room
     unfolding mid
     one-asks room r b = (holding, subst (λ (x : Result (List ℕ)). Room x at room) (remove-is b) r)
       where

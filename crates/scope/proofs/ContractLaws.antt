@@ -23,13 +23,15 @@ pub meets-accepted : (said : Said) (leaves : Counts → Table) (noted : List ℕ
     → (said .answer ≡ accepted (w3 0 0 1))
     × (leaves (said .counts) ≡ tab 2 1 1 0 (w2 1 0) (w2 1 0) (w2 0 0) (w2 0 0) (w2 0 0) (w2 9 47))
     × (noted ≡ w4 0 0 1 7)
-unfolding allBelow least count word isShown giveUser soundb sizesb marksb atMostb tailb backb namedb deletedb tailsb pairsb notesWords each unless leastFree globalFor mapOne fillGap mapUser nextUser newUser undeleted newUserRefusal newUserOf
+unfolding allBelow least count word isShown giveUser soundb sizesb marksb atMostb tailb backb namedb deletedb tailsb pairsb notesWords each unless leastFree
+    globalFor mapOne fillGap mapUser nextUser newUser undeleted newUserRefusal newUserOf
 meets-accepted said leaves noted d = (d .answer, d .table, d .noted)
 
 pub meets-refused : (said : Said) (leaves : Counts → Table) (noted : List ℕ)
     → Meets newUserOf said (record { table = opened2; leaves = leaves; notes = w2 7 7; noted = noted })
     → (said .answer ≡ refused 2 []) × (leaves (said .counts) ≡ opened2) × (noted ≡ w2 7 7)
-unfolding allBelow least count word isShown giveUser soundb sizesb marksb atMostb tailb backb namedb deletedb tailsb pairsb notesWords each unless leastFree globalFor mapOne fillGap mapUser nextUser newUser undeleted newUserRefusal newUserOf
+unfolding allBelow least count word isShown giveUser soundb sizesb marksb atMostb tailb backb namedb deletedb tailsb pairsb notesWords each unless leastFree
+    globalFor mapOne fillGap mapUser nextUser newUser undeleted newUserRefusal newUserOf
 meets-refused said leaves noted d = (d .answer, d .table, d .noted)
 
 -- a table's lists, in the order of the parameters

@@ -18,15 +18,21 @@ pub cover-user-is : (c : Counts) (u g a b : ℕ) → a ≡ max (c .user) (u + 1)
     → _≡_ {A = Counts} (record { capacity = c .capacity; user = a; global = b; solver = c .solver }) (coverUser c u g)
 cover-user-is c u g a b p q = λ i. record { capacity = c .capacity; user = p i; global = q i; solver = c .solver }
 
--- what covers a user, or a solver index, covers the name that it is
+-- what covers a name covers the user, or the solver index, that it is
+pub user-covered : (c : Counts) (u : UserIndex) (g : ℕ) → coverName (User u) c g ≡ coverUser c (u .0) g
+user-covered c u g =
+    let a : coverName (User u) c g .user ≡ max (c .user) (u .0 + 1) = omega arith in
+    let b : coverName (User u) c g .global ≡ max (c .global) (g + 1) = omega arith in
+    λ i. record { capacity = c .capacity; user = a i; global = b i; solver = c .solver }
+
+pub solver-covered : (c : Counts) (s : SolverIndex) (g : ℕ) → coverName (Solver s) c g ≡ coverSolver c (s .0) g
+solver-covered c s g =
+    let a : coverName (Solver s) c g .solver ≡ max (c .solver) (s .0 + 1) = omega arith in
+    let b : coverName (Solver s) c g .global ≡ max (c .global) (g + 1) = omega arith in
+    λ i. record { capacity = c .capacity; user = c .user; global = b i; solver = a i }
+
 pub cover-name-user : (c r : Counts) (n : Name) (u : UserIndex) (g : ℕ) → n ≡ User u → r ≡ coverUser c (u .0) g → r ≡ coverName n c g
-cover-name-user c r n u g e q =
-    let a : max (c .user) (u .0 + 1) ≡ coverName (User u) c g .user = omega arith in
-    let b : max (c .global) (g + 1) ≡ coverName (User u) c g .global = omega arith in
-    q ∙ (λ i. record { capacity = c .capacity; user = a i; global = b i; solver = c .solver }) ∙ sym (ap (λ (m : Name). coverName m c g) e)
+cover-name-user c r n u g e q = q ∙ sym (ap (λ (m : Name). coverName m c g) e ∙ user-covered c u g)
 
 pub cover-name-solver : (c r : Counts) (n : Name) (s : SolverIndex) (g : ℕ) → n ≡ Solver s → r ≡ coverSolver c (s .0) g → r ≡ coverName n c g
-cover-name-solver c r n s g e q =
-    let a : max (c .solver) (s .0 + 1) ≡ coverName (Solver s) c g .solver = omega arith in
-    let b : max (c .global) (g + 1) ≡ coverName (Solver s) c g .global = omega arith in
-    q ∙ (λ i. record { capacity = c .capacity; user = c .user; global = b i; solver = a i }) ∙ sym (ap (λ (m : Name). coverName m c g) e)
+cover-name-solver c r n s g e q = q ∙ sym (ap (λ (m : Name). coverName m c g) e ∙ solver-covered c s g)

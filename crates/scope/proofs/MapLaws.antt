@@ -364,7 +364,8 @@ map-free-mapped t u m e =
     let s = fillGap (u - t .counts .user) t .table in
     let f = fill-gap-filled t (u - t .counts .user) (map-gap-room t u m e) in
     let k = map-last-mappable t u m e in
-    let g = good-more (fillGap (u - t .counts .user) t .notes) (mapOne u s .notes) (fill-gap-reach t (u - t .counts .user) (map-gap-room t u m e)) (map-one-reach s u k) in
+    let g = good-more (fillGap (u - t .counts .user) t .notes) (mapOne u s .notes) (fill-gap-reach t (u - t .counts .user) (map-gap-room t u m e))
+    (map-one-reach s u k) in
     let x = f .user in
     let y = f .undeleted in
     let d = map-one-undeleted s u k in

@@ -75,7 +75,13 @@ mark-reach t m s p n =
     let g = holderOf t s in
     let h = held-undeleted t g s p (holder-holds t s n) in
     let e = marked-mode m (recordOf t g) in
-    reach-one (puts-record g (marked m (recordOf t g))) (record { old = h; new = marked-small m (recordOf t g) h; to = λ k q. k (e ∙ q); from = λ k q. k (sym e ∙ q) })
+    reach-one (puts-record g (marked m (recordOf t g))) (record {
+      old = h;
+      new = marked-small m (recordOf t g) h;
+      to = λ k q. k (e ∙ q);
+      from =
+          λ k q. k (sym e ∙ q);
+    })
 
 pub mark-sound : (t : Table) (m : Mark) (s : ℕ) → Sound t → getD (t .globalFromSolver) s 0 ≢ 0 → Sound (mark m s t)
 mark-sound t m s p n = reach-sound (mark-reach t m s p n) p

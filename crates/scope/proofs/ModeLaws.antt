@@ -20,7 +20,8 @@ use Rattle.scope.specs.Map.{nextUser}
 use Rattle.scope.specs.Modes.{isUnused, deleteIfUnused, show, hide, change, setMode, isHidden, observeOne, observe}
 use Rattle.scope.specs.Entries.{Entry, hides}
 use Rattle.scope.proofs.PairLaws.{free-below}
-use Rattle.scope.proofs.MoveLaws.{Reach, stop, reach-one, reach-then, reach-sound, deletes-global, gives-user, takes-user, puts-record, tells-mode, hides-again, undeleted-below}
+use Rattle.scope.proofs.MoveLaws.{Reach, stop, reach-one, reach-then, reach-sound, deletes-global, gives-user, takes-user, puts-record, tells-mode}
+use Rattle.scope.proofs.MoveLaws.{hides-again, undeleted-below}
 use Rattle.scope.proofs.ResultLaws.{Good, entered, by-choose, safe-each, each-keeps}
 use Rattle.scope.proofs.MapLaws.{SameSolvers, same-solvers, next-user-free}
 
@@ -174,7 +175,8 @@ pub hide-take-sound : (t : Table) (g : ℕ) → Sound t → recordOf t g < 36 �
     → Sound (takeUser g (getD (t .userFromGlobal) g 0 - 1) (withMode (recordOf t g) 2) t)
 hide-take-sound t g p h n =
     let m = p .rows .row g .seen (h, n) in
-    reach-sound (reach-one {t = t} (takes-user g (getD (t .userFromGlobal) g 0 - 1) (withMode (recordOf t g) 2)) (record { has = omega arith; undeleted = omega arith; hidden = omega arith })) p
+    reach-sound (reach-one {t = t} (takes-user g (getD (t .userFromGlobal) g 0 - 1) (withMode (recordOf t g) 2))
+    (record { has = omega arith; undeleted = omega arith; hidden = omega arith })) p
 
 -- ---- Set mode
 

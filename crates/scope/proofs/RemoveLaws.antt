@@ -83,7 +83,8 @@ learn-sound t g s p e = reach-sound (learn-reach t g s p e) p
 pub learn-same : (t : Table) (g s : ℕ) → SameButRecord t g (learn g s t)
 unfolding learn
 learn-same t g s =
-    by-word (SameButRecord t g) (getD (t .assignment) s 0) (λ e. stay-same t g) (λ v e. put-record-same t g (withUnit (recordOf t g) (getD (t .assignment) s 0)))
+    by-word (SameButRecord t g) (getD (t .assignment) s 0) (λ e. stay-same t g)
+    (λ v e. put-record-same t g (withUnit (recordOf t g) (getD (t .assignment) s 0)))
 
 -- the index is still held by it
 pub learn-holds : (t : Table) (g s : ℕ) → getD (t .globalFromSolver) s 0 ≡ g + 1 → getD (learn g s t .globalFromSolver) s 0 ≡ g + 1
@@ -269,7 +270,8 @@ kept-turn i r p k = by-word (λ (x : Result (List ℕ)). Kept (i + 1) (x .table)
     go : (s h : ℕ) → s < i + 1 → (g : ℕ) → getD (r .globalFromSolver) i 0 ≡ g + 1
         → getD (sweepHeld g i (learn g i r) .table .globalFromSolver) s 0 ≡ h + 1 → Dec (s ≡ i)
         → isDue (recordOf (sweepHeld g i (learn g i r) .table) h) ≡ false
-    go s h l g e w (yes z) = turn-kept (learn g i r) g i (learn-sound r g i p e) (learn-holds r g i e) h (ap (λ (k : ℕ). getD (sweepHeld g i (learn g i r) .table .globalFromSolver) k 0) (sym z) ∙ w)
+    go s h l g e w (yes z) = turn-kept (learn g i r) g i (learn-sound r g i p e) (learn-holds r g i e) h
+        (ap (λ (k : ℕ). getD (sweepHeld g i (learn g i r) .table .globalFromSolver) k 0) (sym z) ∙ w)
     go s h l g e w (no z) =
         let x = sweep-held-same r g i in
         let y = sym (x .holders s z) ∙ w in

@@ -6,7 +6,8 @@ use lib.ListN.{replicate}
 use Rattle.drat.specs.declared.Format.the-variants.{Text, Binary}
 use Rattle.scope.specs.declared.Global.{Global}
 use Rattle.scope.specs.declared.DeleteClauseProof.the-variants.{Redundant, Satisfied, Simplified}
-use Rattle.scope.specs.declared.ProofStep.the-variants.{AddClause, AtClause, UnitClauses, DeleteClause, Model, Assumptions, FailedAssumptions, SolverVarName, UserVarName, DeleteVar, ChangeSamplingMode, ChangeHashBits, End}
+use Rattle.scope.specs.declared.ProofStep.the-variants.{AddClause, AtClause, UnitClauses, DeleteClause, Model, Assumptions, FailedAssumptions}
+use Rattle.scope.specs.declared.ProofStep.the-variants.{SolverVarName, UserVarName, DeleteVar, ChangeSamplingMode, ChangeHashBits, End}
 use Rattle.scope.specs.Table.{Table}
 use Rattle.scope.specs.Steps.{kindOf, causeOf}
 use Rattle.scope.specs.Simplify.{simplifyOf, deleteCause}

@@ -14,7 +14,8 @@ use Rattle.scope.specs.declared.Counts.{Counts}
 use Rattle.scope.specs.declared.SamplingMode.the-variants.{Hide}
 use Rattle.scope.specs.declared.ProofStep.the-variants.{AddClause, AtClause, UnitClauses, DeleteClause, Model, SolverVarName}
 use Rattle.scope.specs.declared.DeleteClauseProof.the-variants.{Redundant}
-use Rattle.scope.specs.Table.{Table, tableOf, word, isShown, giveUser, takeUser, giveSolver, takeSolver, putRecord, putValue, dropGlobal, leastFree, nextSolver, undeleted}
+use Rattle.scope.specs.Table.{Table, tableOf, word, isShown, giveUser, takeUser, giveSolver, takeSolver, putRecord, putValue, dropGlobal, leastFree, nextSolver}
+use Rattle.scope.specs.Table.{undeleted}
 use Rattle.scope.specs.Sound.{soundb, sizesb, marksb, atMostb, tailb, backb, namedb, deletedb, tailsb, pairsb}
 use Rattle.scope.specs.Outcome.{choose, each, unless}
 use Rattle.scope.specs.Open.{emptyTable}
@@ -101,7 +102,8 @@ unfolding allBelow least count anyOf spell further bytesOf number numbers encode
     putRecord dropGlobal soundb sizesb marksb atMostb tailb backb namedb deletedb tailsb pairsb choose each unless emptyTable leastFree M.globalFor M.mapOne
     M.fillGap M.mapUser M.nextUser undeleted M.toMap M.unsampled M.mapRefusal M.mapOf nextSolver G.grantOne G.grant G.grantRefusal G.grantOf
     D.isUnused D.deleteIfUnused D.show D.hide D.change D.setMode D.setModeRefusal D.setModeOf D.isHidden D.observeOne D.observe D.observeRefusal
-    D.observeOf R.removeHeld R.learn R.sweepHeld R.sweepOne R.sweep R.sweepRefusal R.sweepOf notHeld heldElse renameLits unmatched outside unheld litsHeldElse stepRefusal
+    D.observeOf R.removeHeld R.learn R.sweepHeld R.sweepOne R.sweep R.sweepRefusal R.sweepOf notHeld heldElse renameLits unmatched outside unheld litsHeldElse
+    stepRefusal
     stepBytes writeRefusal writeOf notesOf perform turnDoes entriesOf linesOf enter afterTurn run
 handed-on = (refl, refl, refl, refl)
 
@@ -144,7 +146,8 @@ pub hidden-log :
 unfolding allBelow least count anyOf word isShown giveUser takeUser giveSolver putRecord dropGlobal soundb sizesb marksb atMostb tailb backb namedb deletedb
     tailsb pairsb choose each unless emptyTable leastFree M.globalFor M.mapOne M.fillGap M.mapUser M.nextUser undeleted M.toMap M.unsampled
     M.mapRefusal M.mapOf nextSolver G.grantOne G.grant G.grantRefusal G.grantOf D.isUnused D.deleteIfUnused D.show D.hide D.change D.setMode
-    D.setModeRefusal D.setModeOf D.isHidden D.observeOne D.observe D.observeRefusal D.observeOf notHeld heldElse notesOf perform turnDoes entriesOf linesOf enter afterTurn
+    D.setModeRefusal D.setModeOf D.isHidden D.observeOne D.observe D.observeRefusal D.observeOf notHeld heldElse notesOf perform turnDoes entriesOf linesOf
+    enter afterTurn
     run
 hidden-log = (refl, refl)
 
@@ -230,10 +233,12 @@ pub all-clauses :
     ∷ 100 ∷ 32 ∷ 50 ∷ 32 ∷ 48 ∷ 10
     ∷ 45 ∷ 56 ∷ 32 ∷ 48 ∷ 10
     ∷ [])
-unfolding allBelow least count anyOf keepOf spell further bytesOf number numbers encodeStep encode word isShown giveUser giveSolver putRecord dropGlobal putValue
+unfolding allBelow least count anyOf keepOf spell further bytesOf number numbers encodeStep encode word isShown giveUser giveSolver putRecord dropGlobal
+    putValue
     soundb sizesb marksb atMostb tailb backb namedb deletedb tailsb pairsb choose each unless emptyTable leastFree M.globalFor M.mapOne M.fillGap
     M.mapUser undeleted M.unsampled nextSolver G.grantOne G.grant P.poseOne P.pose P.wanted P.usersToMap P.poseRefusal P.poseOf notHeld heldElse assignRefusal
-    assignOf renameLits unmatched outside unheld litsHeldElse stepRefusal stepBytes writeRefusal writeOf unfalse simplified simplifyBytes simplifyRefusal simplifyOf
+    assignOf renameLits unmatched outside unheld litsHeldElse stepRefusal stepBytes writeRefusal writeOf unfalse simplified simplifyBytes simplifyRefusal
+    simplifyOf
     notesOf perform turnDoes entriesOf linesOf enter afterTurn run
 all-clauses = (refl, refl, refl, refl)
 

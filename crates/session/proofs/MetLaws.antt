@@ -206,7 +206,8 @@ pub rename-met : (f : Format) (step : ProofStep) (solvervars : Bool) (lits hashe
     (renameOf (before c gu ug sg gs assignment records) step solvervars (old lits) (old hashes) (length (old out)) (length (old hashout)) .words)
     → Fills hashout 0
     (renameOf (before c gu ug sg gs assignment records) step solvervars (old lits) (old hashes) (length (old out)) (length (old hashout)) .more)
-    → Met f (made (Calls.rename step solvervars (old lits) (old hashes)) said (quiet c gu ug sg gs assignment records) (fillable out) (fillable hashout) noneLent)
+    → Met f (made (Calls.rename step solvervars (old lits) (old hashes)) said (quiet c gu ug sg gs assignment records) (fillable out) (fillable hashout)
+    noneLent)
 unfolding turnDoes perform
 rename-met f step solvervars lits hashes said c gu ug sg gs assignment records out hashout h k l = more-met f _ said _ out hashout h k l
 

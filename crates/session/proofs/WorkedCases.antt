@@ -26,10 +26,12 @@ x and y = (x, y)
 pub worked : CasesAgree cases
 unfolding allBelow least count everyOf anyOf keepOf spell further bytesOf number numbers encodeStep encode decimalFrom lebFrom endFrom token blankFrom
     opening consPart body asStep oneStep consStep stepsFrom readProof answerOf codesOf endsFrom kindsOf word isShown giveUser takeUser giveSolver
-    takeSolver putRecord dropGlobal putValue soundb sizesb marksb atMostb tailb backb namedb deletedb tailsb pairsb choose each unless emptyTable openOf leastFree
+    takeSolver putRecord dropGlobal putValue soundb sizesb marksb atMostb tailb backb namedb deletedb tailsb pairsb choose each unless emptyTable openOf
+    leastFree
     globalFor mapOne fillGap mapUser nextUser newUser undeleted toMap unsampled mapRefusal mapOf newUserRefusal newUserOf nextSolver grantOne grant
     grantRefusal grantOf isUnused deleteIfUnused show hide change setMode setModeRefusal setModeOf isHidden observeOne observe observeRefusal observeOf
-    notHeld heldElse mark markRefusal markOf removeHeld learn sweepHeld sweepOne sweep sweepRefusal sweepOf renameLits unmatched outside unheld litsHeldElse stepRefusal
+    notHeld heldElse mark markRefusal markOf removeHeld learn sweepHeld sweepOne sweep sweepRefusal sweepOf renameLits unmatched outside unheld litsHeldElse
+    stepRefusal
     stepBytes writeRefusal writeOf
 worked =
     refl and refl and refl and refl and refl and refl and refl and refl and refl and refl and

@@ -220,7 +220,8 @@ fn shorten_clause(
     requires { ⌜ clauseRefusal (given c gu ug sg gs assignment records) (now lits) ≡ 0 ⌝ }
     requires { ⌜ simplified (given c gu ug sg gs assignment records) (now lits) ≡ what ⌝ }
     requires { ⌜ Cuts what ⌝ }
-    ensures { λ r. ⌜ reduced r c .answer ≡ simplifyOf f (before c gu ug sg gs assignment records) (old lits) redundant (length (old out)) (length (old bytes)) .answer ⌝ }
+    ensures { λ r. ⌜ reduced r c .answer
+        ≡ simplifyOf f (before c gu ug sg gs assignment records) (old lits) redundant (length (old out)) (length (old bytes)) .answer ⌝ }
     ensures out { λ _. ⌜ Fills out 0
         (simplifyOf f (before c gu ug sg gs assignment records) (old lits) redundant (length (old out)) (length (old bytes)) .words) ⌝ }
     ensures bytes { λ _. ⌜ Fills bytes 0

@@ -91,7 +91,8 @@ word-small t h s = ⊎-elim
     (same (getD (t .globalFromSolver) s 0) 0)
 
 -- the index of a held literal has a holder
-pub held-at : (t : Table) (s : Bool) (lits : List ℕ) (i : ℕ) → unheld t s lits ≡ false → i < length lits → s ≡ true → getD (t .globalFromSolver) (getD lits i 0 / 2) 0 ≢ 0
+pub held-at : (t : Table) (s : Bool) (lits : List ℕ) (i : ℕ) → unheld t s lits ≡ false → i < length lits → s ≡ true
+    → getD (t .globalFromSolver) (getD lits i 0 / 2) 0 ≢ 0
 unfolding unheld notHeld
 held-at t s lits i u l e =
     eqb-false (getD (t .globalFromSolver) (getD lits i 0 / 2) 0) 0
@@ -121,7 +122,8 @@ pub names-length : (h : ℕ → ℕ) (s : Bool) (lits : List ℕ) → length (re
 unfolding renameLits
 names-length h s lits = length-map lits (renameLit h s)
 
-pub names-codes : (t : Table) (s : Bool) (lits : List ℕ) → soundb t ≡ true → outside t s lits ≡ false → unheld t s lits ≡ false → Codes (renameLits (holders t) s lits)
+pub names-codes : (t : Table) (s : Bool) (lits : List ℕ) → soundb t ≡ true → outside t s lits ≡ false → unheld t s lits ≡ false
+    → Codes (renameLits (holders t) s lits)
 unfolding renameLits outside
 names-codes t s lits h o u i l =
     let k : i < length lits = subst (λ (n : ℕ). i < n) (length-map lits (renameLit (holders t) s)) l in
@@ -140,16 +142,17 @@ names-codes t s lits h o u i l =
 
 -- ---- names in a buffer of 8,192
 
-module _ (t : Table) (s : Bool) (lits zs m : List ℕ) (z : length zs ≡ 8192) (o : outside t s lits ≡ false) (e : m ≡ sets zs 0 (renameLits (holders t) s lits)) where
-  pub names-part : take (length lits) m ≡ renameLits (holders t) s lits
-  names-part =
-      let h = few t s lits o in
-      stored-part zs m (renameLits (holders t) s lits) (length lits) e (sym (names-length (holders t) s lits)) (omega arith)
+module _ (t : Table) (s : Bool) (lits zs m : List ℕ) (z : length zs ≡ 8192) (o : outside t s lits ≡ false) (e : m ≡ sets zs 0 (renameLits (holders t) s lits))
+  where
+    pub names-part : take (length lits) m ≡ renameLits (holders t) s lits
+    names-part =
+        let h = few t s lits o in
+        stored-part zs m (renameLits (holders t) s lits) (length lits) e (sym (names-length (holders t) s lits)) (omega arith)
 
-  pub names-within : length lits ≤ length m
-  names-within = let h = few t s lits o in let k = ap length e ∙ length-sets zs 0 (renameLits (holders t) s lits) in omega arith
+    pub names-within : length lits ≤ length m
+    names-within = let h = few t s lits o in let k = ap length e ∙ length-sets zs 0 (renameLits (holders t) s lits) in omega arith
 
-  pub names-given : soundb t ≡ true → unheld t s lits ≡ false → Codes (take (length lits) m) × (length (take (length lits) m) ≤ 8192)
-  names-given h u =
-      subst (λ (l : List ℕ). Codes l × (length l ≤ 8192)) (sym names-part)
-      (names-codes t s lits h o u, subst (λ (n : ℕ). n ≤ 8192) (sym (names-length (holders t) s lits)) (few t s lits o))
+    pub names-given : soundb t ≡ true → unheld t s lits ≡ false → Codes (take (length lits) m) × (length (take (length lits) m) ≤ 8192)
+    names-given h u =
+        subst (λ (l : List ℕ). Codes l × (length l ≤ 8192)) (sym names-part)
+        (names-codes t s lits h o u, subst (λ (n : ℕ). n ≤ 8192) (sym (names-length (holders t) s lits)) (few t s lits o))

@@ -45,7 +45,8 @@ literals-part step lits k e = ap (λ (n : ℕ). take n lits) e ∙ pick-part (ru
 pub literals-most : (step : ProofStep) (lits : List ℕ) (k : ℕ) → k ≡ pick (ruleOf step .renamed) (length lits) 0 → k ≤ length lits
 literals-most step lits k e = subst (λ (n : ℕ). n ≤ length lits) (sym e) (pick-most (ruleOf step .renamed) (length lits))
 
-pub literals-fit : (step : ProofStep) (lits : List ℕ) (k a : ℕ) → k ≡ pick (ruleOf step .renamed) (length lits) 0 → length (literalsOf step lits) ≤ a → length (take k lits) ≤ a
+pub literals-fit : (step : ProofStep) (lits : List ℕ) (k a : ℕ) → k ≡ pick (ruleOf step .renamed) (length lits) 0 → length (literalsOf step lits) ≤ a
+    → length (take k lits) ≤ a
 literals-fit step lits k a e h = subst (λ (l : List ℕ). length l ≤ a) (sym (literals-part step lits k e)) h
 
 pub hashes-length : (step : ProofStep) (hashes : List ℕ) (k : ℕ) → k ≡ pick (hasHashes step) (length hashes) 0 → k ≡ length (hashesOf step hashes)
@@ -57,7 +58,8 @@ hashes-part step hashes k e = ap (λ (n : ℕ). take n hashes) e ∙ pick-part (
 pub hashes-most : (step : ProofStep) (hashes : List ℕ) (k : ℕ) → k ≡ pick (hasHashes step) (length hashes) 0 → k ≤ length hashes
 hashes-most step hashes k e = subst (λ (n : ℕ). n ≤ length hashes) (sym e) (pick-most (hasHashes step) (length hashes))
 
-pub hashes-fit : (step : ProofStep) (hashes : List ℕ) (k a : ℕ) → k ≡ pick (hasHashes step) (length hashes) 0 → length (hashesOf step hashes) ≤ a → length (take k hashes) ≤ a
+pub hashes-fit : (step : ProofStep) (hashes : List ℕ) (k a : ℕ) → k ≡ pick (hasHashes step) (length hashes) 0 → length (hashesOf step hashes) ≤ a
+    → length (take k hashes) ≤ a
 hashes-fit step hashes k a e h = subst (λ (l : List ℕ). length l ≤ a) (sym (hashes-part step hashes k e)) h
 
 -- ---- 1, 14, 3, 8

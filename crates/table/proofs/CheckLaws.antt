@@ -76,7 +76,8 @@ all-and (suc n) p q = ap (λ (b : Bool). b && (p n && q n)) (all-and n p q) ∙ 
 
 -- ---- anyOf, gathered by a loop
 
-pub any-on : (p : ℕ → Bool) (lits : List ℕ) (i : ℕ) (b : Bool) → i < length lits → b ≡ anyOf p (take i lits) → b || p (getD lits i 0) ≡ anyOf p (take (i + 1) lits)
+pub any-on : (p : ℕ → Bool) (lits : List ℕ) (i : ℕ) (b : Bool) → i < length lits → b ≡ anyOf p (take i lits)
+    → b || p (getD lits i 0) ≡ anyOf p (take (i + 1) lits)
 any-on p lits i b l e = ap (λ (x : Bool). x || p (getD lits i 0)) e ∙ sym (any-more p lits i 0 l)
 
 pub any-all : (p : ℕ → Bool) (lits : List ℕ) (i : ℕ) (b : Bool) → length lits ≤ i → b ≡ anyOf p (take i lits) → b ≡ anyOf p lits
@@ -169,7 +170,8 @@ count-mark (suc n) mark p l h = ⊎-elim
     (λ (e : mark < suc n). count-mark n mark p (omega arith) h ∙ rw (h n (omega arith)))
     (eq-or-lt-of-le l)
 
-pub filled-end : (xs : List ℕ) (mark i k : ℕ) → mark ≤ length xs → tailb mark 0 xs ≡ true → k ≡ count i (isFilled xs) → i ≡ mark → k ≡ count (length xs) (isFilled xs)
+pub filled-end : (xs : List ℕ) (mark i k : ℕ) → mark ≤ length xs → tailb mark 0 xs ≡ true → k ≡ count i (isFilled xs) → i ≡ mark
+    → k ≡ count (length xs) (isFilled xs)
 filled-end xs mark i k l h e q =
     e ∙ ap (λ (n : ℕ). count n (isFilled xs)) q
     ∙ count-mark (length xs) mark (isFilled xs) l (λ j m. rw (tail-of mark 0 xs h j m) refl)

@@ -30,7 +30,8 @@ found-some none some w (suc i) e n =
 
 -- ---- what an answer says of the word: for `At g` the word is g + 1, for `Nothing` it is 0
 
-word-read : {A : Type 0} (read : A → ℕ) (none : A) (some : ℕ → A) → read none ≡ 0 → ((i : ℕ) → read (some i) ≡ i + 1) → (w : ℕ) (f : A) → f ≡ word none some w → w ≡ read f
+word-read : {A : Type 0} (read : A → ℕ) (none : A) (some : ℕ → A) → read none ≡ 0 → ((i : ℕ) → read (some i) ≡ i + 1) → (w : ℕ) (f : A) → f ≡ word none some w
+    → w ≡ read f
 unfolding word
 word-read read none some z s zero f e = sym (ap read e ∙ z)
 word-read read none some z s (suc i) f e = sym (ap read e ∙ s i ∙ add-one i)

@@ -32,11 +32,13 @@ same-length-2 c = search needs
 
 returns-2 : tie.Need-returns-2
 returns-2 c =
-    mark-unheld _ _ _ _ (c .before .before .before .before .before .is-sound .ensures) _ _ (c .before .before .before .before .if1 .left) (global-word _ _ (sym (c .before .enum-told .given .1) ∙ (c .before .before .before .holder .ensures))) (c .held-refusal .ensures _ refl refl)
+    mark-unheld _ _ _ _ (c .before .before .before .before .before .is-sound .ensures) _ _ (c .before .before .before .before .if1 .left)
+    (global-word _ _ (sym (c .before .enum-told .given .1) ∙ (c .before .before .before .holder .ensures))) (c .held-refusal .ensures _ refl refl)
 
 put-mark-requires : tie.Need-put-mark-requires
 put-mark-requires c κs =
-    let h = held-facts _ _ _ _ (c .before .before .before .before .before .before .is-sound .ensures) (c .before .before .before .before .before .if1 .left) (global-word _ _ (sym (c .before .before .global .given .1) ∙ (c .before .before .before .before .holder .ensures))) in
+    let h = held-facts _ _ _ _ (c .before .before .before .before .before .before .is-sound .ensures) (c .before .before .before .before .before .if1 .left)
+    (global-word _ _ (sym (c .before .before .global .given .1) ∙ (c .before .before .before .before .holder .ensures))) in
     let k = h .record-word in
     (h .record-place, omega arith)
 
@@ -45,7 +47,10 @@ same-length-3 c = search needs
 
 returns-3 : tie.Need-returns-3
 returns-3 c =
-    mark-done _ _ _ _ (c .before .before .before .before .before .before .before .before .before .is-sound .ensures) _ _ _ (c .before .before .before .before .before .before .before .before .if1 .left) (global-word _ _ (sym (c .before .before .before .before .before .global .given .1) ∙ (c .before .before .before .before .before .before .before .holder .ensures))) (c .before .before .put-mark .ensures)
+    mark-done _ _ _ _ (c .before .before .before .before .before .before .before .before .before .is-sound .ensures) _ _ _
+    (c .before .before .before .before .before .before .before .before .if1 .left)
+    (global-word _ _ (sym (c .before .before .before .before .before .global .given .1)
+    ∙ (c .before .before .before .before .before .before .before .holder .ensures))) (c .before .before .put-mark .ensures)
 
 pub mark-spec : {M : Type 1} → statement M
 mark-spec =

@@ -20,7 +20,10 @@ notes-at-requires c κs g e = c .before .before .before .before .before .before 
 
 add-n : tie.Need-add-n Inv-loop μ-loop
 add-n c =
-    record { fits = count-fits _ _ _ _ _ _ _ _ (c .before .loop-test .taken) (c .before .before .before .before .before .before .before .pre .0) (c .before .before .loop .inv .2) (c .notes-at .ensures) }
+    record {
+      fits = count-fits _ _ _ _ _ _ _ _ (c .before .loop-test .taken) (c .before .before .before .before .before .before .before .pre .0)
+          (c .before .before .loop .inv .2) (c .notes-at .ensures);
+    }
 
 add-s : tie.Need-add-s Inv-loop μ-loop
 add-s c = search needs

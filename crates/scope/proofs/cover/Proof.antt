@@ -15,13 +15,19 @@ enum-known-n : tie.Need-enum-known-n
 enum-known-n c = search needs
 
 cover-user-requires : tie.Need-cover-user-requires
-cover-user-requires c κs = (subst (λ (n : Name). indexIn n < c .before .before .before .args .c .capacity) (c .before .n .given .1) (c .before .before .before .pre .0), c .before .before .before .pre .1)
+cover-user-requires c κs = (
+  subst (λ (n : Name). indexIn n < c .before .before .before .args .c .capacity) (c .before .n .given .1) (c .before .before .before .pre .0),
+  c .before .before .before .pre .1,
+)
 
 enum-known-n-2 : tie.Need-enum-known-n-2
 enum-known-n-2 c = search needs
 
 cover-solver-requires : tie.Need-cover-solver-requires
-cover-solver-requires c κs = (subst (λ (n : Name). indexIn n < c .before .before .before .args .c .capacity) (c .before .n2 .given .1) (c .before .before .before .pre .0), c .before .before .before .pre .1)
+cover-solver-requires c κs = (
+  subst (λ (n : Name). indexIn n < c .before .before .before .args .c .capacity) (c .before .n2 .given .1) (c .before .before .before .pre .0),
+  c .before .before .before .pre .1,
+)
 
 returns : tie.Need-returns
 returns c = cover-name-user _ _ _ _ _ (c .before .before .n .given .1) (c .cover-user .ensures)

@@ -40,7 +40,8 @@ enum-told-2 : tie.Need-enum-told-2 Inv-loop μ-loop
 enum-told-2 c = search needs
 
 returns : tie.Need-returns Inv-loop μ-loop
-returns c = sym (any-some (λ x. eqb (getD (c .before .before .before .before .before .before .before .before .args .gs .now) (indexOf x) 0) 0) _ _ _ (c .before .before .before .before .loop-test .taken) (eq-eqb _ 0 (global-word _ _ (sym (c .enum-told2 .given .1) ∙ c .before .before .holder .ensures))))
+returns c = sym (any-some (λ x. eqb (getD (c .before .before .before .before .before .before .before .before .args .gs .now) (indexOf x) 0) 0) _ _ _
+    (c .before .before .before .before .loop-test .taken) (eq-eqb _ 0 (global-word _ _ (sym (c .enum-told2 .given .1) ∙ c .before .before .holder .ensures))))
 
 add-i : tie.Need-add-i Inv-loop μ-loop
 add-i c = omega arith
@@ -49,10 +50,16 @@ loop-less : tie.Need-loop-less Inv-loop μ-loop
 loop-less c = omega arith
 
 loop-again : tie.Need-loop-again Inv-loop μ-loop
-loop-again c = (omega arith, any-step (λ x. eqb (getD (c .before .before .before .before .before .before .before .before .args .gs .now) (indexOf x) 0) 0) _ _ _ (c .before .before .before .before .loop-test .taken) (c .before .before .before .before .before .loop .inv .1) (word-filled _ _ (global-word _ _ (sym (c .enum-told .given .1) ∙ c .before .before .holder .ensures))))
+loop-again c = (
+  omega arith,
+  any-step (λ x. eqb (getD (c .before .before .before .before .before .before .before .before .args .gs .now) (indexOf x) 0) 0) _ _ _
+      (c .before .before .before .before .loop-test .taken) (c .before .before .before .before .before .loop .inv .1)
+      (word-filled _ _ (global-word _ _ (sym (c .enum-told .given .1) ∙ c .before .before .holder .ensures))),
+)
 
 returns-2 : tie.Need-returns-2 Inv-loop μ-loop
-returns-2 c = sym (any-end (λ x. eqb (getD (c .before .before .before .before .args .gs .now) (indexOf x) 0) 0) _ _ (c .loop-test .left) (c .before .loop .inv .1))
+returns-2 c = sym (any-end (λ x. eqb (getD (c .before .before .before .before .args .gs .now) (indexOf x) 0) 0) _ _ (c .loop-test .left)
+    (c .before .loop .inv .1))
 
 pub any-unheld-spec : {M : Type 1} → statement M
 any-unheld-spec =
