@@ -8,7 +8,7 @@ use lib.Dec.{eqb}
 use lib.ListN.{length, getD, set}
 use lib.Seq.{sets}
 use Rattle.base.proofs.MemberLaws.{getD-default}
-use Rattle.scope.specs.Table.{Table, tableOf, isolatedOf, recordOf, putRecord}
+use Rattle.scope.specs.Table.{Table, tableOf, isolatedOf, recordOf, putRecord, dropGlobal}
 use Rattle.scope.specs.Notes.{notesWords}
 use Rattle.scope.specs.Outcome.{choose}
 use Rattle.scope.specs.Modes.{isUnused, deleteIfUnused}
@@ -40,7 +40,7 @@ module _ (t : Table) (g : ℕ) (h : Live t g) where
 
     pub delete-leaves : (at : ℕ) (records words words2 : List ℕ) → records ≡ set (t .records) g (getD (t .records) g 0 + 36) → words2 ≡ sets words at (2 ∷ g ∷ 0 ∷ [])
         → Leaves (deleteIfUnused g t) at (at + 3) (tableOf (t .counts) (t .globalFromUser) (t .userFromGlobal) (t .solverFromGlobal) (t .globalFromSolver) (t .assignment) records) words words2
-    unfolding deleteIfUnused choose putRecord notesWords
+    unfolding deleteIfUnused choose dropGlobal putRecord notesWords
     delete-leaves at records words words2 p q =
         rw (unused-read true b)
         (record {

@@ -12,12 +12,11 @@ use Rattle.base.specs.Answer.{numberOf, valuesOf}
 use Rattle.base.proofs.MemberLaws.{getD-default}
 use Rattle.scope.specs.declared.Counts.{Counts}
 use Rattle.scope.specs.declared.Solver.{Solver}
-use Rattle.scope.specs.Table.{Table, tableOf, word, unitOf, recordOf, isDeleted, coverSolver, giveSolver}
+use Rattle.scope.specs.Table.{Table, tableOf, word, unitOf, recordOf, isDeleted, coverSolver, giveSolver, leastFree, nextSolver}
 use Rattle.scope.specs.Sound.{Sound, soundb}
 use Rattle.scope.specs.Notes.{notesWords}
 use Rattle.scope.specs.Outcome.{short}
-use Rattle.scope.specs.Map.{leastFree}
-use Rattle.scope.specs.Grant.{nextSolver, grantOne, grant, grantRefusal, grantOf}
+use Rattle.scope.specs.Grant.{grantOne, grant, grantRefusal, grantOf}
 use Rattle.scope.specs.Contract.{Said, Does}
 use Rattle.scope.proofs.SoundLaws.{sound-of}
 use Rattle.scope.proofs.GrantLaws.{next-solver-below, grant-free, grant-has, toGrant, grant-count}

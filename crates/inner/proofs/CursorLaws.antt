@@ -10,7 +10,7 @@ use lib.ListN.{getD}
 use borrow.Author.Tests.{eq-eqb}
 use Rattle.base.specs.Bounded.{least}
 use Rattle.base.proofs.LeastLaws.{least-is, least-has}
-use Rattle.scope.specs.Map.{leastFree}
+use Rattle.scope.specs.Table.{leastFree}
 use Rattle.inner.specs.Cursor.{Passed}
 use Rattle.base.proofs.Truth.{same}
 

@@ -4,7 +4,7 @@ ghost use Prim.Native.Nat.{_≤_};
 ghost use lib.Dec.{eqb, leb};
 ghost use lib.ListN.{length, getD};
 ghost use Rattle.base.specs.Lent.{old};
-ghost use Rattle.scope.specs.Map.{leastFree};
+ghost use Rattle.scope.specs.Table.{leastFree};
 ghost use Rattle.inner.specs.Cursor.{Passed};
 
 // The least index below the mark at which the map has 0, else the mark; below `from` it has none.

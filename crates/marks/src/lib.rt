@@ -4,6 +4,7 @@ use scope::Global;
 use scope::Mark;
 use scope::Solver;
 use table::FoundGlobal;
+use table::held_refusal;
 use table::holder;
 use table::is_sound;
 ghost use mathlib.Core.Path.{_≡_};
@@ -62,7 +63,7 @@ pub fn mark(
         return Changed::Refused(1);
     }
     let FoundGlobal::At(global) = holder(gs, solver) else {
-        return Changed::Refused(8);
+        return Changed::Refused(held_refusal(c, gs, solver));
     };
     put_mark(records, mark, global);
     Changed::Done
@@ -87,7 +88,7 @@ pub fn assign_lit(
         return Changed::Refused(1);
     }
     let FoundGlobal::At(_) = holder(gs, Solver(lit / 2)) else {
-        return Changed::Refused(8);
+        return Changed::Refused(held_refusal(c, gs, Solver(lit / 2)));
     };
     let s = (lit / 2) as usize;
     if assignment[s] != 0 {

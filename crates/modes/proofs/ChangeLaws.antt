@@ -10,10 +10,10 @@ use lib.Seq.{sets, getD-set-same}
 use Rattle.base.specs.Choice.{pick}
 use Rattle.base.proofs.SetsLaws.{sets-append}
 use Rattle.scope.specs.declared.Counts.{Counts}
-use Rattle.scope.specs.Table.{Table, tableOf, recordOf, withMode, coverUser, giveUser, takeUser, putRecord}
+use Rattle.scope.specs.Table.{Table, tableOf, recordOf, withMode, coverUser, giveUser, takeUser, putRecord, leastFree}
 use Rattle.scope.specs.Notes.{user-, notesWords}
 use Rattle.scope.specs.Outcome.{Result}
-use Rattle.scope.specs.Map.{leastFree, nextUser}
+use Rattle.scope.specs.Map.{nextUser}
 use Rattle.scope.specs.Modes.{deleteIfUnused, show, hide, change}
 use Rattle.scope.proofs.PairLaws.{below-mark}
 use Rattle.scope.proofs.MoveLaws.{undeleted-below}

@@ -8,7 +8,7 @@ use lib.ListN.{length, getD, set}
 use lib.Seq.{getD-set-same, getD-set-other}
 use borrow.Author.Tests.{ne-eqb}
 use Rattle.base.proofs.Truth.{same}
-use Rattle.scope.specs.Map.{leastFree}
+use Rattle.scope.specs.Table.{leastFree}
 use Rattle.scope.proofs.PairLaws.{free-before}
 use Rattle.modes.specs.Asks.{AllMapped}
 

@@ -9,7 +9,7 @@ use lib.ListN.{length, getD}
 use lib.Seq.{getD-set-same}
 use borrow.Author.Tests.{eq-eqb, ne-eqb}
 use Rattle.base.specs.Choice.{pick}
-use Rattle.scope.specs.Table.{Table, modeOf, isolatedOf, recordOf, withMode, takeUser, putRecord}
+use Rattle.scope.specs.Table.{Table, modeOf, isolatedOf, recordOf, withMode, takeUser, dropGlobal}
 use Rattle.scope.specs.Notes.{deletes}
 use Rattle.scope.specs.Outcome.{stay, choose}
 use Rattle.scope.specs.Modes.{isUnused, deleteIfUnused, show, hide, change, setMode}
@@ -78,7 +78,7 @@ module _ (t : Table) (g : ℕ) (h : There t g) where
   unfolding deleteIfUnused choose
   delete-notes u = go (isUnused u g)
     where
-      go : (b : Bool) → length (choose {A = List ℕ} b (record { value = []; table = putRecord g (recordOf u g + 36) u; notes = deletes g ∷ [] }) (stay [] u) .notes) ≡ pick b 1 0
+      go : (b : Bool) → length (choose {A = List ℕ} b (record { value = []; table = dropGlobal g u; notes = deletes g ∷ [] }) (stay [] u) .notes) ≡ pick b 1 0
       go true = refl
       go false = refl
 

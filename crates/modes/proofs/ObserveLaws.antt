@@ -12,10 +12,10 @@ use lib.Seq.{sets}
 use Rattle.base.specs.Bounded.{count}
 use Rattle.base.proofs.SetsLaws.{sets-append}
 use Rattle.base.proofs.CountLaws.{count-none}
-use Rattle.scope.specs.Table.{Table, recordOf, giveUser}
+use Rattle.scope.specs.Table.{Table, recordOf, giveUser, leastFree}
 use Rattle.scope.specs.Sound.{Sound}
 use Rattle.scope.specs.Outcome.{Result, stay, choose, each}
-use Rattle.scope.specs.Map.{leastFree, nextUser}
+use Rattle.scope.specs.Map.{nextUser}
 use Rattle.scope.specs.Modes.{show, isHidden, observeOne, observe}
 use Rattle.scope.proofs.ResultLaws.{each-zero, each-value, each-notes, choose-then, choose-else}
 use Rattle.scope.proofs.ModeLaws.{hidden-of, next-user-below, observe-passed}

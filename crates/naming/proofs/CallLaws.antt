@@ -13,10 +13,10 @@ use Rattle.base.proofs.CountLaws.{count-most}
 use Rattle.scope.specs.declared.Counts.{Counts}
 use Rattle.scope.specs.declared.Global.{Global}
 use Rattle.scope.specs.declared.User.{User}
-use Rattle.scope.specs.Table.{Table, word}
+use Rattle.scope.specs.Table.{Table, word, leastFree, undeleted}
 use Rattle.scope.specs.Sound.{Sizes, soundb}
 use Rattle.scope.specs.Outcome.{giving, short}
-use Rattle.scope.specs.Map.{leastFree, mapUser, nextUser, newUser, undeleted, toMap, unsampled, mapRefusal, mapOf, newUserRefusal, newUserOf}
+use Rattle.scope.specs.Map.{mapUser, nextUser, newUser, toMap, unsampled, mapRefusal, mapOf, newUserRefusal, newUserOf}
 use Rattle.scope.specs.Contract.{Said, Does}
 use Rattle.scope.proofs.SoundLaws.{sound-of}
 use Rattle.scope.proofs.MapLaws.{map-user-count, mapped-global, next-user-to-map, next-user-within}

@@ -9,9 +9,9 @@ use Rattle.base.specs.Choice.{pick}
 use Rattle.base.specs.Bounded.{least}
 use Rattle.base.specs.Answer.{accepted, refused}
 use Rattle.scope.specs.declared.Counts.{Counts}
-use Rattle.scope.specs.Table.{Table, tableOf, word, modeOf, isDeleted}
+use Rattle.scope.specs.Table.{Table, tableOf, word, modeOf, isDeleted, undeleted}
 use Rattle.scope.specs.Sound.{soundb}
-use Rattle.scope.specs.Map.{mapUser, undeleted, toMap}
+use Rattle.scope.specs.Map.{mapUser, toMap}
 use Rattle.scope.specs.Contract.{Said}
 use Rattle.inner.specs.Leaves.{Leaves}
 use Rattle.naming.specs.declared.UserMapped.{UserMapped}

@@ -16,10 +16,10 @@ use Rattle.base.proofs.Truth.{split}
 use Rattle.base.proofs.MemberLaws.{any-none, any-intro, or-left, or-right, or-neither}
 use Rattle.scope.specs.declared.Counts.{Counts}
 use Rattle.scope.specs.Literals.{indexOf}
-use Rattle.scope.specs.Table.{Table, word}
+use Rattle.scope.specs.Table.{Table, word, undeleted}
 use Rattle.scope.specs.Sound.{Sizes, soundb}
 use Rattle.scope.specs.Outcome.{Outcome, short, unless}
-use Rattle.scope.specs.Map.{undeleted, unsampled}
+use Rattle.scope.specs.Map.{unsampled}
 use Rattle.scope.specs.Pose.{pose, wanted, usersToMap, poseRefusal, poseOf}
 use Rattle.scope.specs.Contract.{Said, Does}
 use Rattle.scope.proofs.SoundLaws.{sound-of}

@@ -25,12 +25,6 @@ use Rattle.posing.specs.Poses.{named, isLow, needsGrant, countNamed, Cov
 
 -- ---- the users named by a prefix
 
-pub any-on : (p : ℕ → Bool) (lits : List ℕ) (i : ℕ) (b : Bool) → i < length lits → b ≡ anyOf p (take i lits) → b || p (getD lits i 0) ≡ anyOf p (take (i + 1) lits)
-any-on p lits i b l e = ap (λ (x : Bool). x || p (getD lits i 0)) e ∙ sym (any-more p lits i 0 l)
-
-pub any-all : (p : ℕ → Bool) (lits : List ℕ) (i : ℕ) (b : Bool) → length lits ≤ i → b ≡ anyOf p (take i lits) → b ≡ anyOf p lits
-any-all p lits i b l e = e ∙ ap (anyOf p) (take-all i lits l)
-
 named-start : (lits : List ℕ) (v : ℕ) → named (take 0 lits) v ≡ false
 unfolding named
 named-start lits v = any-start (λ c. eqb (indexOf c) v) lits

@@ -9,10 +9,10 @@ use Rattle.base.specs.Bounded.{count, anyOf}
 use Rattle.base.specs.Answer.{accepted, refused}
 use Rattle.scope.specs.declared.Counts.{Counts}
 use Rattle.scope.specs.Literals.{indexOf}
-use Rattle.scope.specs.Table.{Table, word}
+use Rattle.scope.specs.Table.{Table, word, undeleted}
 use Rattle.scope.specs.Sound.{soundb}
 use Rattle.scope.specs.Outcome.{Result, _then_}
-use Rattle.scope.specs.Map.{mapUser, undeleted, toMap}
+use Rattle.scope.specs.Map.{mapUser, toMap}
 use Rattle.scope.specs.Grant.{grant}
 use Rattle.scope.specs.Pose.{pose, usersToMap}
 use Rattle.scope.specs.Contract.{Said}

@@ -6,8 +6,10 @@ use naming::map_user;
 use scope::Counts;
 use scope::Solver;
 use scope::User;
+use scope::larger;
 use table::FoundGlobal;
 use table::FoundSolver;
+use table::any_outside;
 use table::global_of;
 use table::is_sound;
 use table::solver_of;
@@ -15,7 +17,6 @@ use table::word_at;
 ghost use mathlib.Core.Path.{_≡_};
 ghost use mathlib.Core.Bool.{_&&_, not};
 ghost use Prim.Native.Nat.{_+_, _≤_, _<_, max};
-ghost use lib.Dec.{leb};
 ghost use lib.ListN.{length, getD};
 ghost use Rattle.base.specs.Choice.{pick};
 ghost use Rattle.base.specs.Bounded.{anyOf};
@@ -203,19 +204,6 @@ fn place_all(
     Posed { counts: cur, at }
 }
 
-// A literal's index is at or above the capacity.
-fn any_outside(capacity: u32, lits: &[u32]) -> bool
-    ensures { λ r. ⌜ r ≡ anyOf (λ c. leb capacity (indexOf c)) (old lits) ⌝ }
-{
-    let mut found = false;
-    let mut i = 0;
-    while i < lits.len() {
-        found = found | (capacity <= lits[i] / 2);
-        i += 1;
-    }
-    found
-}
-
 // Sampling is required, and a literal's user has a global that is not Sample.
 fn any_unsampled(gu: &[u32], records: &[u32], lits: &[u32], sampling: bool) -> bool
     requires { ⌜ Inside (now gu) (length (now records)) ⌝ }
@@ -245,12 +233,6 @@ fn needs_grant(gu: &[u32], sg: &[u32], user: User) -> bool
         return true;
     };
     false
-}
-
-fn larger(a: u32, b: u32) -> u32
-    ensures { λ r. ⌜ r ≡ max a b ⌝ }
-{
-    if a < b { b } else { a }
 }
 
 // One literal more; its user counts if it was not seen before.

@@ -21,7 +21,8 @@ unfolding isUnused takeSolver
 unused-without g s t = rw (cleared (t .solverFromGlobal) g)
 
 -- a choice of one note or none
-one-note : (b : Bool) (t u : Table) (n : Note) → length (choose {A = List ℕ} b (record { value = []; table = t; notes = n ∷ [] }) (stay [] u) .notes) ≡ pick b 1 0
+one-note : (b : Bool) (t u : Table) (n : Note) → length (choose {A = List ℕ} b (record { value = []; table = t; notes = n ∷ [] }) (stay [] u) .notes) ≡ pick b 1
+    0
 unfolding choose
 one-note true t u n = refl
 one-note false t u n = refl
@@ -29,7 +30,8 @@ one-note false t u n = refl
 pub removal-notes : (g s : ℕ) (t : Table) → length (removeHeld g s t .notes) ≡ removalNotes (getD (t .userFromGlobal) g 0) (recordOf t g)
 unfolding removeHeld deleteIfUnused removalNotes
 removal-notes g s t =
-    ap suc (one-note (isUnused (takeSolver g s t) g) _ _ (deletes g)) ∙ ap (λ (b : Bool). suc (pick b 1 0)) (unused-without g s t) ∙ go (eqb (getD (t .userFromGlobal) g 0) 0 && eqb (isolatedOf (recordOf t g)) 1)
+    ap suc (one-note (isUnused (takeSolver g s t) g) _ _ (deletes g)) ∙ ap (λ (b : Bool). suc (pick b 1 0)) (unused-without g s t)
+    ∙ go (eqb (getD (t .userFromGlobal) g 0) 0 && eqb (isolatedOf (recordOf t g)) 1)
   where
     go : (b : Bool) → suc (pick b 1 0) ≡ pick b 2 1
     go true = refl

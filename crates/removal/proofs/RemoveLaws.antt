@@ -28,13 +28,16 @@ use Rattle.removal.specs.Asks.{Holding}
 use Rattle.removal.specs.declared.Removed.the-variants.{Done, Refused}
 use Rattle.removal.specs.Answers.{removed}
 use Rattle.removal.proofs.CountingLaws.{removal-notes, removal-few}
-use Rattle.removal.proofs.RefusalLaws.{found-nothing, remove-is, remove-holding}
+use Rattle.scope.proofs.MarkLaws.{held-past}
+use Rattle.table.proofs.FoundLaws.{global-word}
+use Rattle.removal.proofs.RefusalLaws.{remove-is, remove-holding}
 
 -- S(g,-) alone
 abbrev taken : ℕ → ℕ → Table → Result (List ℕ)
 taken g s t = record { value = []; table = takeSolver g s t; notes = solver- g ∷ [] }
 
-module _ (t : Table) (g s : ℕ) (d : Counts) (sg gs : List ℕ) (e : (d ≡ t .counts) × ((sg ≡ set (t .solverFromGlobal) g 0) × (gs ≡ set (t .globalFromSolver) s 0))) where
+module _ (t : Table) (g s : ℕ) (d : Counts) (sg gs : List ℕ)
+    (e : (d ≡ t .counts) × ((sg ≡ set (t .solverFromGlobal) g 0) × (gs ≡ set (t .globalFromSolver) s 0))) where
   mid : Table
   mid = tableOf d (t .globalFromUser) (t .userFromGlobal) sg gs (t .assignment) (t .records)
 
@@ -86,19 +89,22 @@ pub removable : (t : Table) (s room n : ℕ) → n ≡ removeRefusal t s room �
 unfolding removeRefusal notHeld
 removable t s room n e z =
     let a = past (not (soundb t)) 1 _ (omega arith) (sym e ∙ z) in
-    let b = past (eqb (getD (t .globalFromSolver) s 0) 0) 8 _ (omega arith) (a .1) in
+    let b = held-past t s _ (a .1) in
     let k = past (ltb room (3 * length (remove s t .notes))) 2 0 (omega arith) (b .1) in
     record { sound = not-false (soundb t) (a .0); held = eqb-false _ _ (b .0); words = ltb-false _ _ (k .0) }
 
 module _ (t : Table) (s room : ℕ) (h : Removable t s room) where
   -- nothing found is no case of it
   pub never-nothing : Nothing ≡ foundGlobal (getD (t .globalFromSolver) s 0) → ⊥
-  never-nothing e = h .held (found-nothing _ e)
+  never-nothing e = h .held (global-word _ Nothing e)
 
   module _ (g : Global) (e : At g ≡ foundGlobal (getD (t .globalFromSolver) s 0)) where
     pub held-asks : Holding t (g .0) s × Room (removeHeld (g .0) s t) 0 room
-    held-asks =
-        (remove-holding t s g e (h .sound), subst (λ (x : Result (List ℕ)). Room x 0 room) (remove-is t s g e) (let w = h .words in record { words = omega arith }))
+    held-asks = (
+      remove-holding t s g e (h .sound),
+      subst (λ (x : Result (List ℕ)). Room x 0 room) (remove-is t s g e) (let w = h .words in
+          record { words = omega arith }),
+    )
 
     -- its notes are at most two
     pub held-fits : (next : ℕ) (left : Table) (words words2 : List ℕ) → Leaves (removeHeld (g .0) s t) 0 next left words words2 → next / 3 < 2 ^ 32
@@ -108,15 +114,19 @@ module _ (t : Table) (s room : ℕ) (h : Removable t s room) where
         let b = removal-few (getD (t .userFromGlobal) (g .0) 0) (recordOf t (g .0)) in
         omega arith
 
-    held-leaves : (next : ℕ) (left : Table) (words words2 : List ℕ) → Leaves (removeHeld (g .0) s t) 0 next left words words2 → Leaves (remove s t) 0 next left words words2
+    held-leaves : (next : ℕ) (left : Table) (words words2 : List ℕ) → Leaves (removeHeld (g .0) s t) 0 next left words words2
+        → Leaves (remove s t) 0 next left words words2
     held-leaves next left words words2 k = subst (λ (x : Result (List ℕ)). Leaves x 0 next left words words2) (sym (remove-is t s g e)) k
 
-    pub remove-does : (n next : ℕ) (d : Counts) (left : Table) (words words2 : List ℕ) → n ≡ removeRefusal t s room → n ≡ 0 → Leaves (removeHeld (g .0) s t) 0 next left words words2
+    pub remove-does : (n next : ℕ) (d : Counts) (left : Table) (words words2 : List ℕ) → n ≡ removeRefusal t s room → n ≡ 0
+        → Leaves (removeHeld (g .0) s t) 0 next left words words2
         → Does (removeOf t s room) (removed (Done d (next / 3)) d) left words words2
     unfolding removeOf
     remove-does n next d left words words2 p q k =
-        call-accepted (removeRefusal t s room) n t _ _ left words words2 p q (call-noted (λ us. []) [] (remove s t) next d left words words2 (held-leaves next left words words2 k) refl)
+        call-accepted (removeRefusal t s room) n t _ _ left words words2 p q
+        (call-noted (λ us. []) [] (remove s t) next d left words words2 (held-leaves next left words words2 k) refl)
 
-pub remove-refused : (t : Table) (s n : ℕ) (words : List ℕ) → n ≡ removeRefusal t s (length words) → (n ≡ 0 → ⊥) → Does (removeOf t s (length words)) (removed (Refused n) (t .counts)) t words words
+pub remove-refused : (t : Table) (s n : ℕ) (words : List ℕ) → n ≡ removeRefusal t s (length words) → (n ≡ 0 → ⊥)
+    → Does (removeOf t s (length words)) (removed (Refused n) (t .counts)) t words words
 unfolding removeOf
 remove-refused t s n words e z = call-refused (removeRefusal t s (length words)) n t _ words e z

@@ -48,7 +48,8 @@ pub record SameSizes (t left : Table) (words words2 : List ℕ) : Type 0 where
   pub notes : length words2 ≡ length words
 
 module _ (t : Table) (y : soundb t ≡ true) (s at : ℕ) (left : Table) (words words2 : List ℕ) (h : Leaves (each s sweepOne t) 0 at left words words2) where
-  pub sweep-asks : (room : ℕ) → s < t .counts .solver → Room (sweep t) 0 room → room ≡ length words → Sweepable left s × Room (sweepOne s left) at (length words2)
+  pub sweep-asks : (room : ℕ) → s < t .counts .solver → Room (sweep t) 0 room → room ≡ length words → Sweepable left s
+      × Room (sweepOne s left) at (length words2)
   unfolding sweep
   sweep-asks room l r e = (
     subst (λ (u : Table). Sweepable u s) (sym (h .table)) (holding-of (each s sweepOne t .table) (sweep-passed t (sound-of t y) s .sound) s),
@@ -60,8 +61,10 @@ module _ (t : Table) (y : soundb t ≡ true) (s at : ℕ) (left : Table) (words 
       let a = sweep-passed t (sound-of t y) s in
       let z = sound-of t y .sizes in
       let x = a .sound .sizes in
-      let c = ap (λ (d : Counts). d .capacity) (a .counts) in
-      let sizes : (length (each s sweepOne t .table .solverFromGlobal) ≡ length (t .solverFromGlobal)) × (length (each s sweepOne t .table .globalFromSolver) ≡ length (t .globalFromSolver)) × (length (each s sweepOne t .table .records) ≡ length (t .records)) = omega arith in
+      let c = a .marks .capacity in
+      let sizes : (length (each s sweepOne t .table .solverFromGlobal) ≡ length (t .solverFromGlobal))
+      × (length (each s sweepOne t .table .globalFromSolver) ≡ length (t .globalFromSolver))
+      × (length (each s sweepOne t .table .records) ≡ length (t .records)) = omega arith in
       record {
         solvers = ap (λ (u : Table). length (u .solverFromGlobal)) (h .table) ∙ sizes .0;
         holders = ap (λ (u : Table). length (u .globalFromSolver)) (h .table) ∙ sizes .1;
@@ -85,7 +88,8 @@ module _ (t : Table) (room : ℕ) where
     unfolding sweepRefusal
     sweep-0 l = rw (y, le-ltb room (3 * length (sweep t .notes)) (omega arith))
 
-pub sweep-refused : (t : Table) (n : ℕ) (words : List ℕ) → n ≡ sweepRefusal t (length words) → (n ≡ 0 → ⊥) → Does (sweepOf t (length words)) (removed (Refused n) (t .counts)) t words words
+pub sweep-refused : (t : Table) (n : ℕ) (words : List ℕ) → n ≡ sweepRefusal t (length words) → (n ≡ 0 → ⊥)
+    → Does (sweepOf t (length words)) (removed (Refused n) (t .counts)) t words words
 unfolding sweepOf
 sweep-refused t n words e z = call-refused (sweepRefusal t (length words)) n t _ words e z
 

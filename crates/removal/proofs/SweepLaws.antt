@@ -16,7 +16,7 @@ use Rattle.scope.specs.Remove.{removeHeld, learn, sweepHeld, sweepOne, sweep}
 use Rattle.scope.proofs.ResultLaws.{each-zero}
 use Rattle.scope.proofs.RemoveLaws.{Swept, sweep-passed, learn-same}
 use Rattle.deletion.proofs.LeavingLaws.{each-count}
-use Rattle.removal.specs.Counting.{learnt, isLoose, sweptNotes, notesAt}
+use Rattle.removal.specs.Counting.{learnt, isLoose, sweptNotes, notesAt, notesBy, Counted}
 use Rattle.removal.proofs.CountingLaws.{removal-notes, removal-few}
 use Rattle.removal.proofs.HeldLaws.{holding-of}
 
@@ -35,7 +35,8 @@ choose-notes true x t = refl
 choose-notes false x t = refl
 
 -- of a held index
-swept-notes : (g s : ℕ) (t : Table) → g < length (t .records) → length (sweepHeld g s (learn g s t) .notes) ≡ sweptNotes (getD (t .userFromGlobal) g 0) (recordOf t g) (getD (t .assignment) s 0)
+swept-notes : (g s : ℕ) (t : Table) → g < length (t .records)
+    → length (sweepHeld g s (learn g s t) .notes) ≡ sweptNotes (getD (t .userFromGlobal) g 0) (recordOf t g) (getD (t .assignment) s 0)
 unfolding sweepHeld sweptNotes
 swept-notes g s t l =
     let e = record-learnt g s t l in
@@ -46,21 +47,23 @@ swept-notes g s t l =
 
 -- of an index whose global, if it is held, has a record
 one-notes : (s : ℕ) (t : Table) → ((g : ℕ) → getD (t .globalFromSolver) s 0 ≡ g + 1 → g < length (t .records)) → length (sweepOne s t .notes) ≡ notesAt t s
-unfolding sweepOne notesAt word
+unfolding sweepOne notesBy word
 one-notes s t h = go (getD (t .globalFromSolver) s 0) refl
   where
     go : (w : ℕ) → getD (t .globalFromSolver) s 0 ≡ w
-        → length (word (stay [] t) (λ g. sweepHeld g s (learn g s t)) w .notes) ≡ word 0 (λ g. sweptNotes (getD (t .userFromGlobal) g 0) (recordOf t g) (getD (t .assignment) s 0)) w
+        → length (word (stay [] t) (λ g. sweepHeld g s (learn g s t)) w .notes) ≡ word 0
+        (λ g. sweptNotes (getD (t .userFromGlobal) g 0) (recordOf t g) (getD (t .assignment) s 0)) w
     go zero e = refl
     go (suc g) e = swept-notes g s t (h g (e ∙ sym (add-one g)))
 
 -- an index that is not swept yet
 notes-ahead : (t : Table) (n : ℕ) (left : Table) → Swept t n left → notesAt left n ≡ notesAt t n
-unfolding notesAt word
+unfolding notesBy word
 notes-ahead t n left a = rw (a .holders n (omega arith), a .userFromGlobal, a .assignment) (go (getD (t .globalFromSolver) n 0) refl)
   where
     go : (w : ℕ) → getD (t .globalFromSolver) n 0 ≡ w
-        → word 0 (λ g. sweptNotes (getD (t .userFromGlobal) g 0) (recordOf left g) (getD (t .assignment) n 0)) w ≡ word 0 (λ g. sweptNotes (getD (t .userFromGlobal) g 0) (recordOf t g) (getD (t .assignment) n 0)) w
+        → word 0 (λ g. sweptNotes (getD (t .userFromGlobal) g 0) (recordOf left g) (getD (t .assignment) n 0)) w ≡ word 0
+        (λ g. sweptNotes (getD (t .userFromGlobal) g 0) (recordOf t g) (getD (t .assignment) n 0)) w
     go zero e = refl
     go (suc g) e = ap (λ (r : ℕ). sweptNotes (getD (t .userFromGlobal) g 0) r (getD (t .assignment) n 0)) (a .records n g (omega arith) (e ∙ sym (add-one g)))
 
@@ -76,29 +79,40 @@ count-more t h s n k p q =
 pub count-none : (t : Table) → 0 ≡ length (each 0 sweepOne t .notes)
 count-none t = ap (λ (x : Result (List ℕ)). length (x .notes)) (sym (each-zero sweepOne t))
 
+pub counted-none : (ug gs assignment records : List ℕ) → Counted ug gs assignment records 0 0
+counted-none ug gs assignment records t h e = count-none t
+
+pub counted-more : (ug gs assignment records : List ℕ) (s n k : ℕ) → Counted ug gs assignment records s n → k ≡ notesBy ug gs assignment records s
+    → Counted ug gs assignment records (s + 1) (n + k)
+counted-more ug gs assignment records s n k p q t h e = count-more t h s n k (p t h e) (rw (e .0, e .1, e .2, e .3) q)
+
+pub counted-end : (ug gs assignment records : List ℕ) (s mark n : ℕ) → s ≡ mark → Counted ug gs assignment records s n → Counted ug gs assignment records mark n
+counted-end ug gs assignment records s mark n e p t h q = p t h q ∙ ap (λ (i : ℕ). length (each i sweepOne t .notes)) e
+
 pub count-end : (t : Table) (s n : ℕ) → s ≡ t .counts .solver → n ≡ length (each s sweepOne t .notes) → n ≡ length (sweep t .notes)
 unfolding sweep
 count-end t s n e p = p ∙ ap (λ (i : ℕ). length (each i sweepOne t .notes)) e
 
 -- an index makes two notes at most
-pub notes-few : (t : Table) (s : ℕ) → notesAt t s ≤ 2
-unfolding notesAt sweptNotes word
-notes-few t s = go (getD (t .globalFromSolver) s 0)
+pub notes-few : (ug gs assignment records : List ℕ) (s : ℕ) → notesBy ug gs assignment records s ≤ 2
+unfolding notesBy sweptNotes word
+notes-few ug gs assignment records s = go (getD gs s 0)
   where
     few : (b : Bool) (n : ℕ) → n ≤ 2 → pick b n 0 ≤ 2
     few true n l = l
     few false n l = omega arith
 
-    go : (w : ℕ) → word 0 (λ g. sweptNotes (getD (t .userFromGlobal) g 0) (recordOf t g) (getD (t .assignment) s 0)) w ≤ 2
+    go : (w : ℕ) → word 0 (λ g. sweptNotes (getD ug g 0) (getD records g 47) (getD assignment s 0)) w ≤ 2
     go zero = omega arith
-    go (suc g) = few (isLoose (learnt (recordOf t g) (getD (t .assignment) s 0))) _ (removal-few (getD (t .userFromGlobal) g 0) _)
+    go (suc g) = few (isLoose (learnt (getD records g 47) (getD assignment s 0))) _ (removal-few (getD ug g 0) _)
 
 -- so that their number fits
-pub count-small : (t : Table) (s n k : ℕ) → n ≤ 2 * s → k ≡ notesAt t s → n + k ≤ 2 * (s + 1)
-count-small t s n k l e = let w = notes-few t s in omega arith
+pub count-small : (ug gs assignment records : List ℕ) (s n k : ℕ) → n ≤ 2 * s → k ≡ notesBy ug gs assignment records s → n + k ≤ 2 * (s + 1)
+count-small ug gs assignment records s n k l e = let w = notes-few ug gs assignment records s in omega arith
 
-pub count-fits : (t : Table) → Sound t → (s n k : ℕ) → s < t .counts .solver → n ≤ 2 * s → k ≡ notesAt t s → n + k < 2 ^ 32
-count-fits t h s n k l m e = let w = count-small t s n k m e in let z = h .sizes in omega arith
+pub count-fits : (ug gs assignment records : List ℕ) (mark s n k : ℕ) → s < mark → mark ≤ 4096 → n ≤ 2 * s → k ≡ notesBy ug gs assignment records s
+    → n + k < 2 ^ 32
+count-fits ug gs assignment records mark s n k l z m e = let w = count-small ug gs assignment records s n k m e in omega arith
 
 -- a sweep makes two notes at most of each index
 turns-few : (t : Table) → Sound t → (s : ℕ) → length (each s sweepOne t .notes) ≤ 2 * s
@@ -106,7 +120,7 @@ turns-few t h zero = let e = count-none t in omega arith
 turns-few t h (suc s) =
     let x = turns-few t h s in
     let y = count-more t h s _ _ refl refl in
-    let w = notes-few t s in
+    let w = notes-few (t .userFromGlobal) (t .globalFromSolver) (t .assignment) (t .records) s in
     rw (← add-one s) (omega arith)
 
 pub sweep-few : (t : Table) → Sound t → length (sweep t .notes) ≤ 2 * (t .counts .solver)

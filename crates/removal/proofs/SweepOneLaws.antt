@@ -5,21 +5,22 @@ use mathlib.Core.Bool.{true, false}
 use mathlib.Core.List.{List, []}
 use native.Mathlib.Numerals.{add-one}
 use native.Mathlib.Omega.{arith}
-use lib.ListN.{getD, set, length-set}
+use lib.ListN.{length, getD, set, length-set}
 use lib.Seq.{set-getD, getD-set-same}
 use Rattle.scope.specs.declared.Global.{Global}
 use Rattle.scope.specs.Table.{Table, tableOf, word, recordOf, withUnit, putRecord}
 use Rattle.scope.specs.Outcome.{Result, stay}
 use Rattle.scope.specs.Remove.{removeHeld, learn, sweepHeld, sweepOne}
 use Rattle.scope.proofs.ResultLaws.{choose-then, choose-else}
+use Rattle.base.proofs.MemberLaws.{getD-default}
 use Rattle.table.specs.Found.{foundGlobal}
+use Rattle.table.proofs.FoundLaws.{global-word}
 use Rattle.table.specs.declared.FoundGlobal.the-variants.{At, Nothing}
 use Rattle.deletion.specs.Leaving.{Leaves, Room}
 use Rattle.deletion.proofs.LeavingLaws.{leaves-stay}
 use Rattle.deletion.proofs.DeletionLaws.{record-read}
-use Rattle.removal.specs.Counting.{removalNotes, learnt, isLoose, sweptNotes, notesAt}
-use Rattle.removal.specs.Asks.{Holding}
-use Rattle.removal.proofs.RefusalLaws.{found-at, found-nothing}
+use Rattle.removal.specs.Counting.{removalNotes, learnt, isLoose, sweptNotes, notesBy}
+use Rattle.removal.specs.Asks.{Holding, Readable}
 
 -- ---- a record
 
@@ -38,38 +39,45 @@ learnt-small w zero l k = l
 learnt-small w (suc v) l k = omega arith
 
 -- the global of a held index, as the code reads it
+pub readable : (t : Table) (g s : ℕ) → Holding t g s → Readable (t .userFromGlobal) (t .assignment) (t .records) g s
+readable t g s h =
+    let e = record-read t g (h .live .words) in
+    let l = h .live .undeleted in
+    record { user = h .live .user; words = h .live .words; undeleted = omega arith; value = h .value; small = h .small }
+
 pub learn-asks : (t : Table) (g s : ℕ) → Holding t g s → (getD (t .records) g 0 < 36) × (getD (t .assignment) s 0 ≤ 2)
-learn-asks t g s h = let e = record-read t g (h .live .words) in let l = h .live .undeleted in let v = h .small in omega arith
+learn-asks t g s h = let r = readable t g s h in (r .undeleted, r .small)
+
+held : (gs : List ℕ) (s : ℕ) (g : Global) → At g ≡ foundGlobal (getD gs s 0) → getD gs s 0 ≡ suc (g .0)
+held gs s g e = global-word _ (At g) e ∙ add-one (g .0)
+
+learnt-is : (assignment records : List ℕ) (g s w : ℕ) → g < length records → w ≡ learnt (getD records g 0) (getD assignment s 0)
+    → learnt (getD records g 47) (getD assignment s 0) ≡ w
+learnt-is assignment records g s w l p = ap (λ (r : ℕ). learnt r (getD assignment s 0)) (sym (getD-default records g 0 47 l)) ∙ sym p
 
 -- ---- notes
 
-module _ (t : Table) (s : ℕ) where
-  pub notes-none : Nothing ≡ foundGlobal (getD (t .globalFromSolver) s 0) → 0 ≡ notesAt t s
-  unfolding notesAt word
-  notes-none e = rw (found-nothing (getD (t .globalFromSolver) s 0) e)
+module _ (ug gs assignment records : List ℕ) (s : ℕ) where
+  pub notes-none : Nothing ≡ foundGlobal (getD gs s 0) → 0 ≡ notesBy ug gs assignment records s
+  unfolding notesBy word
+  notes-none e = rw (global-word (getD gs s 0) Nothing e)
 
-  module _ (g : Global) (e : At g ≡ foundGlobal (getD (t .globalFromSolver) s 0)) where
-    held : getD (t .globalFromSolver) s 0 ≡ suc (g .0)
-    held = found-at _ g e ∙ add-one (g .0)
+  module _ (g : Global) (e : At g ≡ foundGlobal (getD gs s 0)) (h : Readable ug assignment records (g .0) s)
+      (w : ℕ) (p : w ≡ learnt (getD records (g .0) 0) (getD assignment s 0)) where
+    pub notes-kept : isLoose w ≡ false → 0 ≡ notesBy ug gs assignment records s
+    unfolding notesBy sweptNotes word
+    notes-kept b = rw (held gs s g e, learnt-is assignment records (g .0) s w (h .words) p, b)
 
-    module _ (h : Holding t (g .0) s) (w : ℕ) (p : w ≡ learnt (getD (t .records) (g .0) 0) (getD (t .assignment) s 0)) where
-      learnt-is : learnt (recordOf t (g .0)) (getD (t .assignment) s 0) ≡ w
-      learnt-is = ap (λ (r : ℕ). learnt r (getD (t .assignment) s 0)) (sym (record-read t (g .0) (h .live .words))) ∙ sym p
-
-      pub notes-kept : isLoose w ≡ false → 0 ≡ notesAt t s
-      unfolding notesAt sweptNotes word
-      notes-kept b = rw (held, learnt-is, b)
-
-      pub notes-removed : isLoose w ≡ true → (n : ℕ) → n ≡ removalNotes (getD (t .userFromGlobal) (g .0) 0) w → n ≡ notesAt t s
-      unfolding notesAt sweptNotes word
-      notes-removed b n q = rw (held, learnt-is, b) q
+    pub notes-removed : isLoose w ≡ true → (n : ℕ) → n ≡ removalNotes (getD ug (g .0) 0) w → n ≡ notesBy ug gs assignment records s
+    unfolding notesBy sweptNotes word
+    notes-removed b n q = rw (held gs s g e, learnt-is assignment records (g .0) s w (h .words) p, b) q
 
 -- ---- the sweep
 
 module _ (t : Table) (s at : ℕ) where
   pub one-none : (words : List ℕ) → Nothing ≡ foundGlobal (getD (t .globalFromSolver) s 0) → Leaves (sweepOne s t) at at t words words
   unfolding sweepOne word
-  one-none words e = rw (found-nothing (getD (t .globalFromSolver) s 0) e) (leaves-stay t at words)
+  one-none words e = rw (global-word (getD (t .globalFromSolver) s 0) Nothing e) (leaves-stay t at words)
 
   module _ (g : Global) (e : At g ≡ foundGlobal (getD (t .globalFromSolver) s 0)) (h : Holding t (g .0) s)
       (w : ℕ) (p : w ≡ learnt (getD (t .records) (g .0) 0) (getD (t .assignment) s 0)) where
@@ -79,13 +87,15 @@ module _ (t : Table) (s at : ℕ) where
     -- a value that is none leaves the record
     mid-is : mid ≡ learn (g .0) s t
     unfolding mid learn learnt word putRecord
-    mid-is = ap at-record (sym (learnt-is t s g e h w p)) ∙ go (getD (t .assignment) s 0)
+    mid-is = ap at-record (sym (learnt-is (t .assignment) (t .records) (g .0) s w (h .live .words) p)) ∙ go (getD (t .assignment) s 0)
       where
         at-record : ℕ → Table
-        at-record r = tableOf (t .counts) (t .globalFromUser) (t .userFromGlobal) (t .solverFromGlobal) (t .globalFromSolver) (t .assignment) (set (t .records) (g .0) r)
+        at-record r = tableOf (t .counts) (t .globalFromUser) (t .userFromGlobal) (t .solverFromGlobal) (t .globalFromSolver) (t .assignment)
+            (set (t .records) (g .0) r)
 
         go : (v : ℕ) → at-record (learnt (recordOf t (g .0)) v) ≡ word t (λ i. putRecord (g .0) (withUnit (recordOf t (g .0)) v) t) v
-        go zero = ap (λ (l : List ℕ). tableOf (t .counts) (t .globalFromUser) (t .userFromGlobal) (t .solverFromGlobal) (t .globalFromSolver) (t .assignment) l) (set-getD (t .records) (g .0) 47)
+        go zero = ap (λ (l : List ℕ). tableOf (t .counts) (t .globalFromUser) (t .userFromGlobal) (t .solverFromGlobal) (t .globalFromSolver) (t .assignment) l)
+            (set-getD (t .records) (g .0) 47)
         go (suc v) = refl
 
     mid-record : recordOf mid (g .0) ≡ w
@@ -95,7 +105,7 @@ module _ (t : Table) (s at : ℕ) where
     -- the sweep of the index is that of its global, on the table that has learnt the value
     one-is : sweepOne s t ≡ sweepHeld (g .0) s mid
     unfolding sweepOne word
-    one-is = ap (λ (k : ℕ). word (stay [] t) (λ i. sweepHeld i s (learn i s t)) k) (held t s g e) ∙ ap (sweepHeld (g .0) s) (sym mid-is)
+    one-is = ap (λ (k : ℕ). word (stay [] t) (λ i. sweepHeld i s (learn i s t)) k) (held (t .globalFromSolver) s g e) ∙ ap (sweepHeld (g .0) s) (sym mid-is)
 
     stay-is : isLoose w ≡ false → sweepOne s t ≡ stay [] mid
     unfolding sweepHeld
@@ -106,19 +116,23 @@ module _ (t : Table) (s at : ℕ) where
     remove-is b = one-is ∙ choose-then (isLoose (recordOf mid (g .0))) _ _ (ap isLoose mid-record ∙ b)
 
     pub one-kept : (words : List ℕ) → isLoose w ≡ false
-        → Leaves (sweepOne s t) at at (tableOf (t .counts) (t .globalFromUser) (t .userFromGlobal) (t .solverFromGlobal) (t .globalFromSolver) (t .assignment) (set (t .records) (g .0) w)) words words
+        → Leaves (sweepOne s t) at at (tableOf (t .counts) (t .globalFromUser) (t .userFromGlobal) (t .solverFromGlobal) (t .globalFromSolver) (t .assignment)
+        (set (t .records) (g .0) w)) words words
     unfolding mid
     one-kept words b = subst (λ (x : Result (List ℕ)). Leaves x at at mid words words) (sym (stay-is b)) (leaves-stay mid at words)
 
     pub one-removed : (next : ℕ) (left : Table) (words words2 : List ℕ) → isLoose w ≡ true
-        → Leaves (removeHeld (g .0) s (tableOf (t .counts) (t .globalFromUser) (t .userFromGlobal) (t .solverFromGlobal) (t .globalFromSolver) (t .assignment) (set (t .records) (g .0) w))) at next left words words2
+        → Leaves (removeHeld (g .0) s (tableOf (t .counts) (t .globalFromUser) (t .userFromGlobal) (t .solverFromGlobal) (t .globalFromSolver) (t .assignment)
+        (set (t .records) (g .0) w))) at next left words words2
         → Leaves (sweepOne s t) at next left words words2
     unfolding mid
     one-removed next left words words2 b k = subst (λ (x : Result (List ℕ)). Leaves x at next left words words2) (sym (remove-is b)) k
 
     pub one-asks : (room : ℕ) → Room (sweepOne s t) at room → isLoose w ≡ true
-        → Holding (tableOf (t .counts) (t .globalFromUser) (t .userFromGlobal) (t .solverFromGlobal) (t .globalFromSolver) (t .assignment) (set (t .records) (g .0) w)) (g .0) s
-        × Room (removeHeld (g .0) s (tableOf (t .counts) (t .globalFromUser) (t .userFromGlobal) (t .solverFromGlobal) (t .globalFromSolver) (t .assignment) (set (t .records) (g .0) w))) at room
+        → Holding (tableOf (t .counts) (t .globalFromUser) (t .userFromGlobal) (t .solverFromGlobal) (t .globalFromSolver) (t .assignment)
+        (set (t .records) (g .0) w)) (g .0) s
+        × Room (removeHeld (g .0) s (tableOf (t .counts) (t .globalFromUser) (t .userFromGlobal) (t .solverFromGlobal) (t .globalFromSolver) (t .assignment)
+        (set (t .records) (g .0) w))) at room
     unfolding mid
     one-asks room r b = (holding, subst (λ (x : Result (List ℕ)). Room x at room) (remove-is b) r)
       where
@@ -126,7 +140,7 @@ module _ (t : Table) (s at : ℕ) where
         small =
             let l = h .live .undeleted in
             let k = learnt-small (recordOf t (g .0)) (getD (t .assignment) s 0) l (h .small) in
-            let q = learnt-is t s g e h w p in
+            let q = learnt-is (t .assignment) (t .records) (g .0) s w (h .live .words) p in
             omega arith
 
         holding : Holding mid (g .0) s

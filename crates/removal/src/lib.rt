@@ -6,21 +6,22 @@ use scope::Global;
 use scope::Note;
 use scope::Solver;
 use table::FoundGlobal;
+use table::held_refusal;
 use table::holder;
 use table::is_sound;
 use table::put_note;
 ghost use mathlib.Core.Path.{_≡_};
 ghost use mathlib.Core.Bool.{true};
-ghost use Prim.Native.Nat.{_+_, _*_, _≤_, _<_};
-ghost use lib.ListN.{length};
+ghost use Prim.Native.Nat.{ℕ, _+_, _*_, _≤_, _<_};
+ghost use lib.ListN.{length, getD};
 ghost use Rattle.base.specs.Lent.{old, new};
 ghost use Rattle.scope.specs.Contract.{given, before, after, lent, Meets};
 ghost use Rattle.scope.specs.Sound.{soundb};
 ghost use Rattle.scope.specs.Outcome.{each};
 ghost use Rattle.scope.specs.Remove.{removeHeld, removeRefusal, removeOf, sweepOne, sweep, sweepRefusal, sweepOf};
 ghost use Rattle.deletion.specs.Leaving.{Leaves, Room};
-ghost use Rattle.removal.specs.Counting.{removalNotes, learnt, isLoose, notesAt};
-ghost use Rattle.removal.specs.Asks.{Holding, Sweepable};
+ghost use Rattle.removal.specs.Counting.{removalNotes, learnt, isLoose, notesBy, Counted};
+ghost use Rattle.removal.specs.Asks.{Holding, Readable, Sweepable};
 ghost use Rattle.removal.specs.Answers.{removed};
 
 // The counts after, and how many notes were made; or the number of the refusal.
@@ -92,7 +93,7 @@ fn remove_refusal(
         return 1;
     }
     let FoundGlobal::At(global) = holder(gs, solver) else {
-        return 8;
+        return held_refusal(c, gs, solver);
     };
     let g = global.0 as usize;
     let n = removal_notes(ug[g], records[g]) as usize;
@@ -123,7 +124,7 @@ pub fn remove_solver_var(
         return Removed::Refused(n);
     }
     let FoundGlobal::At(global) = holder(gs, solver) else {
-        return Removed::Refused(8);
+        return Removed::Refused(held_refusal(c, gs, solver));
     };
     let p = remove_held(
         c,
@@ -162,18 +163,9 @@ fn is_loose(w: u32) -> bool
 }
 
 // How many notes the sweep of a solver index makes.
-fn notes_at(
-    c: Counts,
-    gu: &[u32],
-    ug: &[u32],
-    sg: &[u32],
-    gs: &[u32],
-    assignment: &[u32],
-    records: &[u32],
-    solver: Solver,
-) -> u32
-    requires { ⌜ Sweepable (given c gu ug sg gs assignment records) (solver .0) ⌝ }
-    ensures { λ r. ⌜ r ≡ notesAt (before c gu ug sg gs assignment records) (solver .0) ⌝ }
+fn notes_at(ug: &[u32], gs: &[u32], assignment: &[u32], records: &[u32], solver: Solver) -> u32
+    requires { ⌜ ((g : ℕ) → getD (now gs) (solver .0) 0 ≡ g + 1 → Readable (now ug) (now assignment) (now records) g (solver .0)) ⌝ }
+    ensures { λ r. ⌜ r ≡ notesBy (old ug) (old gs) (old assignment) (old records) (solver .0) ⌝ }
 {
     let FoundGlobal::At(global) = holder(gs, solver) else {
         return 0;
@@ -186,24 +178,16 @@ fn notes_at(
     removal_notes(ug[g], w)
 }
 
-// How many notes a sweep makes. Nothing is written.
-fn count_notes(
-    c: Counts,
-    gu: &[u32],
-    ug: &[u32],
-    sg: &[u32],
-    gs: &[u32],
-    assignment: &[u32],
-    records: &[u32],
-) -> u32
-    requires { ⌜ soundb (given c gu ug sg gs assignment records) ≡ true ⌝ }
-    ensures { λ r. ⌜ r ≡ length (sweep (before c gu ug sg gs assignment records) .notes) ⌝ }
+// How many notes a sweep makes of the solver indices below the mark. Nothing is written.
+fn count_notes(mark: u32, ug: &[u32], gs: &[u32], assignment: &[u32], records: &[u32]) -> u32
+    requires { ⌜ mark ≤ 4096 ⌝ }
+    requires { ⌜ ((g s : ℕ) → getD (now gs) s 0 ≡ g + 1 → Readable (now ug) (now assignment) (now records) g s) ⌝ }
+    ensures { λ r. ⌜ Counted (old ug) (old gs) (old assignment) (old records) mark r ⌝ }
 {
-    let last = c.solver;
     let mut n: u32 = 0;
     let mut s: u32 = 0;
-    while s < last {
-        n += notes_at(c, gu, ug, sg, gs, assignment, records, Solver(s));
+    while s < mark {
+        n += notes_at(ug, gs, assignment, records, Solver(s));
         s += 1;
     }
     n
@@ -224,7 +208,7 @@ fn sweep_refusal(
     if !is_sound(c, gu, ug, sg, gs, assignment, records) {
         return 1;
     }
-    let n = count_notes(c, gu, ug, sg, gs, assignment, records) as usize;
+    let n = count_notes(c.solver, ug, gs, assignment, records) as usize;
     if room < 3 * n {
         return 2;
     }

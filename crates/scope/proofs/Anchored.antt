@@ -1,130 +1,258 @@
 -- The anchors hold: what the definitions give is what document 01 says, row by row, by computation.
 use mathlib.Core.Path.{refl}
 use Rattle.base.specs.Bounded.{allBelow, least, count, anyOf, keepOf}
-use Rattle.scope.specs.Table.{word, isShown, giveUser, takeUser, giveSolver, takeSolver, putRecord, putValue}
+use Rattle.scope.specs.Table.{word, isShown, giveUser, takeUser, giveSolver, takeSolver, putRecord, putValue, dropGlobal, leastFree, undeleted}
+use Rattle.scope.specs.Table.{nextSolver}
 use Rattle.scope.specs.Sound.{soundb, sizesb, marksb, atMostb, tailb, backb, namedb, deletedb, tailsb, pairsb}
 use Rattle.scope.specs.Notes.{notesWords, heldBy}
 use Rattle.scope.specs.Outcome.{choose, each, unless}
 use Rattle.scope.specs.Open.{emptyTable, openOf}
-use Rattle.scope.specs.Lookup.{found, lookupOf, globalFromUserOf, userFromGlobalOf, solverFromGlobalOf, globalFromSolverOf, recordWordOf, assignmentWordOf}
-use Rattle.scope.specs.Map.{leastFree, globalFor, mapOne, fillGap, mapUser, nextUser, newUser, undeleted, toMap, unsampled, mapRefusal, mapOf, newUserRefusal, newUserOf}
-use Rattle.scope.specs.Grant.{nextSolver, grantOne, grant, grantRefusal, grantOf}
+use Rattle.scope.specs.Lookup.{found, lookupOf, globalFromUserOf, userFromGlobalOf, solverFromGlobalOf, globalFromSolverOf, recordWordOf}
+use Rattle.scope.specs.Lookup.{assignmentWordOf}
+use Rattle.scope.specs.Map.{globalFor, mapOne, fillGap, mapUser, nextUser, newUser, toMap, unsampled, mapRefusal, mapOf, newUserRefusal, newUserOf}
+use Rattle.scope.specs.Grant.{grantOne, grant, grantRefusal, grantOf}
 use Rattle.scope.specs.Pose.{poseOne, pose, wanted, usersToMap, poseRefusal, poseOf}
-use Rattle.scope.specs.Modes.{isUnused, deleteIfUnused, show, hide, change, setMode, setModeRefusal, setModeOf, isHidden, observeOne, observe, observeRefusal, observeOf}
-use Rattle.scope.specs.Marks.{notHeld, mark, markRefusal, markOf, assignRefusal, assignOf}
+use Rattle.scope.specs.Modes.{isUnused, deleteIfUnused, show, hide, change, setMode, setModeRefusal, setModeOf, isHidden, observeOne, observe}
+use Rattle.scope.specs.Modes.{observeRefusal, observeOf}
+use Rattle.scope.specs.Marks.{notHeld, unheld, heldElse, litsHeldElse, mark, markRefusal, markOf, assignRefusal, assignOf}
 use Rattle.scope.specs.Remove.{removeHeld, remove, removeRefusal, removeOf, learn, sweepHeld, sweepOne, sweep, sweepRefusal, sweepOf}
 use Rattle.drat.specs.Numeral.{spell, further, bytesOf}
 use Rattle.drat.specs.Grammar.{number, numbers, encodeStep, encode}
-use Rattle.scope.specs.Write.{renameLits, unmatched, outside, unheld, stepRefusal, renameRefusal, renameOf, stepBytes, writeRefusal, writeOf}
+use Rattle.scope.specs.Write.{renameLits, unmatched, outside, stepRefusal, renameRefusal, renameOf, stepBytes, writeRefusal, writeOf}
 use Rattle.scope.specs.Simplify.{unfalse, simplified, simplifyBytes, simplifyRefusal, simplifyOf}
 use Rattle.scope.specs.Models.{globalValue, rowOf, globalModel, userLiteral, userModel, modelRefusal, modelOf}
-use Rattle.scope.specs.Anchors.{Agree}
+use Rattle.scope.specs.Anchors.{AnchorsAgree}
 use Rattle.scope.specs.AnchorsWords.{literals, recordParts, everyPart, noteRows, heldRows}
 use Rattle.scope.specs.AnchorsSound.{sounds}
 use Rattle.scope.specs.AnchorsNames.{opens, lookups, mapAnswers, maps, newUsers, grants, poses}
 use Rattle.scope.specs.AnchorsModes.{setModes, observes, removes, sweeps, models}
-use Rattle.scope.specs.AnchorsMarks.{marks, assigns}
+use Rattle.scope.specs.AnchorsMarks.{markRows, assigns}
 use Rattle.scope.specs.AnchorsSteps.{simplifies, kinds, causes, renames, written}
 
-literals-hold : Agree literals
-unfolding allBelow least count anyOf keepOf word isShown giveUser takeUser giveSolver takeSolver putRecord putValue soundb sizesb marksb atMostb tailb backb namedb deletedb tailsb pairsb notesWords heldBy choose each unless
-literals-hold = (refl, (refl, (refl, (refl, (refl, (refl, (refl, (refl, tt))))))))
+infixr 20 _and_
+_and_ : {A B : Type 0} → A → B → A × B
+x and y = (x, y)
 
-recordParts-hold : Agree recordParts
-unfolding allBelow least count anyOf keepOf word isShown giveUser takeUser giveSolver takeSolver putRecord putValue soundb sizesb marksb atMostb tailb backb namedb deletedb tailsb pairsb notesWords heldBy choose each unless isUnused deleteIfUnused show hide change setMode setModeRefusal setModeOf isHidden observeOne observe observeRefusal observeOf
-recordParts-hold = (refl, (refl, (refl, (refl, (refl, (refl, (refl, (refl, (refl, (refl, (refl, (refl, (refl, (refl, (refl, (refl, (refl, (refl, (refl, (refl, (refl, (refl, (refl, (refl, (refl, (refl, (refl, tt)))))))))))))))))))))))))))
+literals-hold : AnchorsAgree literals
+unfolding allBelow least count anyOf keepOf word isShown giveUser takeUser giveSolver takeSolver putRecord putValue dropGlobal soundb sizesb marksb
+    atMostb tailb backb namedb deletedb tailsb pairsb notesWords heldBy choose each unless
+literals-hold =
+    refl and refl and refl and refl and refl and refl and refl and refl and tt
 
-everyPart-hold : Agree everyPart
-unfolding allBelow least count anyOf keepOf word isShown giveUser takeUser giveSolver takeSolver putRecord putValue soundb sizesb marksb atMostb tailb backb namedb deletedb tailsb pairsb notesWords heldBy choose each unless isUnused deleteIfUnused show hide change setMode setModeRefusal setModeOf isHidden observeOne observe observeRefusal observeOf
-everyPart-hold = (refl, (refl, (refl, (refl, (refl, (refl, (refl, (refl, (refl, (refl, (refl, (refl, (refl, (refl, (refl, tt)))))))))))))))
+recordParts-hold : AnchorsAgree recordParts
+unfolding allBelow least count anyOf keepOf word isShown giveUser takeUser giveSolver takeSolver putRecord putValue dropGlobal soundb sizesb marksb
+    atMostb tailb backb namedb deletedb tailsb pairsb notesWords heldBy choose each unless isUnused deleteIfUnused show hide change setMode
+    setModeRefusal setModeOf isHidden observeOne observe observeRefusal observeOf
+recordParts-hold =
+    refl and refl and refl and refl and refl and refl and refl and refl and refl and refl and refl and refl and refl and refl and refl and refl and
+    refl and refl and refl and refl and refl and refl and refl and refl and refl and refl and refl and tt
 
-noteRows-hold : Agree noteRows
-unfolding allBelow least count anyOf keepOf word isShown giveUser takeUser giveSolver takeSolver putRecord putValue soundb sizesb marksb atMostb tailb backb namedb deletedb tailsb pairsb notesWords heldBy choose each unless
-noteRows-hold = (refl, (refl, (refl, (refl, (refl, (refl, (refl, (refl, (refl, tt)))))))))
+everyPart-hold : AnchorsAgree everyPart
+unfolding allBelow least count anyOf keepOf word isShown giveUser takeUser giveSolver takeSolver putRecord putValue dropGlobal soundb sizesb marksb
+    atMostb tailb backb namedb deletedb tailsb pairsb notesWords heldBy choose each unless isUnused deleteIfUnused show hide change setMode
+    setModeRefusal setModeOf isHidden observeOne observe observeRefusal observeOf
+everyPart-hold =
+    refl and refl and refl and refl and refl and refl and refl and refl and refl and refl and refl and refl and refl and refl and refl and tt
 
-heldRows-hold : Agree heldRows
-unfolding allBelow least count anyOf keepOf word isShown giveUser takeUser giveSolver takeSolver putRecord putValue soundb sizesb marksb atMostb tailb backb namedb deletedb tailsb pairsb notesWords heldBy choose each unless
-heldRows-hold = (refl, (refl, (refl, (refl, (refl, (refl, (refl, (refl, (refl, (refl, (refl, tt)))))))))))
+noteRows-hold : AnchorsAgree noteRows
+unfolding allBelow least count anyOf keepOf word isShown giveUser takeUser giveSolver takeSolver putRecord putValue dropGlobal soundb sizesb marksb
+    atMostb tailb backb namedb deletedb tailsb pairsb notesWords heldBy choose each unless
+noteRows-hold =
+    refl and refl and refl and refl and refl and refl and refl and refl and refl and tt
 
-sounds-hold : Agree sounds
-unfolding allBelow least count anyOf keepOf word isShown giveUser takeUser giveSolver takeSolver putRecord putValue soundb sizesb marksb atMostb tailb backb namedb deletedb tailsb pairsb notesWords heldBy choose each unless found lookupOf globalFromUserOf userFromGlobalOf solverFromGlobalOf globalFromSolverOf recordWordOf assignmentWordOf
-sounds-hold = (refl, (refl, (refl, (refl, (refl, (refl, (refl, (refl, (refl, (refl, (refl, (refl, (refl, (refl, (refl, (refl, (refl, (refl, (refl, (refl, (refl, (refl, (refl, (refl, (refl, (refl, (refl, (refl, (refl, (refl, (refl, (refl, (refl, (refl, (refl, (refl, (refl, (refl, (refl, (refl, (refl, (refl, (refl, (refl, (refl, (refl, (refl, (refl, (refl, (refl, (refl, (refl, (refl, (refl, (refl, (refl, (refl, (refl, (refl, (refl, (refl, (refl, (refl, (refl, (refl, (refl, tt))))))))))))))))))))))))))))))))))))))))))))))))))))))))))))))))))
+heldRows-hold : AnchorsAgree heldRows
+unfolding allBelow least count anyOf keepOf word isShown giveUser takeUser giveSolver takeSolver putRecord putValue dropGlobal soundb sizesb marksb
+    atMostb tailb backb namedb deletedb tailsb pairsb notesWords heldBy choose each unless
+heldRows-hold =
+    refl and refl and refl and refl and refl and refl and refl and refl and refl and refl and refl and tt
 
-opens-hold : Agree opens
-unfolding allBelow least count anyOf keepOf word isShown giveUser takeUser giveSolver takeSolver putRecord putValue soundb sizesb marksb atMostb tailb backb namedb deletedb tailsb pairsb notesWords heldBy choose each unless emptyTable openOf
-opens-hold = (refl, (refl, (refl, (refl, (refl, (refl, (refl, (refl, (refl, (refl, (refl, tt)))))))))))
+sounds-hold : AnchorsAgree sounds
+unfolding allBelow least count anyOf keepOf word isShown giveUser takeUser giveSolver takeSolver putRecord putValue dropGlobal soundb sizesb marksb
+    atMostb tailb backb namedb deletedb tailsb pairsb notesWords heldBy choose each unless found lookupOf globalFromUserOf userFromGlobalOf
+    solverFromGlobalOf globalFromSolverOf recordWordOf assignmentWordOf
+sounds-hold =
+    refl and refl and refl and refl and refl and refl and refl and refl and refl and refl and refl and refl and refl and refl and refl and refl and
+    refl and refl and refl and refl and refl and refl and refl and refl and refl and refl and refl and refl and refl and refl and refl and refl and
+    refl and refl and refl and refl and refl and refl and refl and refl and refl and refl and refl and refl and refl and refl and refl and refl and
+    refl and refl and refl and refl and refl and refl and refl and refl and refl and refl and refl and refl and refl and refl and refl and refl and
+    refl and refl and tt
 
-lookups-hold : Agree lookups
-unfolding allBelow least count anyOf keepOf word isShown giveUser takeUser giveSolver takeSolver putRecord putValue soundb sizesb marksb atMostb tailb backb namedb deletedb tailsb pairsb notesWords heldBy choose each unless found lookupOf globalFromUserOf userFromGlobalOf solverFromGlobalOf globalFromSolverOf recordWordOf assignmentWordOf
-lookups-hold = (refl, (refl, (refl, (refl, (refl, (refl, (refl, (refl, (refl, (refl, (refl, (refl, (refl, (refl, (refl, (refl, (refl, (refl, (refl, (refl, (refl, (refl, (refl, (refl, (refl, (refl, (refl, (refl, (refl, (refl, (refl, tt)))))))))))))))))))))))))))))))
+opens-hold : AnchorsAgree opens
+unfolding allBelow least count anyOf keepOf word isShown giveUser takeUser giveSolver takeSolver putRecord putValue dropGlobal soundb sizesb marksb
+    atMostb tailb backb namedb deletedb tailsb pairsb notesWords heldBy choose each unless emptyTable openOf
+opens-hold =
+    refl and refl and refl and refl and refl and refl and refl and refl and refl and refl and refl and tt
 
-mapAnswers-hold : Agree mapAnswers
-unfolding allBelow least count anyOf keepOf word isShown giveUser takeUser giveSolver takeSolver putRecord putValue soundb sizesb marksb atMostb tailb backb namedb deletedb tailsb pairsb notesWords heldBy choose each unless leastFree globalFor mapOne fillGap mapUser nextUser newUser undeleted toMap unsampled mapRefusal mapOf newUserRefusal newUserOf
-mapAnswers-hold = (refl, (refl, (refl, (refl, (refl, tt)))))
+lookups-hold : AnchorsAgree lookups
+unfolding allBelow least count anyOf keepOf word isShown giveUser takeUser giveSolver takeSolver putRecord putValue dropGlobal soundb sizesb marksb
+    atMostb tailb backb namedb deletedb tailsb pairsb notesWords heldBy choose each unless found lookupOf globalFromUserOf userFromGlobalOf
+    solverFromGlobalOf globalFromSolverOf recordWordOf assignmentWordOf
+lookups-hold =
+    refl and refl and refl and refl and refl and refl and refl and refl and refl and refl and refl and refl and refl and refl and refl and refl and
+    refl and refl and refl and refl and refl and refl and refl and refl and refl and refl and refl and refl and refl and refl and refl and tt
 
-maps-hold : Agree maps
-unfolding allBelow least count anyOf keepOf word isShown giveUser takeUser giveSolver takeSolver putRecord putValue soundb sizesb marksb atMostb tailb backb namedb deletedb tailsb pairsb notesWords heldBy choose each unless leastFree globalFor mapOne fillGap mapUser nextUser newUser undeleted toMap unsampled mapRefusal mapOf newUserRefusal newUserOf
-maps-hold = (refl, (refl, (refl, (refl, (refl, (refl, (refl, (refl, (refl, (refl, (refl, (refl, (refl, (refl, (refl, (refl, tt))))))))))))))))
+mapAnswers-hold : AnchorsAgree mapAnswers
+unfolding allBelow least count anyOf keepOf word isShown giveUser takeUser giveSolver takeSolver putRecord putValue dropGlobal soundb sizesb marksb
+    atMostb tailb backb namedb deletedb tailsb pairsb notesWords heldBy choose each unless leastFree globalFor mapOne fillGap mapUser nextUser newUser
+    undeleted toMap unsampled mapRefusal mapOf newUserRefusal newUserOf
+mapAnswers-hold =
+    refl and refl and refl and refl and refl and tt
 
-newUsers-hold : Agree newUsers
-unfolding allBelow least count anyOf keepOf word isShown giveUser takeUser giveSolver takeSolver putRecord putValue soundb sizesb marksb atMostb tailb backb namedb deletedb tailsb pairsb notesWords heldBy choose each unless leastFree globalFor mapOne fillGap mapUser nextUser newUser undeleted toMap unsampled mapRefusal mapOf newUserRefusal newUserOf
-newUsers-hold = (refl, (refl, (refl, (refl, (refl, (refl, tt))))))
+maps-hold : AnchorsAgree maps
+unfolding allBelow least count anyOf keepOf word isShown giveUser takeUser giveSolver takeSolver putRecord putValue dropGlobal soundb sizesb marksb
+    atMostb tailb backb namedb deletedb tailsb pairsb notesWords heldBy choose each unless leastFree globalFor mapOne fillGap mapUser nextUser newUser
+    undeleted toMap unsampled mapRefusal mapOf newUserRefusal newUserOf
+maps-hold =
+    refl and refl and refl and refl and refl and refl and refl and refl and refl and refl and refl and refl and refl and refl and refl and refl and tt
 
-grants-hold : Agree grants
-unfolding allBelow least count anyOf keepOf word isShown giveUser takeUser giveSolver takeSolver putRecord putValue soundb sizesb marksb atMostb tailb backb namedb deletedb tailsb pairsb notesWords heldBy choose each unless leastFree globalFor mapOne fillGap mapUser nextUser newUser undeleted toMap unsampled mapRefusal mapOf newUserRefusal newUserOf nextSolver grantOne grant grantRefusal grantOf
-grants-hold = (refl, (refl, (refl, (refl, (refl, (refl, (refl, (refl, (refl, (refl, tt))))))))))
+newUsers-hold : AnchorsAgree newUsers
+unfolding allBelow least count anyOf keepOf word isShown giveUser takeUser giveSolver takeSolver putRecord putValue dropGlobal soundb sizesb marksb
+    atMostb tailb backb namedb deletedb tailsb pairsb notesWords heldBy choose each unless leastFree globalFor mapOne fillGap mapUser nextUser newUser
+    undeleted toMap unsampled mapRefusal mapOf newUserRefusal newUserOf
+newUsers-hold =
+    refl and refl and refl and refl and refl and refl and tt
 
-poses-hold : Agree poses
-unfolding allBelow least count anyOf keepOf word isShown giveUser takeUser giveSolver takeSolver putRecord putValue soundb sizesb marksb atMostb tailb backb namedb deletedb tailsb pairsb notesWords heldBy choose each unless leastFree globalFor mapOne fillGap mapUser nextUser newUser undeleted toMap unsampled mapRefusal mapOf newUserRefusal newUserOf nextSolver grantOne grant grantRefusal grantOf poseOne pose wanted usersToMap poseRefusal poseOf
-poses-hold = (refl, (refl, (refl, (refl, (refl, (refl, (refl, (refl, (refl, (refl, (refl, (refl, (refl, (refl, (refl, tt)))))))))))))))
+grants-hold : AnchorsAgree grants
+unfolding allBelow least count anyOf keepOf word isShown giveUser takeUser giveSolver takeSolver putRecord putValue dropGlobal soundb sizesb marksb
+    atMostb tailb backb namedb deletedb tailsb pairsb notesWords heldBy choose each unless leastFree globalFor mapOne fillGap mapUser nextUser newUser
+    undeleted toMap unsampled mapRefusal mapOf newUserRefusal newUserOf nextSolver grantOne grant grantRefusal grantOf
+grants-hold =
+    refl and refl and refl and refl and refl and refl and refl and refl and refl and refl and tt
 
-setModes-hold : Agree setModes
-unfolding allBelow least count anyOf keepOf word isShown giveUser takeUser giveSolver takeSolver putRecord putValue soundb sizesb marksb atMostb tailb backb namedb deletedb tailsb pairsb notesWords heldBy choose each unless leastFree globalFor mapOne fillGap mapUser nextUser newUser undeleted toMap unsampled mapRefusal mapOf newUserRefusal newUserOf isUnused deleteIfUnused show hide change setMode setModeRefusal setModeOf isHidden observeOne observe observeRefusal observeOf
-setModes-hold = (refl, (refl, (refl, (refl, (refl, (refl, (refl, (refl, (refl, (refl, (refl, (refl, (refl, (refl, (refl, (refl, (refl, (refl, (refl, (refl, (refl, (refl, tt))))))))))))))))))))))
+poses-hold : AnchorsAgree poses
+unfolding allBelow least count anyOf keepOf word isShown giveUser takeUser giveSolver takeSolver putRecord putValue dropGlobal soundb sizesb marksb
+    atMostb tailb backb namedb deletedb tailsb pairsb notesWords heldBy choose each unless leastFree globalFor mapOne fillGap mapUser nextUser newUser
+    undeleted toMap unsampled mapRefusal mapOf newUserRefusal newUserOf nextSolver grantOne grant grantRefusal grantOf poseOne pose wanted usersToMap
+    poseRefusal poseOf
+poses-hold =
+    refl and refl and refl and refl and refl and refl and refl and refl and refl and refl and refl and refl and refl and refl and refl and tt
 
-observes-hold : Agree observes
-unfolding allBelow least count anyOf keepOf word isShown giveUser takeUser giveSolver takeSolver putRecord putValue soundb sizesb marksb atMostb tailb backb namedb deletedb tailsb pairsb notesWords heldBy choose each unless leastFree globalFor mapOne fillGap mapUser nextUser newUser undeleted toMap unsampled mapRefusal mapOf newUserRefusal newUserOf isUnused deleteIfUnused show hide change setMode setModeRefusal setModeOf isHidden observeOne observe observeRefusal observeOf
-observes-hold = (refl, (refl, (refl, (refl, (refl, (refl, (refl, (refl, tt))))))))
+setModes-hold : AnchorsAgree setModes
+unfolding allBelow least count anyOf keepOf word isShown giveUser takeUser giveSolver takeSolver putRecord putValue dropGlobal soundb sizesb marksb
+    atMostb tailb backb namedb deletedb tailsb pairsb notesWords heldBy choose each unless leastFree globalFor mapOne fillGap mapUser nextUser newUser
+    undeleted toMap unsampled mapRefusal mapOf newUserRefusal newUserOf isUnused deleteIfUnused show hide change setMode setModeRefusal setModeOf
+    isHidden observeOne observe observeRefusal observeOf
+setModes-hold =
+    refl and refl and refl and refl and refl and refl and refl and refl and refl and refl and refl and refl and refl and refl and refl and refl and
+    refl and refl and refl and refl and refl and refl and tt
 
-removes-hold : Agree removes
-unfolding allBelow least count anyOf keepOf word isShown giveUser takeUser giveSolver takeSolver putRecord putValue soundb sizesb marksb atMostb tailb backb namedb deletedb tailsb pairsb notesWords heldBy choose each unless notHeld mark markRefusal markOf assignRefusal assignOf leastFree globalFor mapOne fillGap mapUser nextUser newUser undeleted toMap unsampled mapRefusal mapOf newUserRefusal newUserOf isUnused deleteIfUnused show hide change setMode setModeRefusal setModeOf isHidden observeOne observe observeRefusal observeOf removeHeld remove removeRefusal removeOf learn sweepHeld sweepOne sweep sweepRefusal sweepOf
-removes-hold = (refl, (refl, (refl, (refl, (refl, (refl, (refl, (refl, (refl, (refl, (refl, tt)))))))))))
+observes-hold : AnchorsAgree observes
+unfolding allBelow least count anyOf keepOf word isShown giveUser takeUser giveSolver takeSolver putRecord putValue dropGlobal soundb sizesb marksb
+    atMostb tailb backb namedb deletedb tailsb pairsb notesWords heldBy choose each unless leastFree globalFor mapOne fillGap mapUser nextUser newUser
+    undeleted toMap unsampled mapRefusal mapOf newUserRefusal newUserOf isUnused deleteIfUnused show hide change setMode setModeRefusal setModeOf
+    isHidden observeOne observe observeRefusal observeOf
+observes-hold =
+    refl and refl and refl and refl and refl and refl and refl and refl and tt
 
-sweeps-hold : Agree sweeps
-unfolding allBelow least count anyOf keepOf word isShown giveUser takeUser giveSolver takeSolver putRecord putValue soundb sizesb marksb atMostb tailb backb namedb deletedb tailsb pairsb notesWords heldBy choose each unless notHeld mark markRefusal markOf assignRefusal assignOf leastFree globalFor mapOne fillGap mapUser nextUser newUser undeleted toMap unsampled mapRefusal mapOf newUserRefusal newUserOf isUnused deleteIfUnused show hide change setMode setModeRefusal setModeOf isHidden observeOne observe observeRefusal observeOf removeHeld remove removeRefusal removeOf learn sweepHeld sweepOne sweep sweepRefusal sweepOf
-sweeps-hold = (refl, (refl, (refl, (refl, (refl, (refl, (refl, (refl, tt))))))))
+removes-hold : AnchorsAgree removes
+unfolding allBelow least count anyOf keepOf word isShown giveUser takeUser giveSolver takeSolver putRecord putValue dropGlobal soundb sizesb marksb
+    atMostb tailb backb namedb deletedb tailsb pairsb notesWords heldBy choose each unless notHeld unheld heldElse litsHeldElse mark markRefusal
+    markOf assignRefusal assignOf leastFree globalFor mapOne fillGap mapUser nextUser newUser undeleted toMap unsampled mapRefusal mapOf
+    newUserRefusal newUserOf isUnused deleteIfUnused show hide change setMode setModeRefusal setModeOf isHidden observeOne observe observeRefusal
+    observeOf removeHeld remove removeRefusal removeOf learn sweepHeld sweepOne sweep sweepRefusal sweepOf
+removes-hold =
+    refl and refl and refl and refl and refl and refl and refl and refl and refl and refl and refl and tt
 
-models-hold : Agree models
-unfolding allBelow least count anyOf keepOf word isShown giveUser takeUser giveSolver takeSolver putRecord putValue soundb sizesb marksb atMostb tailb backb namedb deletedb tailsb pairsb notesWords heldBy choose each unless globalValue rowOf globalModel userLiteral userModel modelRefusal modelOf
-models-hold = (refl, (refl, (refl, (refl, (refl, (refl, (refl, (refl, tt))))))))
+sweeps-hold : AnchorsAgree sweeps
+unfolding allBelow least count anyOf keepOf word isShown giveUser takeUser giveSolver takeSolver putRecord putValue dropGlobal soundb sizesb marksb
+    atMostb tailb backb namedb deletedb tailsb pairsb notesWords heldBy choose each unless notHeld unheld heldElse litsHeldElse mark markRefusal
+    markOf assignRefusal assignOf leastFree globalFor mapOne fillGap mapUser nextUser newUser undeleted toMap unsampled mapRefusal mapOf
+    newUserRefusal newUserOf isUnused deleteIfUnused show hide change setMode setModeRefusal setModeOf isHidden observeOne observe observeRefusal
+    observeOf removeHeld remove removeRefusal removeOf learn sweepHeld sweepOne sweep sweepRefusal sweepOf
+sweeps-hold =
+    refl and refl and refl and refl and refl and refl and refl and refl and tt
 
-marks-hold : Agree marks
-unfolding allBelow least count anyOf keepOf word isShown giveUser takeUser giveSolver takeSolver putRecord putValue soundb sizesb marksb atMostb tailb backb namedb deletedb tailsb pairsb notesWords heldBy choose each unless notHeld mark markRefusal markOf assignRefusal assignOf
-marks-hold = (refl, (refl, (refl, (refl, (refl, (refl, (refl, (refl, (refl, (refl, (refl, (refl, (refl, (refl, (refl, (refl, (refl, (refl, tt))))))))))))))))))
+models-hold : AnchorsAgree models
+unfolding allBelow least count anyOf keepOf word isShown giveUser takeUser giveSolver takeSolver putRecord putValue dropGlobal soundb sizesb marksb
+    atMostb tailb backb namedb deletedb tailsb pairsb notesWords heldBy choose each unless globalValue rowOf globalModel userLiteral userModel
+    modelRefusal modelOf
+models-hold =
+    refl and refl and refl and refl and refl and refl and refl and refl and tt
 
-assigns-hold : Agree assigns
-unfolding allBelow least count anyOf keepOf word isShown giveUser takeUser giveSolver takeSolver putRecord putValue soundb sizesb marksb atMostb tailb backb namedb deletedb tailsb pairsb notesWords heldBy choose each unless notHeld mark markRefusal markOf assignRefusal assignOf
-assigns-hold = (refl, (refl, (refl, (refl, (refl, (refl, (refl, (refl, (refl, (refl, tt))))))))))
+markRows-hold : AnchorsAgree markRows
+unfolding allBelow least count anyOf keepOf word isShown giveUser takeUser giveSolver takeSolver putRecord putValue dropGlobal soundb sizesb marksb
+    atMostb tailb backb namedb deletedb tailsb pairsb notesWords heldBy choose each unless notHeld unheld heldElse litsHeldElse mark markRefusal
+    markOf assignRefusal assignOf
+markRows-hold =
+    refl and refl and refl and refl and refl and refl and refl and refl and refl and refl and refl and refl and refl and refl and refl and refl and
+    refl and refl and tt
 
-simplifies-hold : Agree simplifies
-unfolding allBelow least count anyOf keepOf word isShown giveUser takeUser giveSolver takeSolver putRecord putValue soundb sizesb marksb atMostb tailb backb namedb deletedb tailsb pairsb notesWords heldBy choose each unless notHeld mark markRefusal markOf assignRefusal assignOf spell further bytesOf number numbers encodeStep encode renameLits unmatched outside unheld stepRefusal renameRefusal renameOf stepBytes writeRefusal writeOf unfalse simplified simplifyBytes simplifyRefusal simplifyOf
-simplifies-hold = (refl, (refl, (refl, (refl, (refl, (refl, (refl, (refl, (refl, (refl, (refl, (refl, (refl, (refl, (refl, (refl, (refl, (refl, (refl, (refl, (refl, (refl, (refl, (refl, tt))))))))))))))))))))))))
+assigns-hold : AnchorsAgree assigns
+unfolding allBelow least count anyOf keepOf word isShown giveUser takeUser giveSolver takeSolver putRecord putValue dropGlobal soundb sizesb marksb
+    atMostb tailb backb namedb deletedb tailsb pairsb notesWords heldBy choose each unless notHeld unheld heldElse litsHeldElse mark markRefusal
+    markOf assignRefusal assignOf
+assigns-hold =
+    refl and refl and refl and refl and refl and refl and refl and refl and refl and refl and tt
 
-kinds-hold : Agree kinds
-unfolding allBelow least count anyOf keepOf word isShown giveUser takeUser giveSolver takeSolver putRecord putValue soundb sizesb marksb atMostb tailb backb namedb deletedb tailsb pairsb notesWords heldBy choose each unless
-kinds-hold = (refl, (refl, (refl, (refl, tt))))
+simplifies-hold : AnchorsAgree simplifies
+unfolding allBelow least count anyOf keepOf word isShown giveUser takeUser giveSolver takeSolver putRecord putValue dropGlobal soundb sizesb marksb
+    atMostb tailb backb namedb deletedb tailsb pairsb notesWords heldBy choose each unless notHeld unheld heldElse litsHeldElse mark markRefusal
+    markOf assignRefusal assignOf spell further bytesOf number numbers encodeStep encode renameLits unmatched outside stepRefusal renameRefusal
+    renameOf stepBytes writeRefusal writeOf unfalse simplified simplifyBytes simplifyRefusal simplifyOf
+simplifies-hold =
+    refl and refl and refl and refl and refl and refl and refl and refl and refl and refl and refl and refl and refl and refl and refl and refl and
+    refl and refl and refl and refl and refl and refl and refl and refl and tt
 
-causes-hold : Agree causes
-unfolding allBelow least count anyOf keepOf word isShown giveUser takeUser giveSolver takeSolver putRecord putValue soundb sizesb marksb atMostb tailb backb namedb deletedb tailsb pairsb notesWords heldBy choose each unless
-causes-hold = (refl, (refl, (refl, tt)))
+kinds-hold : AnchorsAgree kinds
+unfolding allBelow least count anyOf keepOf word isShown giveUser takeUser giveSolver takeSolver putRecord putValue dropGlobal soundb sizesb marksb
+    atMostb tailb backb namedb deletedb tailsb pairsb notesWords heldBy choose each unless
+kinds-hold =
+    refl and refl and refl and refl and tt
 
-renames-hold : Agree renames
-unfolding allBelow least count anyOf keepOf word isShown giveUser takeUser giveSolver takeSolver putRecord putValue soundb sizesb marksb atMostb tailb backb namedb deletedb tailsb pairsb notesWords heldBy choose each unless notHeld mark markRefusal markOf assignRefusal assignOf renameLits unmatched outside unheld stepRefusal renameRefusal renameOf stepBytes writeRefusal writeOf
-renames-hold = (refl, (refl, (refl, (refl, (refl, (refl, (refl, (refl, (refl, (refl, (refl, (refl, (refl, (refl, (refl, (refl, (refl, (refl, (refl, (refl, (refl, (refl, (refl, (refl, (refl, (refl, (refl, (refl, (refl, (refl, (refl, (refl, (refl, tt)))))))))))))))))))))))))))))))))
+causes-hold : AnchorsAgree causes
+unfolding allBelow least count anyOf keepOf word isShown giveUser takeUser giveSolver takeSolver putRecord putValue dropGlobal soundb sizesb marksb
+    atMostb tailb backb namedb deletedb tailsb pairsb notesWords heldBy choose each unless
+causes-hold =
+    refl and refl and refl and tt
 
-written-hold : Agree written
-unfolding allBelow least count anyOf keepOf word isShown giveUser takeUser giveSolver takeSolver putRecord putValue soundb sizesb marksb atMostb tailb backb namedb deletedb tailsb pairsb notesWords heldBy choose each unless notHeld mark markRefusal markOf assignRefusal assignOf spell further bytesOf number numbers encodeStep encode renameLits unmatched outside unheld stepRefusal renameRefusal renameOf stepBytes writeRefusal writeOf
-written-hold = (refl, (refl, (refl, (refl, (refl, (refl, (refl, (refl, (refl, (refl, (refl, (refl, (refl, (refl, (refl, (refl, (refl, (refl, (refl, (refl, (refl, (refl, (refl, (refl, (refl, (refl, (refl, (refl, (refl, (refl, (refl, (refl, (refl, (refl, (refl, tt)))))))))))))))))))))))))))))))))))
+renames-hold : AnchorsAgree renames
+unfolding allBelow least count anyOf keepOf word isShown giveUser takeUser giveSolver takeSolver putRecord putValue dropGlobal soundb sizesb marksb
+    atMostb tailb backb namedb deletedb tailsb pairsb notesWords heldBy choose each unless notHeld unheld heldElse litsHeldElse mark markRefusal
+    markOf assignRefusal assignOf renameLits unmatched outside stepRefusal renameRefusal renameOf stepBytes writeRefusal writeOf
+renames-hold =
+    refl and refl and refl and refl and refl and refl and refl and refl and refl and refl and refl and refl and refl and refl and refl and refl and
+    refl and refl and refl and refl and refl and refl and refl and refl and refl and refl and refl and refl and refl and refl and refl and refl and
+    refl and tt
 
-pub anchored : Agree literals × Agree recordParts × Agree everyPart × Agree noteRows × Agree heldRows × Agree sounds × Agree opens × Agree lookups × Agree mapAnswers × Agree maps × Agree newUsers × Agree grants × Agree poses × Agree setModes × Agree observes × Agree removes × Agree sweeps × Agree models × Agree marks × Agree assigns × Agree simplifies × Agree kinds × Agree causes × Agree renames × Agree written
-anchored = (literals-hold, recordParts-hold, everyPart-hold, noteRows-hold, heldRows-hold, sounds-hold, opens-hold, lookups-hold, mapAnswers-hold, maps-hold, newUsers-hold, grants-hold, poses-hold, setModes-hold, observes-hold, removes-hold, sweeps-hold, models-hold, marks-hold, assigns-hold, simplifies-hold, kinds-hold, causes-hold, renames-hold, written-hold)
+written-hold : AnchorsAgree written
+unfolding allBelow least count anyOf keepOf word isShown giveUser takeUser giveSolver takeSolver putRecord putValue dropGlobal soundb sizesb marksb
+    atMostb tailb backb namedb deletedb tailsb pairsb notesWords heldBy choose each unless notHeld unheld heldElse litsHeldElse mark markRefusal
+    markOf assignRefusal assignOf spell further bytesOf number numbers encodeStep encode renameLits unmatched outside stepRefusal renameRefusal
+    renameOf stepBytes writeRefusal writeOf
+written-hold =
+    refl and refl and refl and refl and refl and refl and refl and refl and refl and refl and refl and refl and refl and refl and refl and refl and
+    refl and refl and refl and refl and refl and refl and refl and refl and refl and refl and refl and refl and refl and refl and refl and refl and
+    refl and refl and refl and tt
+
+pub anchored : AnchorsAgree literals × AnchorsAgree recordParts × AnchorsAgree everyPart × AnchorsAgree noteRows × AnchorsAgree heldRows
+    × AnchorsAgree sounds × AnchorsAgree opens × AnchorsAgree lookups × AnchorsAgree mapAnswers × AnchorsAgree maps
+    × AnchorsAgree newUsers × AnchorsAgree grants × AnchorsAgree poses × AnchorsAgree setModes × AnchorsAgree observes
+    × AnchorsAgree removes × AnchorsAgree sweeps × AnchorsAgree models × AnchorsAgree markRows × AnchorsAgree assigns
+    × AnchorsAgree simplifies × AnchorsAgree kinds × AnchorsAgree causes × AnchorsAgree renames × AnchorsAgree written
+anchored = (
+  literals-hold,
+  recordParts-hold,
+  everyPart-hold,
+  noteRows-hold,
+  heldRows-hold,
+  sounds-hold,
+  opens-hold,
+  lookups-hold,
+  mapAnswers-hold,
+  maps-hold,
+  newUsers-hold,
+  grants-hold,
+  poses-hold,
+  setModes-hold,
+  observes-hold,
+  removes-hold,
+  sweeps-hold,
+  models-hold,
+  markRows-hold,
+  assigns-hold,
+  simplifies-hold,
+  kinds-hold,
+  causes-hold,
+  renames-hold,
+  written-hold,
+)

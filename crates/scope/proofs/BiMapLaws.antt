@@ -66,7 +66,8 @@ pub record Done (c : Counts) (fwd bwd : List ℕ) (n : Name) (g : ℕ) (r : Coun
   pub forward : f ≡ set fwd (indexIn n) (g + 1)
   pub backward : b ≡ set bwd g (indexIn n + 1)
 
-pub insert-done : (c r : Counts) (fwd bwd f b : List ℕ) (n : Name) (g k : ℕ) → Fits c fwd bwd (indexIn n) g → Inserts c fwd bwd n g k r f b → Done c fwd bwd n g r f b
+pub insert-done : (c r : Counts) (fwd bwd f b : List ℕ) (n : Name) (g k : ℕ) → Fits c fwd bwd (indexIn n) g → Inserts c fwd bwd n g k r f b
+    → Done c fwd bwd n g r f b
 unfolding insertRefusal
 insert-done c r fwd bwd f b n g k h p =
     let z : k ≡ 0 = p .refusal ∙ ap (λ (t : Bool). pick t 0 3) (fits-test c fwd bwd (indexIn n) g h) in

@@ -5,11 +5,10 @@ use mathlib.Core.Logic.{_≢_}
 use native.Mathlib.Omega.{arith}
 use lib.ListN.{length, getD}
 use lib.Seq.{getD-set-same, getD-set-other}
-use Rattle.scope.specs.Table.{Table, word, recordOf, giveSolver}
+use Rattle.scope.specs.Table.{Table, word, recordOf, giveSolver, undeleted, nextSolver}
 use Rattle.scope.specs.Sound.{Sound}
 use Rattle.scope.specs.Outcome.{Result, stay}
-use Rattle.scope.specs.Map.{undeleted}
-use Rattle.scope.specs.Grant.{nextSolver, grantOne, grant}
+use Rattle.scope.specs.Grant.{grantOne, grant}
 use Rattle.scope.proofs.PairLaws.{free-at, free-most, free-before, free-below, below-mark}
 use Rattle.scope.proofs.MoveLaws.{stop, reach-one, reach-sound, gives-solver, undeleted-below}
 use Rattle.scope.proofs.ResultLaws.{Good, word-none, word-some}
@@ -56,7 +55,7 @@ pub record SameUsers (t s : Table) : Type 0 where
 unfoldable pub toGrant : Table → ℕ → ℕ
 toGrant t g = word 1 (λ s. 0) (getD (t .solverFromGlobal) g 0)
 
-pub record Granted (t : Table) (g : ℕ) (x : Result ℕ) : Type 0 where
+pub record GrantDone (t : Table) (g : ℕ) (x : Result ℕ) : Type 0 where
   pub good : Good t x
   pub sound : Sound (x .table)
   pub same : SameUsers t (x .table)
@@ -66,7 +65,7 @@ pub record Granted (t : Table) (g : ℕ) (x : Result ℕ) : Type 0 where
   pub other : (h : ℕ) → h ≢ g → getD (x .table .solverFromGlobal) h 0 ≡ getD (t .solverFromGlobal) h 0
   pub count : length (x .notes) ≡ toGrant t g
 
-pub grant-one-granted : (t : Table) (g : ℕ) → Sound t → recordOf t g < 36 → getD (t .solverFromGlobal) g 0 ≡ 0 → Granted t g (grantOne g t)
+pub grant-one-granted : (t : Table) (g : ℕ) → Sound t → recordOf t g < 36 → getD (t .solverFromGlobal) g 0 ≡ 0 → GrantDone t g (grantOne g t)
 unfolding grantOne giveSolver toGrant
 grant-one-granted t g p h e =
     let gg = undeleted-below t g p h in
@@ -84,18 +83,18 @@ grant-one-granted t g p h e =
       count = sym (word-none 1 (λ s. 0) _ e);
     }
 
-pub grant-granted : (t : Table) (g : ℕ) → Sound t → recordOf t g < 36 → Granted t g (grant g t)
+pub grant-granted : (t : Table) (g : ℕ) → Sound t → recordOf t g < 36 → GrantDone t g (grant g t)
 unfolding toGrant
 grant-granted t g p h = go (getD (t .solverFromGlobal) g 0) refl
   where
-    go : (w : ℕ) → getD (t .solverFromGlobal) g 0 ≡ w → Granted t g (grant g t)
-    go zero e = subst (λ (x : Result ℕ). Granted t g x) (sym (grant-free t g e)) (grant-one-granted t g p h e)
+    go : (w : ℕ) → getD (t .solverFromGlobal) g 0 ≡ w → GrantDone t g (grant g t)
+    go zero e = subst (λ (x : Result ℕ). GrantDone t g x) (sym (grant-free t g e)) (grant-one-granted t g p h e)
     go (suc s) e =
         let q : getD (t .solverFromGlobal) g 0 ≡ s + 1 = omega arith in
         let k = p .solver .inverse s g .1 q in
         let l = below-mark s g (p .solver) k in
         let z = p .sizes in
-        subst (λ (x : Result ℕ). Granted t g x) (sym (grant-has t g s q))
+        subst (λ (x : Result ℕ). GrantDone t g x) (sym (grant-has t g s q))
         (record {
           good = stop;
           sound = p;

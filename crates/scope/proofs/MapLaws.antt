@@ -14,10 +14,10 @@ use Rattle.base.specs.Choice.{pick}
 use Rattle.base.specs.Bounded.{least, count}
 use Rattle.base.proofs.LeastLaws.{Least, least-has}
 use Rattle.base.proofs.CountLaws.{count-least, count-more}
-use Rattle.scope.specs.Table.{Table, word, recordOf, isDeleted, giveUser}
+use Rattle.scope.specs.Table.{Table, word, recordOf, isDeleted, giveUser, undeleted}
 use Rattle.scope.specs.Sound.{Sound}
 use Rattle.scope.specs.Outcome.{Result, stay, _then_, giving, each}
-use Rattle.scope.specs.Map.{globalFor, mapOne, fillGap, mapUser, nextUser, newUser, undeleted, toMap}
+use Rattle.scope.specs.Map.{globalFor, mapOne, fillGap, mapUser, nextUser, newUser, toMap}
 use Rattle.scope.proofs.PairLaws.{free-at, free-most, free-before, no-gap}
 use Rattle.scope.proofs.MoveLaws.{stop, reach-one, reach-sound, gives-user}
 use Rattle.scope.proofs.ResultLaws.{Good, good-more, word-none, word-some, each-keeps, each-good}
@@ -364,7 +364,8 @@ map-free-mapped t u m e =
     let s = fillGap (u - t .counts .user) t .table in
     let f = fill-gap-filled t (u - t .counts .user) (map-gap-room t u m e) in
     let k = map-last-mappable t u m e in
-    let g = good-more (fillGap (u - t .counts .user) t .notes) (mapOne u s .notes) (fill-gap-reach t (u - t .counts .user) (map-gap-room t u m e)) (map-one-reach s u k) in
+    let g = good-more (fillGap (u - t .counts .user) t .notes) (mapOne u s .notes) (fill-gap-reach t (u - t .counts .user) (map-gap-room t u m e))
+    (map-one-reach s u k) in
     let x = f .user in
     let y = f .undeleted in
     let d = map-one-undeleted s u k in

@@ -12,14 +12,16 @@ use lib.Seq.{getD-set-same, getD-set-other}
 use borrow.Author.Tests.{eqb-true, eq-eqb, ne-eqb, ltb-true}
 use Rattle.base.specs.Choice.{pick}
 use Rattle.base.proofs.BelowLaws.{and-left, and-right}
-use Rattle.scope.specs.Table.{Table, recordOf, modeOf, isolatedOf, withMode, giveUser, takeUser, putRecord}
+use Rattle.scope.specs.declared.Counts.{Counts}
+use Rattle.scope.specs.Table.{Table, recordOf, modeOf, isolatedOf, withMode, giveUser, takeUser, putRecord, dropGlobal}
 use Rattle.scope.specs.Sound.{Sound}
 use Rattle.scope.specs.Outcome.{Result, choose, each}
 use Rattle.scope.specs.Map.{nextUser}
 use Rattle.scope.specs.Modes.{isUnused, deleteIfUnused, show, hide, change, setMode, isHidden, observeOne, observe}
 use Rattle.scope.specs.Entries.{Entry, hides}
 use Rattle.scope.proofs.PairLaws.{free-below}
-use Rattle.scope.proofs.MoveLaws.{Reach, stop, reach-one, reach-then, reach-sound, deletes-global, gives-user, takes-user, puts-record, tells-mode, hides-again, undeleted-below}
+use Rattle.scope.proofs.MoveLaws.{Reach, stop, reach-one, reach-then, reach-sound, deletes-global, gives-user, takes-user, puts-record, tells-mode}
+use Rattle.scope.proofs.MoveLaws.{hides-again, undeleted-below}
 use Rattle.scope.proofs.ResultLaws.{Good, entered, by-choose, safe-each, each-keeps}
 use Rattle.scope.proofs.MapLaws.{SameSolvers, same-solvers, next-user-free}
 
@@ -49,9 +51,23 @@ delete-reach t g p h = by-choose (Good t) _
 pub delete-sound : (t : Table) (g : ℕ) → Sound t → recordOf t g < 36 → Sound (deleteIfUnused g t .table)
 delete-sound t g p h = reach-sound (delete-reach t g p h) p
 
+-- the capacity and the three watermarks are the same
+pub record SameMarks (d c : Counts) : Type 0 where
+  pub capacity : d .capacity ≡ c .capacity
+  pub user : d .user ≡ c .user
+  pub global : d .global ≡ c .global
+  pub solver : d .solver ≡ c .solver
+
+pub marks-stay : (c : Counts) → SameMarks c c
+marks-stay c = record { capacity = refl; user = refl; global = refl; solver = refl }
+
+pub marks-then : {b c d : Counts} → SameMarks d c → SameMarks c b → SameMarks d b
+marks-then x y =
+    record { capacity = x .capacity ∙ y .capacity; user = x .user ∙ y .user; global = x .global ∙ y .global; solver = x .solver ∙ y .solver }
+
 -- a change of one record leaves everything else alone
 pub record SameButRecord (t : Table) (g : ℕ) (s : Table) : Type 0 where
-  pub counts : s .counts ≡ t .counts
+  pub marks : SameMarks (s .counts) (t .counts)
   pub globalFromUser : s .globalFromUser ≡ t .globalFromUser
   pub userFromGlobal : s .userFromGlobal ≡ t .userFromGlobal
   pub solverFromGlobal : s .solverFromGlobal ≡ t .solverFromGlobal
@@ -63,7 +79,7 @@ pub put-record-same : (t : Table) (g r : ℕ) → SameButRecord t g (putRecord g
 unfolding putRecord
 put-record-same t g r =
     record {
-      counts = refl;
+      marks = marks-stay (t .counts);
       globalFromUser = refl;
       userFromGlobal = refl;
       solverFromGlobal = refl;
@@ -75,7 +91,7 @@ put-record-same t g r =
 pub stay-same : (t : Table) (g : ℕ) → SameButRecord t g t
 stay-same t g =
     record {
-      counts = refl;
+      marks = marks-stay (t .counts);
       globalFromUser = refl;
       userFromGlobal = refl;
       solverFromGlobal = refl;
@@ -84,10 +100,14 @@ stay-same t g =
       records = λ k n. refl;
     }
 
+pub drop-same : (t : Table) (g : ℕ) → SameButRecord t g (dropGlobal g t)
+unfolding dropGlobal
+drop-same t g = put-record-same t g (recordOf t g + 36)
+
 pub delete-same : (t : Table) (g : ℕ) → SameButRecord t g (deleteIfUnused g t .table)
 unfolding deleteIfUnused
 delete-same t g =
-    by-choose (λ (x : Result (List ℕ)). SameButRecord t g (x .table)) _ (λ e. put-record-same t g (recordOf t g + 36)) (λ e. stay-same t g)
+    by-choose (λ (x : Result (List ℕ)). SameButRecord t g (x .table)) _ (λ e. drop-same t g) (λ e. stay-same t g)
 
 -- ---- the three changes of a mode
 
@@ -155,7 +175,8 @@ pub hide-take-sound : (t : Table) (g : ℕ) → Sound t → recordOf t g < 36 �
     → Sound (takeUser g (getD (t .userFromGlobal) g 0 - 1) (withMode (recordOf t g) 2) t)
 hide-take-sound t g p h n =
     let m = p .rows .row g .seen (h, n) in
-    reach-sound (reach-one {t = t} (takes-user g (getD (t .userFromGlobal) g 0 - 1) (withMode (recordOf t g) 2)) (record { has = omega arith; undeleted = omega arith; hidden = omega arith })) p
+    reach-sound (reach-one {t = t} (takes-user g (getD (t .userFromGlobal) g 0 - 1) (withMode (recordOf t g) 2))
+    (record { has = omega arith; undeleted = omega arith; hidden = omega arith })) p
 
 -- ---- Set mode
 

@@ -9,7 +9,7 @@ use native.Mathlib.Omega.{arith}
 use native.Mathlib.Decide.{decLt}
 use lib.ListN.{getD, length, length-set, set}
 use lib.Seq.{getD-set-same}
-use Rattle.scope.specs.Table.{Table, recordOf, modeOf, unitOf, isolatedOf, giveUser, takeUser, giveSolver, takeSolver, putRecord, putValue}
+use Rattle.scope.specs.Table.{Table, recordOf, modeOf, unitOf, isolatedOf, giveUser, takeUser, giveSolver, takeSolver, putRecord, putValue, dropGlobal}
 use Rattle.scope.specs.Sound.{Shown, Row, Sound}
 use Rattle.scope.specs.Notes.{user+, user-, solver+, solver-, deletes, changes}
 use Rattle.scope.specs.Entries.{Entry, noted, hides}
@@ -34,7 +34,7 @@ apply (takes-user g u r) t = takeUser g u r t
 apply (gives-solver g s) t = giveSolver g s t
 apply (takes-solver g s) t = takeSolver g s t
 apply (puts-record g r) t = putRecord g r t
-apply (deletes-global g) t = putRecord g (recordOf t g + 36) t
+apply (deletes-global g) t = dropGlobal g t
 apply (puts-value s v) t = putValue s v t
 apply (tells-mode g sample) t = t
 apply (hides-again g) t = t
@@ -135,11 +135,14 @@ give-user-sound t g u r p l =
     let hr : g < length (t .records) = rw (z .records) (l .global) in
     record {
       sizes = omega (arith, length-set (t .globalFromUser) u (g + 1), length-set (t .userFromGlobal) g (u + 1), length-set (t .records) g r);
-      user = pair-link (max (t .counts .user) (u + 1)) (max (t .counts .global) (g + 1)) u g (p .user) hu hg (l .noGlobal) (l .noUser) (omega arith) (omega arith) (omega arith) (omega arith);
+      user = pair-link (max (t .counts .user) (u + 1)) (max (t .counts .global) (g + 1)) u g (p .user) hu hg (l .noGlobal) (l .noUser) (omega arith)
+          (omega arith) (omega arith) (omega arith);
       solver = pair-grow (max (t .counts .global) (g + 1)) (p .solver) (omega arith);
       rows =
-          rows-at (max (t .counts .global) (g + 1)) g (p .rows) (off-set 47 g r (t .records)) (off-set 0 g (u + 1) (t .userFromGlobal)) (off-same 0 g (t .solverFromGlobal)) (omega arith) (omega arith)
-          (rw (getD-set-same (t .records) g r 47 hr, getD-set-same (t .userFromGlobal) g (u + 1) 0 hg) (row-shown r u (getD (t .solverFromGlobal) g 0) (l .shown)));
+          rows-at (max (t .counts .global) (g + 1)) g (p .rows) (off-set 47 g r (t .records)) (off-set 0 g (u + 1) (t .userFromGlobal))
+          (off-same 0 g (t .solverFromGlobal)) (omega arith) (omega arith)
+          (rw (getD-set-same (t .records) g r 47 hr, getD-set-same (t .userFromGlobal) g (u + 1) 0 hg)
+          (row-shown r u (getD (t .solverFromGlobal) g 0) (l .shown)));
       values = p .values;
     }
 
@@ -158,8 +161,10 @@ take-user-sound t g u r p l =
       user = pair-cut u g (p .user) hu hg e;
       solver = p .solver;
       rows =
-          rows-at (t .counts .global) g (p .rows) (off-set 47 g r (t .records)) (off-set 0 g 0 (t .userFromGlobal)) (off-same 0 g (t .solverFromGlobal)) (omega arith) gg
-          (rw (getD-set-same (t .records) g r 47 hr, getD-set-same (t .userFromGlobal) g 0 0 hg) (row-hidden r (getD (t .solverFromGlobal) g 0) (l .undeleted) (l .hidden)));
+          rows-at (t .counts .global) g (p .rows) (off-set 47 g r (t .records)) (off-set 0 g 0 (t .userFromGlobal)) (off-same 0 g (t .solverFromGlobal))
+          (omega arith) gg
+          (rw (getD-set-same (t .records) g r 47 hr, getD-set-same (t .userFromGlobal) g 0 0 hg)
+          (row-hidden r (getD (t .solverFromGlobal) g 0) (l .undeleted) (l .hidden)));
       values = p .values;
     }
 
@@ -173,12 +178,21 @@ give-solver-sound t g s p l =
     let hg : g < length (t .solverFromGlobal) = rw (z .solverFromGlobal) (omega arith) in
     let ha : s < length (t .assignment) = rw (z .assignment) (omega arith) in
     record {
-      sizes = omega (arith, length-set (t .solverFromGlobal) g (s + 1), length-set (t .globalFromSolver) s (g + 1), length-set (t .assignment) s (unitOf (recordOf t g)));
+      sizes = omega (
+        arith,
+        length-set (t .solverFromGlobal) g (s + 1),
+        length-set (t .globalFromSolver) s (g + 1),
+        length-set (t .assignment) s
+            (unitOf (recordOf t g)),
+      );
       user = pair-grow (max (t .counts .global) (g + 1)) (p .user) (omega arith);
-      solver = pair-link (max (t .counts .solver) (s + 1)) (max (t .counts .global) (g + 1)) s g (p .solver) hs hg (l .noGlobal) (l .noSolver) (omega arith) (omega arith) (omega arith) (omega arith);
+      solver = pair-link (max (t .counts .solver) (s + 1)) (max (t .counts .global) (g + 1)) s g (p .solver) hs hg (l .noGlobal) (l .noSolver) (omega arith)
+          (omega arith) (omega arith) (omega arith);
       rows =
-          rows-at (max (t .counts .global) (g + 1)) g (p .rows) (off-same 47 g (t .records)) (off-same 0 g (t .userFromGlobal)) (off-set 0 g (s + 1) (t .solverFromGlobal)) (omega arith) (omega arith)
-          (row-solver (recordOf t g) (getD (t .userFromGlobal) g 0) (getD (t .solverFromGlobal) g 0) (getD (set (t .solverFromGlobal) g (s + 1)) g 0) (l .undeleted) (p .rows .row g));
+          rows-at (max (t .counts .global) (g + 1)) g (p .rows) (off-same 47 g (t .records)) (off-same 0 g (t .userFromGlobal))
+          (off-set 0 g (s + 1) (t .solverFromGlobal)) (omega arith) (omega arith)
+          (row-solver (recordOf t g) (getD (t .userFromGlobal) g 0) (getD (t .solverFromGlobal) g 0) (getD (set (t .solverFromGlobal) g (s + 1)) g 0)
+          (l .undeleted) (p .rows .row g));
       values = values-put (max (t .counts .solver) (s + 1)) s (unitOf (recordOf t g)) (p .values) ha (omega arith) (omega arith) (omega arith);
     }
 
@@ -197,13 +211,16 @@ take-solver-sound t g s p l =
       user = p .user;
       solver = pair-cut s g (p .solver) hs hg e;
       rows =
-          rows-at (t .counts .global) g (p .rows) (off-same 47 g (t .records)) (off-same 0 g (t .userFromGlobal)) (off-set 0 g 0 (t .solverFromGlobal)) (omega arith) gg
-          (rw (getD-set-same (t .solverFromGlobal) g 0 0 hg) (record { small = w .small; named = w .named; seen = w .seen; gone = λ d. (w .gone d .0, w .gone d .1, refl) }));
+          rows-at (t .counts .global) g (p .rows) (off-same 47 g (t .records)) (off-same 0 g (t .userFromGlobal)) (off-set 0 g 0 (t .solverFromGlobal))
+          (omega arith) gg
+          (rw (getD-set-same (t .solverFromGlobal) g 0 0 hg)
+          (record { small = w .small; named = w .named; seen = w .seen; gone = λ d. (w .gone d .0, w .gone d .1, refl) }));
       values = p .values;
     }
 
 -- a record with which the global's row still agrees
-pub record-sound : (t : Table) (g r : ℕ) → Sound t → g < t .counts .global → Row r (getD (t .userFromGlobal) g 0) (getD (t .solverFromGlobal) g 0) → Sound (putRecord g r t)
+pub record-sound : (t : Table) (g r : ℕ) → Sound t → g < t .counts .global → Row r (getD (t .userFromGlobal) g 0) (getD (t .solverFromGlobal) g 0)
+    → Sound (putRecord g r t)
 unfolding putRecord
 record-sound t g r p gg w =
     let z = p .sizes in
@@ -213,7 +230,8 @@ record-sound t g r p gg w =
       user = p .user;
       solver = p .solver;
       rows =
-          rows-at (t .counts .global) g (p .rows) (off-set 47 g r (t .records)) (off-same 0 g (t .userFromGlobal)) (off-same 0 g (t .solverFromGlobal)) (omega arith) gg
+          rows-at (t .counts .global) g (p .rows) (off-set 47 g r (t .records)) (off-same 0 g (t .userFromGlobal)) (off-same 0 g (t .solverFromGlobal))
+          (omega arith) gg
           (rw (getD-set-same (t .records) g r 47 hr) w);
       values = p .values;
     }
@@ -223,7 +241,8 @@ put-record-sound t g r p l =
     record-sound t g r p (undeleted-below t g p (l .old))
     (row-record (recordOf t g) r (getD (t .userFromGlobal) g 0) (getD (t .solverFromGlobal) g 0) (l .old) (l .new) (l .to) (l .from) (p .rows .row g))
 
-drop-sound : (t : Table) (g : ℕ) → Sound t → DeletesGlobal t g → Sound (putRecord g (recordOf t g + 36) t)
+drop-sound : (t : Table) (g : ℕ) → Sound t → DeletesGlobal t g → Sound (dropGlobal g t)
+unfolding dropGlobal
 drop-sound t g p l =
     record-sound t g (recordOf t g + 36) p (undeleted-below t g p (l .undeleted))
     (rw (l .noSolver) (row-drop (recordOf t g) (getD (t .userFromGlobal) g 0) (l .undeleted) (l .hidden) (l .isolated) (rw (l .noSolver) at (p .rows .row g))))

@@ -12,7 +12,7 @@ use borrow.Author.Tests.{eqb-true, eqb-false}
 use Rattle.base.proofs.LeastLaws.{Least, least-has}
 use Rattle.base.proofs.Pigeon.{pigeon}
 use Rattle.scope.specs.Sound.{Inverse, Pair, Row, Rows, Values}
-use Rattle.scope.specs.Map.{leastFree}
+use Rattle.scope.specs.Table.{leastFree}
 
 -- ---- two mutually inverse maps
 

@@ -16,16 +16,16 @@ use Rattle.base.specs.Choice.{pick}
 use Rattle.base.specs.Bounded.{count, anyOf}
 use Rattle.base.proofs.MemberLaws.{any-append, any-more, or-first, any-none}
 use Rattle.scope.specs.Literals.{indexOf}
-use Rattle.scope.specs.Table.{Table, word}
+use Rattle.scope.specs.Table.{Table, word, undeleted}
 use Rattle.scope.specs.Sound.{Sound}
 use Rattle.scope.specs.Outcome.{Result, giving, each}
-use Rattle.scope.specs.Map.{mapUser, undeleted, toMap}
+use Rattle.scope.specs.Map.{mapUser, toMap}
 use Rattle.scope.specs.Grant.{grant}
 use Rattle.scope.specs.Pose.{poseOne, pose, wanted, usersToMap}
 use Rattle.scope.proofs.MoveLaws.{reach-sound}
 use Rattle.scope.proofs.ResultLaws.{Good, good-more, each-keeps, each-good}
 use Rattle.scope.proofs.MapLaws.{MapRoom, Mapped, map-user-mapped, mapped-global, isUngranted, ungranted-free, ungranted-has}
-use Rattle.scope.proofs.GrantLaws.{Granted, grant-granted, toGrant}
+use Rattle.scope.proofs.GrantLaws.{GrantDone, grant-granted, toGrant}
 use Rattle.scope.proofs.WantedLaws.{isFree, takesIn, to-map-count, map-frees, map-covers, count-either, count-within, count-never, count-point}
 
 -- ---- the literals of a prefix
@@ -176,18 +176,19 @@ pose-turn-room t lits i s r l o =
 -- the user's global is granted a solver index
 pub record OnePosed (s : Table) (u : ℕ) (x y : Result ℕ) : Type 0 where
   pub mapped : Mapped s u x
-  pub granted : Granted (x .table) (x .value) y
+  pub granted : GrantDone (x .table) (x .value) y
 
 pub pose-one-posed : (s : Table) (u : ℕ) → MapRoom s u → OnePosed s u (mapUser u s) (grant (mapUser u s .value) (mapUser u s .table))
 pose-one-posed s u m =
     let x = map-user-mapped s u m in
     record {
       mapped = x;
-      granted = grant-granted (mapUser u s .table) (mapUser u s .value) (x .sound) (mapped-global (mapUser u s .table) u (mapUser u s .value) (x .sound) (x .has) .0);
+      granted = grant-granted (mapUser u s .table) (mapUser u s .value) (x .sound)
+          (mapped-global (mapUser u s .table) u (mapUser u s .value) (x .sound) (x .has) .0);
     }
 
 -- a grant to the global of u gives u a solver index, and no other user
-grant-ungranted : (t : Table) (u g : ℕ) (y : Result ℕ) → Sound t → getD (t .globalFromUser) u 0 ≡ g + 1 → Granted t g y → (v : ℕ)
+grant-ungranted : (t : Table) (u g : ℕ) (y : Result ℕ) → Sound t → getD (t .globalFromUser) u 0 ≡ g + 1 → GrantDone t g y → (v : ℕ)
     → isUngranted (y .table) v ≡ isUngranted t v && not (eqb u v)
 grant-ungranted t u g y p h d v = go (ℕ-discrete u v) (getD (t .globalFromUser) v 0) refl
   where
@@ -235,13 +236,29 @@ pose-step t lits i s x y r l o k =
     record {
       sound = d .sound;
       capacity = d .same .capacity ∙ m .same .capacity ∙ o .capacity;
-      frees = λ v. rw (d .same .globalFromUser, map-frees s u x (o .sound) m v, o .frees v, o .covers v, any-more (λ c. eqb (indexOf c) v) lits i 0 l, any-more (λ c. ltb v (indexOf c)) lits i 0 l)
+      frees = λ v. rw (
+        d .same .globalFromUser,
+        map-frees s u x (o .sound) m v,
+        o .frees v,
+        o .covers v,
+        any-more (λ c. eqb (indexOf c) v) lits i 0 l,
+        any-more
+            (λ c. ltb v (indexOf c)) lits i 0 l,
+      )
           (free-more (isFree t v) (isNamed (take i lits) v) (isPassed (take i lits) v) (leb (t .counts .user) v) (eqb u v) (ltb v u));
-      covers = λ v. rw (d .same .user, map-covers s u x m v, o .covers v, any-more (λ c. eqb (indexOf c) v) lits i 0 l, any-more (λ c. ltb v (indexOf c)) lits i 0 l)
+      covers = λ v. rw (
+        d .same .user,
+        map-covers s u x m v,
+        o .covers v,
+        any-more (λ c. eqb (indexOf c) v) lits i 0 l,
+        any-more (λ c. ltb v (indexOf c)) lits i
+            0 l,
+      )
           (cover-more (isNamed (take i lits) v) (isPassed (take i lits) v) (leb (t .counts .user) v) (eqb u v) (ltb v u));
       undeleted = omega arith;
       ungranted = λ v. grant-ungranted (x .table) u (x .value) y (m .sound) (m .has) d v
-          ∙ rw (m .ungranted v, o .ungranted v, any-more (λ c. eqb (indexOf c) v) lits i 0 l) (ungranted-more (isUngranted t v) (isNamed (take i lits) v) (eqb u v));
+          ∙ rw (m .ungranted v, o .ungranted v, any-more (λ c. eqb (indexOf c) v) lits i 0 l)
+          (ungranted-more (isUngranted t v) (isNamed (take i lits) v) (eqb u v));
     }
 
 -- ---- Pose
@@ -333,7 +350,8 @@ unfolding usersToGrant
 to-grant-more t lits i s r l o =
     let u = indexOf (getD lits i 0) in
     let a =
-    count-either (t .counts .capacity) (λ v. isNamed (take i lits) v && isUngranted t v) (λ v. eqb u v && isUngranted s v) (λ v. isNamed (take (i + 1) lits) v && isUngranted t v)
+    count-either (t .counts .capacity) (λ v. isNamed (take i lits) v && isUngranted t v) (λ v. eqb u v && isUngranted s v)
+    (λ v. isNamed (take (i + 1) lits) v && isUngranted t v)
     (λ v. rw (any-more (λ c. eqb (indexOf c) v) lits i 0 l, o .ungranted v) (grant-more (isNamed (take i lits) v) (eqb u v) (isUngranted t v)))
     (λ v e. rw (o .ungranted v) (grant-apart (isNamed (take i lits) v) (eqb u v) (isUngranted t v) e)) in
     let b = count-point (t .counts .capacity) u (isUngranted s) (r .within i l) in

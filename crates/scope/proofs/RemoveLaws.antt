@@ -9,7 +9,6 @@ use native.Mathlib.Decide.{decLt, ℕ-discrete}
 use lib.Dec.{eqb}
 use lib.ListN.{getD}
 use lib.Seq.{getD-set-same, getD-set-other}
-use Rattle.scope.specs.declared.Counts.{Counts}
 use Rattle.scope.specs.Table.{Table, recordOf, modeOf, isolatedOf, assumedOf, withUnit, takeSolver}
 use Rattle.scope.specs.Sound.{Sound}
 use Rattle.scope.specs.Outcome.{Result, each}
@@ -18,7 +17,7 @@ use Rattle.scope.specs.Remove.{removeHeld, remove, learn, sweepHeld, swe
 use Rattle.scope.proofs.PairLaws.{below-mark}
 use Rattle.scope.proofs.MoveLaws.{Reach, stop, reach-one, reach-then, reach-sound, takes-solver, puts-record}
 use Rattle.scope.proofs.ResultLaws.{Good, by-choose, by-word, safe-each, each-keeps}
-use Rattle.scope.proofs.ModeLaws.{delete-reach, delete-same, put-record-same, stay-same, SameButRecord}
+use Rattle.scope.proofs.ModeLaws.{delete-reach, delete-same, put-record-same, stay-same, SameButRecord, SameMarks, marks-stay, marks-then}
 
 -- a global that holds a solver index is undeleted
 pub held-undeleted : (t : Table) (g s : ℕ) → Sound t → getD (t .globalFromSolver) s 0 ≡ g + 1 → recordOf t g < 36
@@ -84,7 +83,8 @@ learn-sound t g s p e = reach-sound (learn-reach t g s p e) p
 pub learn-same : (t : Table) (g s : ℕ) → SameButRecord t g (learn g s t)
 unfolding learn
 learn-same t g s =
-    by-word (SameButRecord t g) (getD (t .assignment) s 0) (λ e. stay-same t g) (λ v e. put-record-same t g (withUnit (recordOf t g) (getD (t .assignment) s 0)))
+    by-word (SameButRecord t g) (getD (t .assignment) s 0) (λ e. stay-same t g)
+    (λ v e. put-record-same t g (withUnit (recordOf t g) (getD (t .assignment) s 0)))
 
 -- the index is still held by it
 pub learn-holds : (t : Table) (g s : ℕ) → getD (t .globalFromSolver) s 0 ≡ g + 1 → getD (learn g s t .globalFromSolver) s 0 ≡ g + 1
@@ -112,7 +112,7 @@ sweep-sound t p = reach-sound (sweep-reach t p) p
 -- ---- what a turn at s leaves alone: everything but the index s, its global g and the record of g
 
 pub record SameButHeld (t : Table) (g s : ℕ) (r : Table) : Type 0 where
-  pub counts : r .counts ≡ t .counts
+  pub marks : SameMarks (r .counts) (t .counts)
   pub globalFromUser : r .globalFromUser ≡ t .globalFromUser
   pub userFromGlobal : r .userFromGlobal ≡ t .userFromGlobal
   pub assignment : r .assignment ≡ t .assignment
@@ -123,7 +123,7 @@ pub record SameButHeld (t : Table) (g s : ℕ) (r : Table) : Type 0 where
 same-held : {t r : Table} (g s : ℕ) → SameButRecord t g r → SameButHeld t g s r
 same-held g s x =
     record {
-      counts = x .counts;
+      marks = x .marks;
       globalFromUser = x .globalFromUser;
       userFromGlobal = x .userFromGlobal;
       assignment = x .assignment;
@@ -135,7 +135,7 @@ same-held g s x =
 held-then : {t r q : Table} {g s : ℕ} → SameButHeld t g s r → SameButHeld r g s q → SameButHeld t g s q
 held-then a b =
     record {
-      counts = b .counts ∙ a .counts;
+      marks = marks-then (b .marks) (a .marks);
       globalFromUser = b .globalFromUser ∙ a .globalFromUser;
       userFromGlobal = b .userFromGlobal ∙ a .userFromGlobal;
       assignment = b .assignment ∙ a .assignment;
@@ -148,7 +148,7 @@ take-same : (t : Table) (g s : ℕ) → SameButHeld t g s (takeSolver g s t)
 unfolding takeSolver
 take-same t g s =
     record {
-      counts = refl;
+      marks = marks-stay (t .counts);
       globalFromUser = refl;
       userFromGlobal = refl;
       assignment = refl;
@@ -172,7 +172,7 @@ sweep-held-same t g s =
 -- after i turns: what stands at the indices from i up, and at the globals that hold them, is as it was
 pub record Swept (t : Table) (i : ℕ) (r : Table) : Type 0 where
   pub sound : Sound r
-  pub counts : r .counts ≡ t .counts
+  pub marks : SameMarks (r .counts) (t .counts)
   pub globalFromUser : r .globalFromUser ≡ t .globalFromUser
   pub userFromGlobal : r .userFromGlobal ≡ t .userFromGlobal
   pub assignment : r .assignment ≡ t .assignment
@@ -185,7 +185,7 @@ unfolding sweepOne
 sweep-one-passed t i r p o = by-word (λ (x : Result (List ℕ)). Swept t (i + 1) (x .table)) (getD (r .globalFromSolver) i 0)
     (λ e. record {
       sound = o .sound;
-      counts = o .counts;
+      marks = o .marks;
       globalFromUser = o .globalFromUser;
       userFromGlobal = o .userFromGlobal;
       assignment = o .assignment;
@@ -204,7 +204,7 @@ sweep-one-passed t i r p o = by-word (λ (x : Result (List ℕ)). Swept t (i + 1
     omega arith in
     record {
       sound = reach-sound q (o .sound);
-      counts = x .counts ∙ o .counts;
+      marks = marks-then (x .marks) (o .marks);
       globalFromUser = x .globalFromUser ∙ o .globalFromUser;
       userFromGlobal = x .userFromGlobal ∙ o .userFromGlobal;
       assignment = x .assignment ∙ o .assignment;
@@ -218,7 +218,7 @@ sweep-passed t p i =
     each-keeps sweepOne t (Swept t) i
     (record {
       sound = p;
-      counts = refl;
+      marks = marks-stay (t .counts);
       globalFromUser = refl;
       userFromGlobal = refl;
       assignment = refl;
@@ -270,7 +270,8 @@ kept-turn i r p k = by-word (λ (x : Result (List ℕ)). Kept (i + 1) (x .table)
     go : (s h : ℕ) → s < i + 1 → (g : ℕ) → getD (r .globalFromSolver) i 0 ≡ g + 1
         → getD (sweepHeld g i (learn g i r) .table .globalFromSolver) s 0 ≡ h + 1 → Dec (s ≡ i)
         → isDue (recordOf (sweepHeld g i (learn g i r) .table) h) ≡ false
-    go s h l g e w (yes z) = turn-kept (learn g i r) g i (learn-sound r g i p e) (learn-holds r g i e) h (ap (λ (k : ℕ). getD (sweepHeld g i (learn g i r) .table .globalFromSolver) k 0) (sym z) ∙ w)
+    go s h l g e w (yes z) = turn-kept (learn g i r) g i (learn-sound r g i p e) (learn-holds r g i e) h
+        (ap (λ (k : ℕ). getD (sweepHeld g i (learn g i r) .table .globalFromSolver) k 0) (sym z) ∙ w)
     go s h l g e w (no z) =
         let x = sweep-held-same r g i in
         let y = sym (x .holders s z) ∙ w in
@@ -287,7 +288,7 @@ unfolding sweep
 sweep-complete t p s g e =
     let o = sweep-passed t p _ in
     let l = below-mark s g (o .sound .solver) e in
-    let c = ap (λ (c : Counts). c .solver) (o .counts) in
+    let c = o .marks .solver in
     kept-all _ .due s g (omega arith) e
   where
     kept-all : (i : ℕ) → Kept i (each i sweepOne t .table)

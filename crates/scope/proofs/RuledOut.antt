@@ -9,9 +9,9 @@ use mathlib.Core.Logic.{_≢_}
 use native.Mathlib.Omega.{arith}
 use lib.ListN.{length, getD}
 use borrow.Author.Tests.{lt-leb, le-ltb}
-use Rattle.scope.specs.Table.{Table, recordOf}
+use Rattle.scope.specs.Table.{Table, recordOf, undeleted}
 use Rattle.scope.specs.Sound.{Sound}
-use Rattle.scope.specs.Map.{undeleted, toMap, unsampled, mapUser, newUser, nextUser, mapRefusal, newUserRefusal}
+use Rattle.scope.specs.Map.{toMap, unsampled, mapUser, newUser, nextUser, mapRefusal, newUserRefusal}
 use Rattle.scope.specs.Grant.{grant, grantRefusal}
 use Rattle.scope.proofs.SoundLaws.{sound-to}
 use Rattle.scope.proofs.MapLaws.{MapRoom, map-user-count, next-user-to-map}

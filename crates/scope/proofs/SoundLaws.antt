@@ -50,7 +50,7 @@ atMost-to : (m d : ℕ) (xs : List ℕ) → ((i : ℕ) → getD xs i d ≤ m) �
 unfolding atMostb
 atMost-to m d xs h = all-intro (length xs) _ (λ i l. simp truth (rw (getD-default xs i 0 d l) (h i)))
 
-tail-of : (mark blank : ℕ) (xs : List ℕ) → tailb mark blank xs ≡ true → (i : ℕ) → mark ≤ i → getD xs i blank ≡ blank
+pub tail-of : (mark blank : ℕ) (xs : List ℕ) → tailb mark blank xs ≡ true → (i : ℕ) → mark ≤ i → getD xs i blank ≡ blank
 unfolding tailb
 tail-of mark blank xs h =
     everywhere (λ (i x : ℕ). mark ≤ i → x ≡ blank) xs blank
@@ -77,7 +77,7 @@ back-to a b h = all-intro (length a) _ (λ i l. simp truth (λ n. h i (getD a i 
 
 -- ---- sizes
 
-sizes-of : (t : Table) → sizesb t ≡ true → marksb (t .counts) ≡ true → Sizes t
+pub sizes-of : (t : Table) → sizesb t ≡ true → marksb (t .counts) ≡ true → Sizes t
 unfolding sizesb marksb
 sizes-of t h m = let k = simp truth at h in let l = simp truth at m in omega arith
 
@@ -111,13 +111,15 @@ row-of records users solvers lu ls m n d g = ⊎-elim
       gone = λ k. let z = y k in (z .0 .0, z .0 .1, z .1);
     })
     (λ (l : length records ≤ g).
-    rw (List·getD-eq-default records 47 l, List·getD-eq-default users 0 {n = g} (omega arith), List·getD-eq-default solvers 0 {n = g} (omega arith)) (omega arith))
+    rw (List·getD-eq-default records 47 l, List·getD-eq-default users 0 {n = g} (omega arith), List·getD-eq-default solvers 0 {n = g} (omega arith))
+    (omega arith))
     (split g (length records))
 
 named-to : (records users : List ℕ) → ((g : ℕ) → getD users g 0 ≢ 0 → Shown (getD records g 47))
     → ((g : ℕ) → Shown (getD records g 47) → getD users g 0 ≢ 0) → namedb records users ≡ true
 unfolding namedb
-named-to records users f k = all-intro (length records) _ (λ g l. simp truth (λ n. shown-to (getD records g 47) (f g n), λ e. k g (shown-of (getD records g 47) e)))
+named-to records users f k =
+    all-intro (length records) _ (λ g l. simp truth (λ n. shown-to (getD records g 47) (f g n), λ e. k g (shown-of (getD records g 47) e)))
 
 deleted-to : (records solvers : List ℕ)
     → ((g : ℕ) → 36 ≤ getD records g 47 → (modeOf (getD records g 47) ≡ 2) × (isolatedOf (getD records g 47) ≡ 1) × (getD solvers g 0 ≡ 0))
@@ -142,7 +144,17 @@ pub tests-of : (t : Table) → soundb t ≡ true → Tests t
 unfolding soundb
 tests-of t h =
     let k = simp truth at h in
-    record { sizes = k .0 .0 .0 .0 .0 .0 .0; marks = k .0 .0 .0 .0 .0 .0 .1; records = k .0 .0 .0 .0 .0 .1; values = k .0 .0 .0 .0 .1; tails = k .0 .0 .0 .1; pairs = k .0 .0 .1; named = k .0 .1; deleted = k .1 }
+    record {
+      sizes = k .0 .0 .0 .0 .0 .0 .0;
+      marks = k .0 .0 .0 .0 .0 .0 .1;
+      records = k .0 .0 .0 .0 .0 .1;
+      values = k .0 .0 .0 .0 .1;
+      tails =
+          k .0 .0 .0 .1;
+      pairs = k .0 .0 .1;
+      named = k .0 .1;
+      deleted = k .1;
+    }
 
 pub tests-to : (t : Table) → Tests t → soundb t ≡ true
 unfolding soundb
@@ -158,7 +170,8 @@ sound-of t h =
     let y = simp truth at (k .pairs) in
     record {
       sizes = z;
-      user = pair-of (t .globalFromUser) (t .userFromGlobal) (t .counts .user) (t .counts .global) (y .0 .0 .0) (y .0 .0 .1) (x .0 .0 .0 .0 .0) (x .0 .0 .0 .0 .1);
+      user = pair-of (t .globalFromUser) (t .userFromGlobal) (t .counts .user) (t .counts .global) (y .0 .0 .0) (y .0 .0 .1) (x .0 .0 .0 .0 .0)
+          (x .0 .0 .0 .0 .1);
       solver = pair-of (t .globalFromSolver) (t .solverFromGlobal) (t .counts .solver) (t .counts .global) (y .1) (y .0 .1) (x .0 .0 .1) (x .0 .0 .0 .1);
       rows = record {
         row = row-of (t .records) (t .userFromGlobal) (t .solverFromGlobal) (omega arith) (omega arith) (k .records) (k .named) (k .deleted);
@@ -176,8 +189,25 @@ sound-to t p =
       marks = marks-to t (p .sizes);
       records = atMost-to 71 47 (t .records) (λ g. p .rows .row g .small);
       values = atMost-to 2 0 (t .assignment) (p .values .small);
-      tails = simp truth ((((((tail-to _ _ _ (p .user .atail), tail-to _ _ _ (p .user .btail)), tail-to _ _ _ (p .solver .btail)), tail-to _ _ _ (p .solver .atail)), tail-to _ _ _ (p .values .tail)), tail-to _ _ _ (p .rows .tail)));
-      pairs = simp truth (((back-to _ _ (λ i j. p .user .inverse i j .0), back-to _ _ (λ i j. p .user .inverse j i .1)), back-to _ _ (λ i j. p .solver .inverse j i .1)), back-to _ _ (λ i j. p .solver .inverse i j .0));
+      tails = simp truth ((
+        (
+          (
+            ((tail-to _ _ _ (p .user .atail), tail-to _ _ _ (p .user .btail)), tail-to _ _ _ (p .solver .btail)),
+            tail-to _ _ _
+                (p .solver .atail),
+          ),
+          tail-to _ _ _ (p .values .tail),
+        ),
+        tail-to _ _ _ (p .rows .tail),
+      ));
+      pairs = simp truth (
+        (
+          (back-to _ _ (λ i j. p .user .inverse i j .0), back-to _ _ (λ i j. p .user .inverse j i .1)),
+          back-to _ _
+              (λ i j. p .solver .inverse j i .1),
+        ),
+        back-to _ _ (λ i j. p .solver .inverse i j .0),
+      );
       named = named-to (t .records) (t .userFromGlobal) (λ g. p .rows .row g .named) (λ g. p .rows .row g .seen);
       deleted = deleted-to (t .records) (t .solverFromGlobal) (λ g. p .rows .row g .gone);
     })

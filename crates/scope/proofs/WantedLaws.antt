@@ -92,8 +92,15 @@ to-map-count t u p h = go (getD (t .globalFromUser) u 0) refl
         let w : getD (t .globalFromUser) v 0 ≡ 0 = rw e z in
         rw (eq-eqb (getD (t .globalFromUser) v 0) 0 w, eq-eqb u v (sym e), le-leb (min u (t .counts .user)) v (omega arith), lt-ltb v (u + 1) (omega arith))
     free v (no e) (yes d) z =
-        rw (eq-eqb (getD (t .globalFromUser) v 0) 0 (p .user .atail v d), ne-eqb u v (λ q. e (sym q)), le-leb (t .counts .user) v d, le-leb (min u (t .counts .user)) v (omega arith))
-        (both-ways (ltb v u) (ltb v (u + 1)) (λ q. let k = ltb-true v u q in lt-ltb v (u + 1) (omega arith)) (λ q. let k = ltb-true v (u + 1) q in lt-ltb v u (omega arith)))
+        rw (
+          eq-eqb (getD (t .globalFromUser) v 0) 0 (p .user .atail v d),
+          ne-eqb u v (λ q. e (sym q)),
+          le-leb (t .counts .user) v d,
+          le-leb
+              (min u (t .counts .user)) v (omega arith),
+        )
+        (both-ways (ltb v u) (ltb v (u + 1)) (λ q. let k = ltb-true v u q in lt-ltb v (u + 1) (omega arith)) (λ q. let k = ltb-true v (u + 1) q in
+        lt-ltb v u (omega arith)))
     free v (no e) (no d) z =
         rw (ne-eqb u v (λ q. e (sym q)), lt-leb (t .counts .user) v (omega arith)) (neither (isFree t v) (decLt v u))
       where
@@ -116,7 +123,8 @@ to-map-count t u p h = go (getD (t .globalFromUser) u 0) refl
     go : (w : ℕ) → getD (t .globalFromUser) u 0 ≡ w → toMap t u ≡ count n (λ v. isFree t v && takesIn (t .counts .user) u v)
     go zero e =
         let a = to-map-free t u e in
-        let b = count-same n (λ v. isFree t v && takesIn (t .counts .user) u v) (λ v. leb (min u (t .counts .user)) v && ltb v (u + 1)) (λ v l. free v (ℕ-discrete v u) (decLe (t .counts .user) v) e) in
+        let b = count-same n (λ v. isFree t v && takesIn (t .counts .user) u v) (λ v. leb (min u (t .counts .user)) v && ltb v (u + 1))
+        (λ v l. free v (ℕ-discrete v u) (decLe (t .counts .user) v) e) in
         let c = count-range n (min u (t .counts .user)) (u + 1) in
         omega arith
     go (suc g) e =
@@ -143,7 +151,12 @@ map-frees t u x p m v = go (ℕ-discrete v u) (decLt v (t .counts .user)) (decLt
         stays true = refl
         stays false = refl
     go (no e) (no b) (yes c) =
-        rw (ne-eqb (getD (x .table .globalFromUser) v 0) 0 (m .gap v (omega arith) c), ne-eqb u v (λ q. e (sym q)), le-leb (t .counts .user) v (omega arith), lt-ltb v u c)
+        rw (
+          ne-eqb (getD (x .table .globalFromUser) v 0) 0 (m .gap v (omega arith) c),
+          ne-eqb u v (λ q. e (sym q)),
+          le-leb (t .counts .user) v (omega arith),
+          lt-ltb v u c,
+        )
         (sym (and-not-right (isFree t v) false refl))
     go (no e) (no b) (no c) =
         let k = m .user in
@@ -163,7 +176,13 @@ map-covers t u x m v = rw (m .user) (go (decLt v (t .counts .user)) (ℕ-discret
     go (no a) (no b) (yes c) =
         rw (lt-leb (max (t .counts .user) (u + 1)) v (omega arith), le-leb (t .counts .user) v (omega arith), ne-eqb u v (λ q. b (sym q)), lt-ltb v u c)
     go (no a) (no b) (no c) =
-        rw (le-leb (max (t .counts .user) (u + 1)) v (omega arith), le-leb (t .counts .user) v (omega arith), ne-eqb u v (λ q. b (sym q)), le-ltb v u (omega arith))
+        rw (
+          le-leb (max (t .counts .user) (u + 1)) v (omega arith),
+          le-leb (t .counts .user) v (omega arith),
+          ne-eqb u v (λ q. b (sym q)),
+          le-ltb v u
+              (omega arith),
+        )
 
 -- at most one number is u
 pub count-point : (n u : ℕ) (p : ℕ → Bool) → u < n → count n (λ v. eqb u v && p v) ≡ pick (p u) 1 0

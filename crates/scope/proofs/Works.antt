@@ -14,12 +14,12 @@ use Rattle.scope.specs.declared.SamplingMode.{SamplingMode}
 use Rattle.scope.specs.declared.SamplingMode.the-variants.{Sample, Witness, Hide}
 use Rattle.scope.specs.declared.Mark.{Mark}
 use Rattle.scope.specs.Literals.{indexOf}
-use Rattle.scope.specs.Table.{Table, recordOf, modeOf, assumedOf, withMode, giveUser, takeUser, takeSolver, putRecord, putValue}
+use Rattle.scope.specs.Table.{Table, recordOf, modeOf, assumedOf, withMode, giveUser, takeUser, takeSolver, putRecord, putValue, undeleted, dropGlobal}
 use Rattle.scope.specs.Sound.{Sound, sizesb}
 use Rattle.scope.specs.Outcome.{Result, Outcome, each, unless, noting, changing, telling}
 use Rattle.scope.specs.Open.{emptyTable, openOf}
 use Rattle.scope.specs.Lookup.{lookupOf}
-use Rattle.scope.specs.Map.{undeleted, toMap, unsampled, mapUser, newUser, nextUser, mapRefusal, mapOf, newUserRefusal, newUserOf}
+use Rattle.scope.specs.Map.{toMap, unsampled, mapUser, newUser, nextUser, mapRefusal, mapOf, newUserRefusal, newUserOf}
 use Rattle.scope.specs.Grant.{grant, grantRefusal, grantOf}
 use Rattle.scope.specs.Modes.{modeNumber, deleteIfUnused, show, hide, change, setMode, setModeRefusal, setModeOf}
 use Rattle.scope.specs.Marks.{notHeld, holderOf, marked, mark, markRefusal, markOf, trueValue, assignRefusal, assignOf}
@@ -31,6 +31,7 @@ use Rattle.scope.proofs.ResultLaws.{by-choose, by-word, unless-none}
 use Rattle.scope.proofs.MapLaws.{MapRoom, map-user-mapped, new-user-room, next-user-to-map}
 use Rattle.scope.proofs.GrantLaws.{toGrant, grant-granted}
 use Rattle.scope.proofs.RemoveLaws.{holder-holds, held-undeleted, removed-free, isDue, sweep-complete}
+use Rattle.scope.proofs.MarkLaws.{held-else}
 use Rattle.scope.proofs.RuledOut.{map-accepted, new-user-accepted, grant-accepted}
 
 -- ---- Open and Lookup
@@ -98,7 +99,7 @@ set-mode-notes g m t =
 
 -- a deletion leaves the mode
 delete-mode : (g : ℕ) (t : Table) → g < length (t .records) → modeOf (recordOf (deleteIfUnused g t .table) g) ≡ modeOf (recordOf t g)
-unfolding deleteIfUnused putRecord
+unfolding deleteIfUnused dropGlobal putRecord
 delete-mode g t l =
     by-choose (λ (x : Result (List ℕ)). modeOf (recordOf (x .table) g) ≡ modeOf (recordOf t g)) _
     (λ e. rw (getD-set-same (t .records) g (recordOf t g + 36) 47 l) (omega arith))
@@ -165,11 +166,8 @@ unfolding removeOf removeRefusal remove notHeld
 remove-works t s room p n k =
     let c = remove-notes (holderOf t s) s t in
     let r : removeRefusal t s room ≡ 0 =
-    rw (
-      sound-to t p,
-      ne-eqb (getD (t .globalFromSolver) s 0) 0 n,
-      le-ltb room (3 * length (removeHeld (holderOf t s) s t .notes)) (omega arith),
-    ) in
+    rw (sound-to t p)
+    (held-else t s _ (ne-eqb (getD (t .globalFromSolver) s 0) 0 n) ∙ rw (le-ltb room (3 * length (removeHeld (holderOf t s) s t .notes)) (omega arith))) in
     let e = unless-none (removeRefusal t s room) t (noting (λ us. []) (remove s t)) r in
     (ap (λ (o : Outcome). o .answer) e, ap (λ (o : Outcome). getD (o .table .globalFromSolver) s 0) e ∙ removed-free t (holderOf t s) s p (holder-holds t s n))
 
@@ -211,7 +209,7 @@ unfolding markOf markRefusal notHeld mark putRecord
 mark-works t m s p n =
     let z = p .sizes in
     let l = undeleted-below t (holderOf t s) p (held-undeleted t (holderOf t s) s p (holder-holds t s n)) in
-    let r : markRefusal t s ≡ 0 = rw (sound-to t p, ne-eqb (getD (t .globalFromSolver) s 0) 0 n) in
+    let r : markRefusal t s ≡ 0 = rw (sound-to t p) (held-else t s 0 (ne-eqb (getD (t .globalFromSolver) s 0) 0 n)) in
     let e = unless-none (markRefusal t s) t (changing (mark m s t)) r in (
       ap (λ (o : Outcome). o .answer) e,
       ap (λ (o : Outcome). recordOf (o .table) (holderOf t s)) e
@@ -225,7 +223,8 @@ unfolding assignOf assignRefusal notHeld putValue
 assign-works t c p n v =
     let z = p .sizes in
     let l = below-mark (indexOf c) (holderOf t (indexOf c)) (p .solver) (holder-holds t (indexOf c) n) in
-    let r : assignRefusal t c ≡ 0 = rw (sound-to t p, ne-eqb (getD (t .globalFromSolver) (indexOf c) 0) 0 n, eq-eqb (getD (t .assignment) (indexOf c) 0) 0 v) in
+    let h = ne-eqb (getD (t .globalFromSolver) (indexOf c) 0) 0 n in
+    let r : assignRefusal t c ≡ 0 = rw (sound-to t p) (held-else t (indexOf c) _ h ∙ rw (eq-eqb (getD (t .assignment) (indexOf c) 0) 0 v)) in
     let e = unless-none (assignRefusal t c) t (changing (putValue (indexOf c) (trueValue c) t)) r in (
       ap (λ (o : Outcome). o .answer) e,
       ap (λ (o : Outcome). getD (o .table .assignment) (indexOf c) 0) e ∙ getD-set-same (t .assignment) (indexOf c) (trueValue c) 0 (omega arith),

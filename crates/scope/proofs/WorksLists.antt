@@ -21,18 +21,18 @@ use Rattle.drat.proofs.Written.{encode-spells}
 use Rattle.drat.proofs.Complete.{spells-read}
 use Rattle.scope.specs.declared.ProofStep.{ProofStep}
 use Rattle.scope.specs.Literals.{indexOf, signOf, codeOf}
-use Rattle.scope.specs.Table.{Table, recordOf, modeOf, assumedOf, withMode, giveUser}
+use Rattle.scope.specs.Table.{Table, recordOf, modeOf, assumedOf, withMode, giveUser, undeleted}
 use Rattle.scope.specs.Sound.{Sound}
 use Rattle.scope.specs.Outcome.{Result, Outcome, each}
-use Rattle.scope.specs.Map.{undeleted, unsampled, mapUser}
+use Rattle.scope.specs.Map.{unsampled, mapUser}
 use Rattle.scope.specs.Grant.{grant}
 use Rattle.scope.specs.Pose.{poseOne, pose, usersToMap, poseRefusal, poseOf}
 use Rattle.scope.specs.Modes.{show, isHidden, observeOne, observe, observeRefusal, observeOf}
 use Rattle.scope.specs.Steps.{ruleOf, literalsOf, hashesOf, stepWords, clauseSteps}
-use Rattle.scope.specs.Write.{renameLits, holders, unmatched, outside, unheld, stepRefusal, renameRefusal, renameOf, lacked, stepBytes, writeRefusal, writeOf}
+use Rattle.scope.specs.Write.{renameLits, holders, unmatched, outside, stepRefusal, renameRefusal, renameOf, lacked, stepBytes, writeRefusal, writeOf}
 use Rattle.scope.specs.declared.Simplified.{Simplified}
 use Rattle.scope.specs.declared.Simplified.the-variants.{Kept, Dropped, Shortened, Binary}
-use Rattle.scope.specs.Marks.{notHeld}
+use Rattle.scope.specs.Marks.{notHeld, unheld}
 use Rattle.scope.specs.Simplify.{isTrue, isFalse, unfalse, simplified, restOf, simplifySteps, simplifyBytes, simplifyRefusal, simplifyOf}
 use Rattle.scope.specs.Models.{globalModel, userModel, modelRefusal, modelOf}
 use Rattle.scope.proofs.SoundLaws.{sound-to}
@@ -43,6 +43,7 @@ use Rattle.scope.proofs.MapLaws.{MapRoom, map-user-mapped, map-user-has
 use Rattle.scope.proofs.GrantLaws.{grant-granted, grant-has}
 use Rattle.scope.proofs.PoseLaws.{PoseRoom, poseStep, usersToGrant, pose-room, pose-one-posed, pose-count, pose-part-words}
 use Rattle.scope.proofs.WriteLaws.{rename-codes, solver-codes, keep-none, written-valid}
+use Rattle.scope.proofs.MarkLaws.{lits-else}
 
 -- ---- Observe
 
@@ -143,7 +144,7 @@ pub step-accepted : (t : Table) (step : ProofStep) (solverVars : Bool) (lits has
     → outside t solverVars (literalsOf step lits) ≡ false → unheld t solverVars (literalsOf step lits) ≡ false
     → stepRefusal t step solverVars lits hashes rest ≡ rest
 unfolding stepRefusal
-step-accepted t step solverVars lits hashes rest p a b c = rw (sound-to t p, a, b, c)
+step-accepted t step solverVars lits hashes rest p a b c = rw (sound-to t p, a, b) (lits-else t solverVars (literalsOf step lits) rest c)
 
 pub rename-works : (t : Table) (step : ProofStep) (solverVars : Bool) (lits hashes : List ℕ) (outs hashOuts : ℕ) → Sound t
     → unmatched step lits hashes ≡ false → outside t solverVars (literalsOf step lits) ≡ false → unheld t solverVars (literalsOf step lits) ≡ false
@@ -198,14 +199,9 @@ pub simplify-works : (f : Format) (t : Table) (lits : List ℕ) (redundant : Boo
 unfolding simplifyOf simplifyRefusal simplifyBytes
 simplify-works f t lits redundant outs room p h b c k l =
     let r : simplifyRefusal f t lits redundant outs room ≡ 0 =
-    rw (
-      sound-to t p,
-      le-ltb 8192 (length lits) h,
-      b,
-      c,
-      le-ltb outs (length (restOf (simplified t lits) t lits)) k,
-      le-ltb room (length (simplifyBytes f t lits redundant)) l,
-    ) in
+    rw (sound-to t p, le-ltb 8192 (length lits) h)
+    (lits-else t true lits _ b
+    ∙ rw (c, le-ltb outs (length (restOf (simplified t lits) t lits)) k, le-ltb room (length (simplifyBytes f t lits redundant)) l)) in
     let e = unless-none (simplifyRefusal f t lits redundant outs room) t _ r in (
       ap (λ (o : Outcome). o .words) e,
       ap (λ (o : Outcome). readProof f (o .bytes)) e ∙ spells-read (encode-spells f _ (simplify-valid (simplified t lits) t lits redundant p b)),

@@ -19,9 +19,9 @@ use Rattle.scope.specs.declared.Writes.the-variants.{Add, AddEach, Delet
 use Rattle.scope.specs.Literals.{indexOf}
 use Rattle.scope.specs.Table.{Table}
 use Rattle.scope.specs.Sound.{Sound}
-use Rattle.scope.specs.Marks.{notHeld, holderOf}
+use Rattle.scope.specs.Marks.{notHeld, holderOf, unheld}
 use Rattle.scope.specs.Steps.{written}
-use Rattle.scope.specs.Write.{renameLit, renameLits, holders, outside, unheld}
+use Rattle.scope.specs.Write.{renameLit, renameLits, holders, outside}
 use Rattle.scope.proofs.PairLaws.{below-mark, pair-flip}
 
 -- the holder of a held index is below the capacity

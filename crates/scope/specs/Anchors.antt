@@ -10,30 +10,30 @@ use Rattle.scope.specs.Notes.{Note, notesWords}
 use Rattle.scope.specs.Outcome.{Outcome}
 
 -- What is looked at: all that a call does, with the words of its notes; or words, a number, a test.
-pub data Seen : Type 0 where
-  call : Outcome → List ℕ → Seen
-  words : List ℕ → Seen
-  number : ℕ → Seen
-  test : Bool → Seen
+pub data CallSeen : Type 0 where
+  call : Outcome → List ℕ → CallSeen
+  words : List ℕ → CallSeen
+  number : ℕ → CallSeen
+  test : Bool → CallSeen
 
 -- what the definitions give, and what document 01 says
-pub record Row : Type 0 where
-  pub gives : Seen
-  pub says : Seen
+pub record Anchor : Type 0 where
+  pub gives : CallSeen
+  pub says : CallSeen
 
 -- In every row they are the same.
-abbrev pub Agree : List Row → Type 0
-Agree [] = Unit {0}
-Agree (r ∷ rows) = (r .gives ≡ r .says) × Agree rows
+abbrev pub AnchorsAgree : List Anchor → Type 0
+AnchorsAgree [] = Unit {0}
+AnchorsAgree (r ∷ rows) = (r .gives ≡ r .says) × AnchorsAgree rows
 
 -- ---- how rows are written
 
 infix 80 _is_
-abbrev pub _is_ : Seen → Seen → Row
+abbrev pub _is_ : CallSeen → CallSeen → Anchor
 x is y = record { gives = x; says = y }
 
 -- all that a call does
-abbrev pub does : Outcome → Seen
+abbrev pub does : Outcome → CallSeen
 does o = call o (notesWords (o .notes))
 
 -- words
@@ -67,21 +67,21 @@ tab n u g s gu ug sg gs a r =
     }
 
 -- refused with this number: nothing is changed
-abbrev pub turns : ℕ → Table → Seen
+abbrev pub turns : ℕ → Table → CallSeen
 turns n t = call (record { answer = refused n []; table = t; notes = []; words = []; more = []; bytes = [] }) []
 
 -- accepted with these values: nothing is changed; only the table is changed
-abbrev pub says : List ℕ → Table → Seen
+abbrev pub says : List ℕ → Table → CallSeen
 says vs t = call (record { answer = accepted vs; table = t; notes = []; words = []; more = []; bytes = [] }) []
 
 -- accepted with these values, this table, these notes in these words
-abbrev pub notes : List ℕ → Table → List Note → List ℕ → Seen
+abbrev pub notes : List ℕ → Table → List Note → List ℕ → CallSeen
 notes vs t ns ws = call (record { answer = accepted vs; table = t; notes = ns; words = []; more = []; bytes = [] }) ws
 
 -- the same with words filled into a further slice
-abbrev pub fills : List ℕ → Table → List Note → List ℕ → List ℕ → Seen
+abbrev pub fills : List ℕ → Table → List Note → List ℕ → List ℕ → CallSeen
 fills vs t ns ws outs = call (record { answer = accepted vs; table = t; notes = ns; words = outs; more = []; bytes = [] }) ws
 
 -- accepted with these values, the table unchanged: words, further words, bytes
-abbrev pub writes : List ℕ → Table → List ℕ → List ℕ → List ℕ → Seen
+abbrev pub writes : List ℕ → Table → List ℕ → List ℕ → List ℕ → CallSeen
 writes vs t outs more bs = call (record { answer = accepted vs; table = t; notes = []; words = outs; more = more; bytes = bs }) []

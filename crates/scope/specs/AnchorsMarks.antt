@@ -4,7 +4,7 @@ use mathlib.Core.List.{List, [], _∷_}
 use Rattle.scope.specs.declared.Mark.the-variants.{Used, Assumed, Released}
 use Rattle.scope.specs.Table.{Table}
 use Rattle.scope.specs.Marks.{markOf, assignOf}
-use Rattle.scope.specs.Anchors.{Row, _is_, does, w4, tab, turns, says}
+use Rattle.scope.specs.Anchors.{Anchor, _is_, does, w4, tab, turns, says}
 use Rattle.scope.specs.AnchorsNames.{unsound, mixed, holed}
 use Rattle.scope.specs.AnchorsModes.{lone, held1}
 
@@ -17,8 +17,8 @@ assigned a b = tab 4 3 3 2 (w4 2 3 1 0) (w4 3 1 2 0) (w4 2 0 1 0) (w4 3 1 0 0) (
 
 -- ---- Marks: 1, 8
 
-abbrev pub marks : List Row
-marks =
+abbrev pub markRows : List Anchor
+markRows =
     -- 1 before 8; 8: withdrawn, at the watermark, beyond the capacity
     does (markOf unsound Used 0) is turns 1 unsound
     ∷ does (markOf unsound Assumed 0) is turns 1 unsound
@@ -44,7 +44,7 @@ marks =
 
 -- ---- Assign: 1, 8, 9. A positive literal makes its index true, 2; a negative one false, 1.
 
-abbrev pub assigns : List Row
+abbrev pub assigns : List Anchor
 assigns =
     -- 1 before 8; 8 before 9, where a word was left at the removal; 9 for either value
     does (assignOf unsound 0) is turns 1 unsound

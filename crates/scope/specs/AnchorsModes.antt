@@ -8,7 +8,7 @@ use Rattle.scope.specs.Notes.{user+, user-, solver-, deletes, changes}
 use Rattle.scope.specs.Modes.{setModeOf, observeOf}
 use Rattle.scope.specs.Remove.{removeOf, sweepOf}
 use Rattle.scope.specs.Models.{modelOf}
-use Rattle.scope.specs.Anchors.{Row, _is_, does, w1, w2, w3, w4, w6, tab, turns, says, notes, fills, writes}
+use Rattle.scope.specs.Anchors.{Anchor, _is_, does, w1, w2, w3, w4, w6, tab, turns, says, notes, fills, writes}
 use Rattle.scope.specs.AnchorsNames.{unsound, opened2, hidden2, mixed, holed}
 
 -- ---- Set mode: 1, 3, 6, 7, 2
@@ -20,7 +20,7 @@ shown1 r = tab 2 1 1 0 (w2 1 0) (w2 1 0) (w2 0 0) (w2 0 0) (w2 0 0) (w2 r 47)
 abbrev pub hidden1 : ℕ → Table
 hidden1 r = tab 2 1 1 0 (w2 0 0) (w2 0 0) (w2 0 0) (w2 0 0) (w2 0 0) (w2 r 47)
 
-abbrev pub setModes : List Row
+abbrev pub setModes : List Anchor
 setModes =
     -- 1 before 3; 3 before 6, at the watermark; 6 before 7; 7 for the same mode, and before 2; 2 for one note and for two
     does (setModeOf unsound 0 Hide 0) is turns 1 unsound
@@ -75,7 +75,7 @@ unsoundHidden = tab 1 0 1 0 (w1 0) (w1 1) (w1 0) (w1 0) (w1 0) (w1 20)
 abbrev pub observed3 : Table
 observed3 = tab 3 2 3 1 (w3 0 2 0) (w3 0 2 0) (w3 0 0 1) (w3 3 0 0) (w3 1 0 0) (w3 11 9 5)
 
-abbrev pub observes : List Row
+abbrev pub observes : List Anchor
 observes =
     -- 1 before 7; 7 before 2, also for the last one; not for one that is deleted or is shown already
     does (observeOf unsoundHidden 0 0) is turns 1 unsoundHidden
@@ -103,7 +103,7 @@ held1 r = tab 2 0 1 1 (w2 0 0) (w2 0 0) (w2 1 0) (w2 1 0) (w2 1 0) (w2 r 47)
 abbrev pub removed1 : ℕ → Table
 removed1 r = tab 2 0 1 1 (w2 0 0) (w2 0 0) (w2 0 0) (w2 0 0) (w2 1 0) (w2 r 47)
 
-abbrev pub removes : List Row
+abbrev pub removes : List Anchor
 removes =
     -- 1 before 8; 8 before 2: withdrawn, at the watermark, beyond the capacity; 2 for one note and for two
     does (removeOf unsound 0 0) is turns 1 unsound
@@ -137,7 +137,7 @@ lone v r = tab 1 1 1 1 (w1 1) (w1 1) (w1 1) (w1 1) (w1 v) (w1 r)
 abbrev pub unsoundHeld : Table
 unsoundHeld = tab 1 1 1 1 (w1 1) (w1 0) (w1 1) (w1 1) (w1 0) (w1 9)
 
-abbrev pub sweeps : List Row
+abbrev pub sweeps : List Anchor
 sweeps =
     -- 1 before 2
     does (sweepOf unsoundHeld 0) is turns 1 unsoundHeld
@@ -167,7 +167,7 @@ valued4 = tab 4 3 4 1 (w4 4 2 3 0) (w4 0 2 3 1) (w4 0 1 0 0) (w4 2 0 0 0) (w4 1 
 abbrev pub valued3 : Table
 valued3 = tab 3 1 3 2 (w3 2 0 0) (w3 0 1 0) (w3 0 1 2) (w3 2 3 0) (w3 0 2 0) (w3 14 15 2)
 
-abbrev pub models : List Row
+abbrev pub models : List Anchor
 models =
     -- 1 before 2; 2 for the global words, and for the user literals
     does (modelOf unsoundHeld 0 0) is turns 1 unsoundHeld

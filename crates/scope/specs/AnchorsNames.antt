@@ -11,7 +11,7 @@ use Rattle.scope.specs.Lookup.{globalFromUserOf, userFromGlobalOf, solve
 use Rattle.scope.specs.Map.{mapOf, newUserOf}
 use Rattle.scope.specs.Grant.{grantOf}
 use Rattle.scope.specs.Pose.{poseOf}
-use Rattle.scope.specs.Anchors.{Row, _is_, does, words, number, w1, w2, w3, w4, w6, tab, turns, says, notes, fills}
+use Rattle.scope.specs.Anchors.{Anchor, _is_, does, words, number, w1, w2, w3, w4, w6, tab, turns, says, notes, fills}
 
 -- No table is sound whose user watermark is above the global one.
 abbrev pub unsound : Table
@@ -33,7 +33,7 @@ lengths n a b c d e f = tab n 0 0 0 (replicate a 1) (replicate b 1) (replicate c
 abbrev pub blank : ℕ → Table
 blank n = tab n 0 0 0 (replicate n 0) (replicate n 0) (replicate n 0) (replicate n 0) (replicate n 0) (replicate n 47)
 
-abbrev pub opens : List Row
+abbrev pub opens : List Anchor
 opens =
     does (openOf lent2) is says [] opened2
     ∷ does (openOf (lengths 0 0 0 0 0 0 0)) is turns 10 (lengths 0 0 0 0 0 0 0)
@@ -57,7 +57,7 @@ mixed = tab 4 3 3 2 (w4 2 3 1 0) (w4 3 1 2 0) (w4 2 0 1 0) (w4 3 1 0 0) (w4 2 0 
 abbrev pub holed : Table
 holed = tab 4 3 3 2 (w4 2 0 1 0) (w4 3 1 0 0) (w4 2 0 0 0) (w4 0 1 0 0) (w4 2 0 0 0) (w4 9 13 2 47)
 
-abbrev pub lookups : List Row
+abbrev pub lookups : List Anchor
 lookups =
     does (globalFromUserOf mixed 0) is says (w1 1) mixed
     ∷ does (globalFromUserOf mixed 1) is says (w1 2) mixed
@@ -118,7 +118,7 @@ abbrev pub one4 : Table
 one4 = tab 4 1 1 0 (w4 0 0 0 0) (w4 0 0 0 0) (w4 0 0 0 0) (w4 0 0 0 0) (w4 0 0 0 0) (w4 47 47 47 47)
 
 -- the number, the values and the count of notes, which is the last value, alone
-abbrev pub mapAnswers : List Row
+abbrev pub mapAnswers : List Anchor
 mapAnswers =
     number (getD (valuesOf (mapOf opened2 1 false 6 .answer)) 1 9) is number 2
     ∷ number (getD (valuesOf (mapOf mixed 0 false 0 .answer)) 1 9) is number 0
@@ -127,7 +127,7 @@ mapAnswers =
     ∷ number (numberOf (mapOf mixed 0 false 0 .answer)) is number 0
     ∷ []
 
-abbrev pub maps : List Row
+abbrev pub maps : List Anchor
 maps =
     -- 1 before 3; 3 before 5, at the capacity; 4, which is not for a Sample global nor where sampling is not required; 5 before 2
     does (mapOf unsound 1 false 0) is turns 1 unsound
@@ -166,7 +166,7 @@ maps =
 
 -- ---- New user: 1, 5, 2
 
-abbrev pub newUsers : List Row
+abbrev pub newUsers : List Anchor
 newUsers =
     -- 1 before 5 before 2
     does (newUserOf unsound 0) is turns 1 unsound
@@ -183,7 +183,7 @@ newUsers =
 
 -- ---- Grant: 1, 3, 6, 2
 
-abbrev pub grants : List Row
+abbrev pub grants : List Anchor
 grants =
     -- 1 before 3; 3 before 6, at the watermark; 6 before 2
     does (grantOf unsound 0 0) is turns 1 unsound
@@ -219,7 +219,7 @@ hidden3 = tab 3 2 2 0 (w3 0 0 0) (w3 0 0 0) (w3 0 0 0) (w3 0 0 0) (w3 0 0 0) (w3
 abbrev pub posed2 : Table
 posed2 = tab 2 2 2 2 (w2 1 2) (w2 1 2) (w2 2 1) (w2 2 1) (w2 0 0) (w2 9 9)
 
-abbrev pub poses : List Row
+abbrev pub poses : List Anchor
 poses =
     -- 1 before 3; 3 for an index at the capacity, or for the number of literals, before 4; 4 before 5; 5 before 2
     does (poseOf unsound (w1 2) false 0 0) is turns 1 unsound

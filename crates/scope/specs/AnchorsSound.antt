@@ -4,20 +4,20 @@ use mathlib.Core.List.{List, [], _∷_}
 use Rattle.scope.specs.Table.{Table}
 use Rattle.scope.specs.Lookup.{recordWordOf}
 use Rattle.scope.specs.AnchorsNames.{blank}
-use Rattle.scope.specs.Anchors.{Row, _is_, does, w1, w2, tab, turns, says}
+use Rattle.scope.specs.Anchors.{Anchor, _is_, does, w1, w2, tab, turns, says}
 
 -- a Lookup at or beyond every watermark: 1, or none
-abbrev pub refused : Table → Row
+abbrev pub refused : Table → Anchor
 refused t = does (recordWordOf t 9999) is turns 1 t
 
-abbrev pub taken : Table → Row
+abbrev pub taken : Table → Anchor
 taken t = does (recordWordOf t 9999) is says [] t
 
 -- capacity 1: user, global and solver watermark; global from user, user from global; solver from global, global from solver; assignment; record
 abbrev pub cell : ℕ → ℕ → ℕ → ℕ → ℕ → ℕ → ℕ → ℕ → ℕ → Table
 cell u g s gu ug sg gs a r = tab 1 u g s (w1 gu) (w1 ug) (w1 sg) (w1 gs) (w1 a) (w1 r)
 
-abbrev pub sounds : List Row
+abbrev pub sounds : List Anchor
 sounds =
     -- sizes: a capacity from 1 to 4,096, and six lists of that length
     refused (tab 0 0 0 0 [] [] [] [] [] [])

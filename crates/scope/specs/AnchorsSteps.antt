@@ -6,12 +6,13 @@ use lib.ListN.{replicate}
 use Rattle.drat.specs.declared.Format.the-variants.{Text, Binary}
 use Rattle.scope.specs.declared.Global.{Global}
 use Rattle.scope.specs.declared.DeleteClauseProof.the-variants.{Redundant, Satisfied, Simplified}
-use Rattle.scope.specs.declared.ProofStep.the-variants.{AddClause, AtClause, UnitClauses, DeleteClause, Model, Assumptions, FailedAssumptions, SolverVarName, UserVarName, DeleteVar, ChangeSamplingMode, ChangeHashBits, End}
+use Rattle.scope.specs.declared.ProofStep.the-variants.{AddClause, AtClause, UnitClauses, DeleteClause, Model, Assumptions, FailedAssumptions}
+use Rattle.scope.specs.declared.ProofStep.the-variants.{SolverVarName, UserVarName, DeleteVar, ChangeSamplingMode, ChangeHashBits, End}
 use Rattle.scope.specs.Table.{Table}
 use Rattle.scope.specs.Steps.{kindOf, causeOf}
 use Rattle.scope.specs.Simplify.{simplifyOf, deleteCause}
 use Rattle.scope.specs.Write.{renameOf, writeOf}
-use Rattle.scope.specs.Anchors.{Row, _is_, does, words, w1, w2, w3, w4, w6, tab, turns, writes}
+use Rattle.scope.specs.Anchors.{Anchor, _is_, does, words, w1, w2, w3, w4, w6, tab, turns, writes}
 use Rattle.scope.specs.AnchorsNames.{unsound, holed}
 
 -- Solver indices 0, 1, 2, 3 are held by the globals 3, 2, 0, 1, whose DIMACS numbers are 4, 3, 1, 2. 1 is false, 2 is true, the others have
@@ -24,7 +25,7 @@ the g = record { 0 = g }
 
 -- ---- Simplify: 1, 3, 8, 12, 2. 0 kept, 1 dropped, 2 shortened, 3 binary; literals left; the redundant flag; bytes.
 
-abbrev pub simplifies : List Row
+abbrev pub simplifies : List Anchor
 simplifies =
     -- 1 before 3; 3 before 8; 8 before 12, also beside a true literal; 12 before 2
     does (simplifyOf Text unsound (replicate 8193 0) true 0 0) is turns 1 unsound
@@ -65,7 +66,7 @@ simplifies =
     ∷ []
 
 -- The thirteen kinds, by their place in the table.
-abbrev pub kinds : List Row
+abbrev pub kinds : List Anchor
 kinds =
     words (kindOf AddClause ∷ kindOf (AtClause true) ∷ kindOf UnitClauses ∷ kindOf (DeleteClause Satisfied) ∷ []) is words (w4 0 1 2 3)
     ∷ words (kindOf Model ∷ kindOf Assumptions ∷ kindOf FailedAssumptions ∷ []) is words (w3 4 5 6)
@@ -74,7 +75,7 @@ kinds =
     ∷ []
 
 -- The delete's cause is redundant, 0, for a redundant clause; else satisfied, 1, where it is dropped, simplified, 2, where it is shortened.
-abbrev pub causes : List Row
+abbrev pub causes : List Anchor
 causes =
     words (causeOf Redundant ∷ causeOf Satisfied ∷ causeOf Simplified ∷ []) is words (w3 0 1 2)
     ∷ words (causeOf (deleteCause true Satisfied) ∷ causeOf (deleteCause true Simplified) ∷ []) is words (w2 0 0)
@@ -83,7 +84,7 @@ causes =
 
 -- ---- Rename: 1, 14, 3, 8, 2. The answer is the literals and the hashes filled, then the step: its kind and what it carries of its own.
 
-abbrev pub renames : List Row
+abbrev pub renames : List Anchor
 renames =
     -- 1 before 14; 14 before 3; 3 before 8, for the number of literals or for a global index at the capacity; 8 before 2; 2
     does (renameOf unsound UnitClauses true (w1 0) [] 0 0) is turns 1 unsound
@@ -127,7 +128,7 @@ renames =
 
 -- ---- Write: 1, 14, 3, 8, 11, 2. The answer is the bytes filled.
 
-abbrev pub written : List Row
+abbrev pub written : List Anchor
 written =
     -- 1 before 14; 14 before 3; 3 before 8, and before 11; 8 before 11; 11; 2
     does (writeOf Text unsound UnitClauses true (w1 0) [] 0) is turns 1 unsound

@@ -11,11 +11,11 @@ use Rattle.scope.specs.Table.{modeOf, unitOf, isolatedOf, assumedOf, isD
 use Rattle.scope.specs.Notes.{user+, user-, solver+, solver-, deletes, changes, noteWords, notesWords, heldBy}
 use Rattle.scope.specs.Modes.{modeNumber, isHidden}
 use Rattle.scope.specs.Marks.{marked, trueValue}
-use Rattle.scope.specs.Anchors.{Row, _is_, words, number, test, w2, w3, w4}
+use Rattle.scope.specs.Anchors.{Anchor, _is_, words, number, test, w2, w3, w4}
 
 -- ---- literals: 2 × index, plus 1 if negative; the DIMACS number is index + 1
 
-abbrev pub literals : List Row
+abbrev pub literals : List Anchor
 literals =
     words (codeOf 0 0 ∷ codeOf 0 1 ∷ codeOf 5 0 ∷ codeOf 4095 1 ∷ []) is words (w4 0 1 10 8191)
     ∷ words (indexOf 0 ∷ indexOf 1 ∷ indexOf 10 ∷ indexOf 8191 ∷ []) is words (w4 0 0 5 4095)
@@ -33,7 +33,7 @@ literals =
 abbrev pub partsOf : ℕ → List ℕ
 partsOf r = modeOf r ∷ unitOf r ∷ isolatedOf r ∷ assumedOf r ∷ []
 
-abbrev pub recordParts : List Row
+abbrev pub recordParts : List Anchor
 recordParts =
     words (partsOf 0) is words (w4 0 0 0 0)
     ∷ words (partsOf 1) is words (w4 1 0 0 0)
@@ -77,7 +77,7 @@ everyRecord p = allBelow 3 (λ m. allBelow 3 (λ v. allBelow 2 (λ i. allBelow 2
 abbrev pub turnsInto : (ℕ → ℕ) → (ℕ → ℕ → ℕ → ℕ → ℕ → ℕ) → Bool
 turnsInto f r = everyRecord (λ m v i a d. eqb (f (recordFrom m v i a d)) (r m v i a d))
 
-abbrev pub everyPart : List Row
+abbrev pub everyPart : List Anchor
 everyPart =
     test (turnsInto modeOf (λ m v i a d. m)) is test true
     ∷ test (turnsInto unitOf (λ m v i a d. v)) is test true
@@ -98,7 +98,7 @@ everyPart =
 
 -- ---- notes in words: the kind's number, the global, and what is told of it
 
-abbrev pub noteRows : List Row
+abbrev pub noteRows : List Anchor
 noteRows =
     words (noteWords (user+ 5 7)) is words (w3 0 5 8)
     ∷ words (noteWords (user- 5)) is words (w3 0 5 0)
@@ -113,7 +113,7 @@ noteRows =
 
 -- ---- who holds a solver index by the notes alone: g + 1, or 0 for nobody
 
-abbrev pub heldRows : List Row
+abbrev pub heldRows : List Anchor
 heldRows =
     number (heldBy [] 0) is number 0
     ∷ number (heldBy (solver+ 5 0 ∷ []) 0) is number 6

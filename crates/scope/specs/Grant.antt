@@ -4,15 +4,11 @@ use mathlib.Core.Bool.{not}
 use mathlib.Core.List.{[], _∷_}
 use lib.Dec.{leb}
 use lib.ListN.{getD}
-use Rattle.scope.specs.Table.{Table, word, recordOf, isDeleted, giveSolver}
+use Rattle.scope.specs.Table.{Table, word, recordOf, isDeleted, nextSolver, giveSolver}
 use Rattle.scope.specs.Sound.{soundb}
 use Rattle.scope.specs.Notes.{solver+}
 use Rattle.base.specs.Choice.{pick}
 use Rattle.scope.specs.Outcome.{Result, stay, Outcome, unless, short, noting}
-use Rattle.scope.specs.Map.{leastFree}
-
-unfoldable pub nextSolver : Table → ℕ
-nextSolver t = leastFree (t .globalFromSolver) (t .counts .solver)
 
 -- a global without solver index gets the least unmapped one; note S
 unfoldable pub grantOne : ℕ → Table → Result ℕ

@@ -5,15 +5,11 @@ use mathlib.Core.List.{List, [], _∷_}
 use lib.Dec.{eqb, ltb, leb}
 use lib.ListN.{getD}
 use Rattle.base.specs.Choice.{pick}
-use Rattle.base.specs.Bounded.{least, count}
-use Rattle.scope.specs.Table.{Table, word, modeOf, recordOf, isDeleted, userRecord, giveUser}
+use Rattle.base.specs.Bounded.{least}
+use Rattle.scope.specs.Table.{Table, word, modeOf, recordOf, isDeleted, userRecord, leastFree, undeleted, giveUser}
 use Rattle.scope.specs.Sound.{soundb}
 use Rattle.scope.specs.Notes.{user+}
 use Rattle.scope.specs.Outcome.{Result, stay, _then_, giving, each, Outcome, unless, short, noting}
-
--- the least unmapped index of a map, which is its watermark where none below is free
-unfoldable pub leastFree : List ℕ → ℕ → ℕ
-leastFree xs mark = least mark (λ i. eqb (getD xs i 0) 0)
 
 -- Which global a new user gets: the one of its own index, where that is deleted or the next never used; otherwise the deleted one of least
 -- index; otherwise the next never used.
@@ -43,9 +39,6 @@ unfoldable pub newUser : Table → Result (List ℕ)
 newUser t = giving (λ g. nextUser t ∷ g ∷ []) (mapUser (nextUser t) t)
 
 -- ---- refusals
-
-unfoldable pub undeleted : Table → ℕ
-undeleted t = count (t .counts .capacity) (λ g. ltb (recordOf t g) 36)
 
 -- how many users are to be mapped for u, the gap included
 unfoldable pub toMap : Table → ℕ → ℕ

@@ -8,7 +8,7 @@ use Rattle.base.specs.Bounded.{allBelow}
 use Rattle.base.specs.Answer.{accepted}
 use Rattle.scope.specs.declared.SamplingMode.{SamplingMode}
 use Rattle.scope.specs.declared.SamplingMode.the-variants.{Sample, Witness, Hide}
-use Rattle.scope.specs.Table.{Table, modeOf, isolatedOf, assumedOf, isDeleted, recordOf, withMode, giveUser, takeUser, putRecord}
+use Rattle.scope.specs.Table.{Table, modeOf, isolatedOf, assumedOf, isDeleted, recordOf, withMode, giveUser, takeUser, putRecord, dropGlobal}
 use Rattle.scope.specs.Sound.{soundb}
 use Rattle.scope.specs.Notes.{user+, user-, deletes, changes}
 use Rattle.base.specs.Choice.{pick}
@@ -26,7 +26,7 @@ isUnused t g = eqb (getD (t .userFromGlobal) g 0) 0 && (eqb (getD (t .solverFrom
 
 unfoldable pub deleteIfUnused : ℕ → Table → Result (List ℕ)
 deleteIfUnused g t =
-    choose (isUnused t g) (record { value = []; table = putRecord g (recordOf t g + 36) t; notes = deletes g ∷ [] }) (stay [] t)
+    choose (isUnused t g) (record { value = []; table = dropGlobal g t; notes = deletes g ∷ [] }) (stay [] t)
 
 -- from Hide to mode m: C, then U with the least unmapped user index, which is returned
 unfoldable pub show : ℕ → ℕ → Table → Result (List ℕ)

@@ -7,11 +7,11 @@ use lib.ListN.{length, getD}
 use Rattle.base.specs.Bounded.{count, anyOf}
 use Rattle.base.specs.Answer.{accepted}
 use Rattle.scope.specs.Literals.{codeOf, indexOf, signOf}
-use Rattle.scope.specs.Table.{Table}
+use Rattle.scope.specs.Table.{Table, undeleted}
 use Rattle.scope.specs.Sound.{soundb}
 use Rattle.base.specs.Choice.{pick}
 use Rattle.scope.specs.Outcome.{Result, _then_, giving, each, Outcome, unless, short}
-use Rattle.scope.specs.Map.{mapUser, undeleted, unsampled}
+use Rattle.scope.specs.Map.{mapUser, unsampled}
 use Rattle.scope.specs.Grant.{grant}
 
 -- one user literal: its solver literal

@@ -10,7 +10,7 @@ use Rattle.scope.specs.Notes.{solver-}
 use Rattle.base.specs.Choice.{pick}
 use Rattle.scope.specs.Outcome.{Result, stay, choose, joined, each, Outcome, unless, short, noting}
 use Rattle.scope.specs.Modes.{deleteIfUnused}
-use Rattle.scope.specs.Marks.{notHeld, holderOf}
+use Rattle.scope.specs.Marks.{holderOf, heldElse}
 
 -- S(g,-), then D if unused. The assignment word stays.
 unfoldable pub removeHeld : ℕ → ℕ → Table → Result (List ℕ)
@@ -23,7 +23,7 @@ remove s t = removeHeld (holderOf t s) s t
 unfoldable pub removeRefusal : Table → ℕ → ℕ → ℕ
 removeRefusal t s room =
     pick (not (soundb t)) 1
-    (pick (notHeld t s) 8
+    (heldElse t s
     (pick (short room (remove s t .notes)) 2 0))
 
 -- The answer is the count of notes.

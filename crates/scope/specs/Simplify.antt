@@ -19,7 +19,8 @@ use Rattle.scope.specs.Table.{Table}
 use Rattle.scope.specs.Sound.{soundb}
 use Rattle.scope.specs.Outcome.{Outcome, unless}
 use Rattle.scope.specs.Steps.{clauseSteps}
-use Rattle.scope.specs.Write.{renameLits, holders, unheld}
+use Rattle.scope.specs.Marks.{litsHeldElse}
+use Rattle.scope.specs.Write.{renameLits, holders}
 
 -- a literal's value by the assignment
 abbrev pub isTrue : Table → ℕ → Bool
@@ -74,7 +75,7 @@ unfoldable pub simplifyRefusal : Format → Table → List ℕ → Bool → ℕ 
 simplifyRefusal f t lits redundant outs room =
     pick (not (soundb t)) 1
     (pick (ltb 8192 (length lits)) 3
-    (pick (unheld t true lits) 8
+    (litsHeldElse t true lits
     (pick (not (anyOf (isTrue t) lits) && (anyOf (isFalse t) lits && ltb (length (unfalse t lits)) 2)) 12
     (pick (ltb outs (length (restOf (simplified t lits) t lits)) || ltb room (length (simplifyBytes f t lits redundant))) 2 0))))
 

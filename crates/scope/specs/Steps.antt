@@ -8,7 +8,8 @@ use Rattle.drat.specs.declared.Kind.the-variants.{Add, Delete}
 use Rattle.scope.specs.declared.DeleteClauseProof.{DeleteClauseProof}
 use Rattle.scope.specs.declared.DeleteClauseProof.the-variants.{Redundant, Satisfied, Simplified}
 use Rattle.scope.specs.declared.ProofStep.{ProofStep}
-use Rattle.scope.specs.declared.ProofStep.the-variants.{AddClause, AtClause, UnitClauses, DeleteClause, Model, Assumptions, FailedAssumptions, SolverVarName, UserVarName, DeleteVar, ChangeSamplingMode, ChangeHashBits, End}
+use Rattle.scope.specs.declared.ProofStep.the-variants.{AddClause, AtClause, UnitClauses, DeleteClause, Model, Assumptions, FailedAssumptions}
+use Rattle.scope.specs.declared.ProofStep.the-variants.{SolverVarName, UserVarName, DeleteVar, ChangeSamplingMode, ChangeHashBits, End}
 use Rattle.scope.specs.declared.Writes.{Writes}
 use Rattle.scope.specs.declared.Writes.the-variants.{Add as adds, AddEach, Delete as deletes, Nothing, Refused}
 use Rattle.scope.specs.declared.KindRule.{KindRule}

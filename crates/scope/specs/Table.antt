@@ -4,6 +4,7 @@ use mathlib.Core.Bool.{Bool, _&&_, not}
 use mathlib.Core.List.{List}
 use lib.Dec.{eqb, ltb, leb}
 use lib.ListN.{getD, set}
+use Rattle.base.specs.Bounded.{least, count}
 use Rattle.scope.specs.declared.Counts.{Counts}
 
 -- The counts with the six lists. A map holds 0 for none, else index + 1.
@@ -74,6 +75,18 @@ withUnit r v = r / 18 * 18 + 9 + 3 * v + modeOf r
 abbrev pub recordOf : Table → ℕ → ℕ
 recordOf t g = getD (t .records) g freshRecord
 
+-- ---- the next index, and how many globals are in use
+
+-- the least unmapped index of a map, which is its watermark where none below is free
+unfoldable pub leastFree : List ℕ → ℕ → ℕ
+leastFree xs mark = least mark (λ i. eqb (getD xs i 0) 0)
+
+unfoldable pub nextSolver : Table → ℕ
+nextSolver t = leastFree (t .globalFromSolver) (t .counts .solver)
+
+unfoldable pub undeleted : Table → ℕ
+undeleted t = count (t .counts .capacity) (λ g. ltb (recordOf t g) 36)
+
 -- ---- single changes
 
 -- Inserting raises the watermarks to cover the two indices.
@@ -138,3 +151,7 @@ putRecord g r t =
 unfoldable pub putValue : ℕ → ℕ → Table → Table
 putValue s v t =
     tableOf (t .counts) (t .globalFromUser) (t .userFromGlobal) (t .solverFromGlobal) (t .globalFromSolver) (set (t .assignment) s v) (t .records)
+
+-- the global g is deleted
+unfoldable pub dropGlobal : ℕ → Table → Table
+dropGlobal g t = putRecord g (recordOf t g + 36) t

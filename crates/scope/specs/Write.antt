@@ -17,7 +17,7 @@ use Rattle.scope.specs.Literals.{codeOf, indexOf, signOf}
 use Rattle.scope.specs.Table.{Table}
 use Rattle.scope.specs.Sound.{soundb}
 use Rattle.scope.specs.Outcome.{Outcome, unless}
-use Rattle.scope.specs.Marks.{notHeld}
+use Rattle.scope.specs.Marks.{litsHeldElse}
 use Rattle.scope.specs.Steps.{ruleOf, kindOf, stepWords, literalsOf, hashesOf, clauseSteps}
 
 -- A literal under its global name: a solver literal's index is looked up in `holder`, a map's word for each index, and the sign stays; a global
@@ -40,17 +40,13 @@ unmatched step lits hashes = eqb (kindOf step) (kindOf UnitClauses) && not (eqb 
 unfoldable pub outside : Table → Bool → List ℕ → Bool
 outside t solverVars lits = ltb 8192 (length lits) || (not solverVars && anyOf (λ c. leb (t .counts .capacity) (indexOf c)) lits)
 
--- a solver literal whose index is not held
-unfoldable pub unheld : Table → Bool → List ℕ → Bool
-unheld t solverVars lits = solverVars && anyOf (λ c. notHeld t (indexOf c)) lits
-
 -- 1; 14, units and hashes differ in number; 3; 8 for a solver literal; then `rest`.
 unfoldable pub stepRefusal : Table → ProofStep → Bool → List ℕ → List ℕ → ℕ → ℕ
 stepRefusal t step solverVars lits hashes rest =
     pick (not (soundb t)) 1
     (pick (unmatched step lits hashes) 14
     (pick (outside t solverVars (literalsOf step lits)) 3
-    (pick (unheld t solverVars (literalsOf step lits)) 8 rest)))
+    (litsHeldElse t solverVars (literalsOf step lits) rest)))
 
 -- ---- Rename: literals and hashes are filled, hashes unchanged.
 

@@ -38,7 +38,7 @@ fn cut(a: &mut [u32], b: &mut [u32], i: u32, j: u32)
     b[j as usize] = 0;
 }
 
-fn larger(a: u32, b: u32) -> u32
+pub fn larger(a: u32, b: u32) -> u32
     ensures { λ r. ⌜ r ≡ max a b ⌝ }
 {
     if a < b { b } else { a }

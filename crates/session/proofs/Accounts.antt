@@ -14,7 +14,8 @@ use Rattle.scope.specs.declared.Counts.{Counts}
 use Rattle.scope.specs.declared.SamplingMode.the-variants.{Hide}
 use Rattle.scope.specs.declared.ProofStep.the-variants.{AddClause, AtClause, UnitClauses, DeleteClause, Model, SolverVarName}
 use Rattle.scope.specs.declared.DeleteClauseProof.the-variants.{Redundant}
-use Rattle.scope.specs.Table.{Table, tableOf, word, isShown, giveUser, takeUser, giveSolver, takeSolver, putRecord, putValue}
+use Rattle.scope.specs.Table.{Table, tableOf, word, isShown, giveUser, takeUser, giveSolver, takeSolver, putRecord, putValue, dropGlobal, leastFree, nextSolver}
+use Rattle.scope.specs.Table.{undeleted}
 use Rattle.scope.specs.Sound.{soundb, sizesb, marksb, atMostb, tailb, backb, namedb, deletedb, tailsb, pairsb}
 use Rattle.scope.specs.Outcome.{choose, each, unless}
 use Rattle.scope.specs.Open.{emptyTable}
@@ -26,19 +27,19 @@ use Rattle.scope.specs.Grant as G
 use Rattle.scope.specs.Pose as P
 use Rattle.scope.specs.Modes as D
 use Rattle.scope.specs.Remove as R
-use Rattle.scope.specs.Marks.{notHeld, assignRefusal, assignOf}
-use Rattle.scope.specs.Write.{renameLits, unmatched, outside, unheld, stepRefusal, stepBytes, writeRefusal, writeOf}
+use Rattle.scope.specs.Marks.{notHeld, assignRefusal, assignOf, unheld, heldElse, litsHeldElse}
+use Rattle.scope.specs.Write.{renameLits, unmatched, outside, stepRefusal, stepBytes, writeRefusal, writeOf}
 use Rattle.scope.specs.Simplify.{unfalse, simplified, simplifyBytes, simplifyRefusal, simplifyOf}
 use Rattle.scope.specs.Calls.{mapUser, pose, grant, setMode, observe, assign, sweep, simplify, write, lending, perform}
 use Rattle.session.specs.Ledger.{notesOf, shownBy, Line, line, plus, minus, given, nil, cons, Enters}
 use Rattle.session.specs.Entered.{entriesOf, linesOf}
-use Rattle.session.specs.Session.{Turn, turn, does, State, start, enter, after, run}
-use Rattle.session.specs.Made.{notesIn, Part, none, Made, made, Program, ends, calls, seen, ledger}
+use Rattle.session.specs.Session.{Turn, turn, turnDoes, State, start, enter, afterTurn, run}
+use Rattle.session.specs.Made.{notesIn, Fillable, noneLent, Made, made, Program, ends, calls, seen, ledger}
 
 -- the answers, call by call
 abbrev answers : State → List Turn → List Answer
 answers σ [] = []
-answers σ (x ∷ xs) = does Text x (σ .table) .answer ∷ answers (after Text σ x) xs
+answers σ (x ∷ xs) = turnDoes Text x (σ .table) .answer ∷ answers (afterTurn Text σ x) xs
 
 -- ---- an index that goes from one global to another
 
@@ -98,11 +99,12 @@ pub handed-on :
     × (run Text (start (emptyTable 8)) handedOn .lines ≡ handedLines)
     × (run Text (start (emptyTable 8)) handedOn .bytes ≡ 45 ∷ 51 ∷ 32 ∷ 48 ∷ 10 ∷ 45 ∷ 50 ∷ 32 ∷ 48 ∷ 10 ∷ [])
 unfolding allBelow least count anyOf spell further bytesOf number numbers encodeStep encode word isShown giveUser takeUser giveSolver takeSolver
-    putRecord soundb sizesb marksb atMostb tailb backb namedb deletedb tailsb pairsb choose each unless emptyTable M.leastFree M.globalFor M.mapOne
-    M.fillGap M.mapUser M.nextUser M.undeleted M.toMap M.unsampled M.mapRefusal M.mapOf G.nextSolver G.grantOne G.grant G.grantRefusal G.grantOf
+    putRecord dropGlobal soundb sizesb marksb atMostb tailb backb namedb deletedb tailsb pairsb choose each unless emptyTable leastFree M.globalFor M.mapOne
+    M.fillGap M.mapUser M.nextUser undeleted M.toMap M.unsampled M.mapRefusal M.mapOf nextSolver G.grantOne G.grant G.grantRefusal G.grantOf
     D.isUnused D.deleteIfUnused D.show D.hide D.change D.setMode D.setModeRefusal D.setModeOf D.isHidden D.observeOne D.observe D.observeRefusal
-    D.observeOf R.removeHeld R.learn R.sweepHeld R.sweepOne R.sweep R.sweepRefusal R.sweepOf notHeld renameLits unmatched outside unheld stepRefusal
-    stepBytes writeRefusal writeOf notesOf perform does entriesOf linesOf enter after run
+    D.observeOf R.removeHeld R.learn R.sweepHeld R.sweepOne R.sweep R.sweepRefusal R.sweepOf notHeld heldElse renameLits unmatched outside unheld litsHeldElse
+    stepRefusal
+    stepBytes writeRefusal writeOf notesOf perform turnDoes entriesOf linesOf enter afterTurn run
 handed-on = (refl, refl, refl, refl)
 
 -- the clause enters under global 2, then under global 1
@@ -141,10 +143,11 @@ pub hidden-log :
     (run Text (start (emptyTable 8)) hiding .log ≡ hiddenLog)
     × (run Text (run Text (start (emptyTable 8)) hiding) (turn observe (lending 6 1 0 0) ∷ []) .log
     ≡ hiddenLog ++ noted (changes 1 false) ∷ noted (user+ 1 1) ∷ [])
-unfolding allBelow least count anyOf word isShown giveUser takeUser giveSolver putRecord soundb sizesb marksb atMostb tailb backb namedb deletedb
-    tailsb pairsb choose each unless emptyTable M.leastFree M.globalFor M.mapOne M.fillGap M.mapUser M.nextUser M.undeleted M.toMap M.unsampled
-    M.mapRefusal M.mapOf G.nextSolver G.grantOne G.grant G.grantRefusal G.grantOf D.isUnused D.deleteIfUnused D.show D.hide D.change D.setMode
-    D.setModeRefusal D.setModeOf D.isHidden D.observeOne D.observe D.observeRefusal D.observeOf notHeld notesOf perform does entriesOf linesOf enter after
+unfolding allBelow least count anyOf word isShown giveUser takeUser giveSolver putRecord dropGlobal soundb sizesb marksb atMostb tailb backb namedb deletedb
+    tailsb pairsb choose each unless emptyTable leastFree M.globalFor M.mapOne M.fillGap M.mapUser M.nextUser undeleted M.toMap M.unsampled
+    M.mapRefusal M.mapOf nextSolver G.grantOne G.grant G.grantRefusal G.grantOf D.isUnused D.deleteIfUnused D.show D.hide D.change D.setMode
+    D.setModeRefusal D.setModeOf D.isHidden D.observeOne D.observe D.observeRefusal D.observeOf notHeld heldElse notesOf perform turnDoes entriesOf linesOf
+    enter afterTurn
     run
 hidden-log = (refl, refl)
 
@@ -230,11 +233,13 @@ pub all-clauses :
     ∷ 100 ∷ 32 ∷ 50 ∷ 32 ∷ 48 ∷ 10
     ∷ 45 ∷ 56 ∷ 32 ∷ 48 ∷ 10
     ∷ [])
-unfolding allBelow least count anyOf keepOf spell further bytesOf number numbers encodeStep encode word isShown giveUser giveSolver putRecord putValue
-    soundb sizesb marksb atMostb tailb backb namedb deletedb tailsb pairsb choose each unless emptyTable M.leastFree M.globalFor M.mapOne M.fillGap
-    M.mapUser M.undeleted M.unsampled G.nextSolver G.grantOne G.grant P.poseOne P.pose P.wanted P.usersToMap P.poseRefusal P.poseOf notHeld assignRefusal
-    assignOf renameLits unmatched outside unheld stepRefusal stepBytes writeRefusal writeOf unfalse simplified simplifyBytes simplifyRefusal simplifyOf
-    notesOf perform does entriesOf linesOf enter after run
+unfolding allBelow least count anyOf keepOf spell further bytesOf number numbers encodeStep encode word isShown giveUser giveSolver putRecord dropGlobal
+    putValue
+    soundb sizesb marksb atMostb tailb backb namedb deletedb tailsb pairsb choose each unless emptyTable leastFree M.globalFor M.mapOne M.fillGap
+    M.mapUser undeleted M.unsampled nextSolver G.grantOne G.grant P.poseOne P.pose P.wanted P.usersToMap P.poseRefusal P.poseOf notHeld heldElse assignRefusal
+    assignOf renameLits unmatched outside unheld litsHeldElse stepRefusal stepBytes writeRefusal writeOf unfalse simplified simplifyBytes simplifyRefusal
+    simplifyOf
+    notesOf perform turnDoes entriesOf linesOf enter afterTurn run
 all-clauses = (refl, refl, refl, refl)
 
 held0 : Held 0 3 posed
@@ -277,8 +282,8 @@ all-enter =
 
 -- ---- a program, as it stands in memory
 
-abbrev pub marks : ℕ → ℕ → Counts
-marks names solvers = record { capacity = 1; user = names; global = names; solver = solvers }
+abbrev pub countsAt : ℕ → ℕ → Counts
+countsAt names solvers = record { capacity = 1; user = names; global = names; solver = solvers }
 
 abbrev pub saying : List ℕ → Counts → Said
 saying values c = record { answer = accepted values; counts = c }
@@ -297,17 +302,17 @@ granted c = tableOf c (1 ∷ []) (1 ∷ []) (1 ∷ []) (1 ∷ []) (0 ∷ []) (9 
 -- `-1 0`, with one more as it was.
 abbrev pub mapping : Made
 mapping =
-    made (mapUser 0 false) (saying (0 ∷ 1 ∷ []) (marks 1 0))
-    (keeping (emptyTable 1) named (7 ∷ 7 ∷ 7 ∷ 1 ∷ 2 ∷ 1 ∷ []) (0 ∷ 0 ∷ 1 ∷ 1 ∷ 2 ∷ 1 ∷ [])) none none none
+    made (mapUser 0 false) (saying (0 ∷ 1 ∷ []) (countsAt 1 0))
+    (keeping (emptyTable 1) named (7 ∷ 7 ∷ 7 ∷ 1 ∷ 2 ∷ 1 ∷ []) (0 ∷ 0 ∷ 1 ∷ 1 ∷ 2 ∷ 1 ∷ [])) noneLent noneLent noneLent
 
 abbrev pub granting : Made
 granting =
-    made (grant 0) (saying (0 ∷ 1 ∷ []) (marks 1 1))
-    (keeping (named (marks 1 0)) granted (0 ∷ 0 ∷ 1 ∷ 1 ∷ 2 ∷ 1 ∷ []) (1 ∷ 0 ∷ 1 ∷ 1 ∷ 2 ∷ 1 ∷ [])) none none none
+    made (grant 0) (saying (0 ∷ 1 ∷ []) (countsAt 1 1))
+    (keeping (named (countsAt 1 0)) granted (0 ∷ 0 ∷ 1 ∷ 1 ∷ 2 ∷ 1 ∷ []) (1 ∷ 0 ∷ 1 ∷ 1 ∷ 2 ∷ 1 ∷ [])) noneLent noneLent noneLent
 
 abbrev pub writing : Made
 writing =
-    made (write (AtClause false) true (1 ∷ []) []) (saying (5 ∷ []) (marks 1 1)) (keeping (granted (marks 1 1)) granted [] []) none none
+    made (write (AtClause false) true (1 ∷ []) []) (saying (5 ∷ []) (countsAt 1 1)) (keeping (granted (countsAt 1 1)) granted [] []) noneLent noneLent
     (record { lent = 7 ∷ 7 ∷ 7 ∷ 7 ∷ 7 ∷ 7 ∷ []; left = 45 ∷ 49 ∷ 32 ∷ 48 ∷ 10 ∷ 7 ∷ [] })
 
 abbrev pub program : List Made
@@ -315,9 +320,9 @@ program = mapping ∷ granting ∷ writing ∷ []
 
 pub program-met : Program Text (emptyTable 1) program
 unfolding allBelow least count anyOf spell further bytesOf number numbers encodeStep encode word isShown giveUser giveSolver soundb sizesb marksb
-    atMostb tailb backb namedb deletedb tailsb pairsb choose each unless emptyTable notesWords M.leastFree M.globalFor M.mapOne M.fillGap M.mapUser
-    M.undeleted M.toMap M.unsampled M.mapRefusal M.mapOf G.nextSolver G.grantOne G.grant G.grantRefusal G.grantOf notHeld renameLits unmatched outside
-    unheld stepRefusal stepBytes writeRefusal writeOf perform does
+    atMostb tailb backb namedb deletedb tailsb pairsb choose each unless emptyTable notesWords leastFree M.globalFor M.mapOne M.fillGap M.mapUser
+    undeleted M.toMap M.unsampled M.mapRefusal M.mapOf nextSolver G.grantOne G.grant G.grantRefusal G.grantOf notHeld heldElse renameLits unmatched outside
+    unheld litsHeldElse stepRefusal stepBytes writeRefusal writeOf perform turnDoes
 program-met =
     calls {m = mapping} (record { meets = record { answer = refl; table = refl; noted = refl }; words = refl; more = refl; bytes = refl })
     (calls {m = granting} (record { meets = record { answer = refl; table = refl; noted = refl }; words = refl; more = refl; bytes = refl })

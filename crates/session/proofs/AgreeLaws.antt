@@ -12,7 +12,7 @@ use lib.ListN.{getD, length, set}
 use lib.Seq.{getD-set-other, getD-set-same}
 use borrow.Author.Tests.{eq-eqb, ne-eqb}
 use Rattle.base.specs.Choice.{pick}
-use Rattle.scope.specs.Table.{Table, word, recordOf, modeOf, isShown, giveUser, takeUser, giveSolver, takeSolver, putRecord, putValue}
+use Rattle.scope.specs.Table.{Table, word, recordOf, modeOf, isShown, giveUser, takeUser, giveSolver, takeSolver, putRecord, putValue, dropGlobal}
 use Rattle.scope.specs.Sound.{Inverse, Sound}
 use Rattle.scope.specs.Notes.{Note, heldBy}
 use Rattle.scope.specs.Entries.{Entry}
@@ -62,7 +62,7 @@ in-records : (t : Table) (g : ℕ) → Sound t → g < t .counts .global → g <
 in-records t g p h = let z = p .sizes in omega arith
 
 show-move : (m : Move) (t : Table) → Sound t → Legal m t → (k : ℕ) → showAll (entries m) k (isShown (recordOf t k)) ≡ isShown (recordOf (apply m t) k)
-unfolding giveUser takeUser giveSolver takeSolver putRecord putValue
+unfolding giveUser takeUser giveSolver takeSolver putRecord dropGlobal putValue
 show-move (gives-user g u r) t p l k =
     or-pick (eqb g k) (isShown (recordOf t k)) ∙ sym (put-shown (t .records) g r k true (rw (p .sizes .records) (l .global)) (shown-to r (l .shown)))
 show-move (takes-user g u r) t p l k =
@@ -121,7 +121,7 @@ take-held gs sg g s k inv h e = go (ℕ-discrete k s) (getD gs k 0) refl
 
 hold-move : (m : Move) (t : Table) → Sound t → Legal m t → (k : ℕ)
     → holdAll (notesOf (entries m)) k (getD (t .globalFromSolver) k 0) ≡ getD (apply m t .globalFromSolver) k 0
-unfolding notesOf giveUser takeUser giveSolver takeSolver putRecord putValue
+unfolding notesOf giveUser takeUser giveSolver takeSolver putRecord dropGlobal putValue
 hold-move (gives-user g u r) t p l k = lost-none (getD (t .globalFromSolver) k 0)
 hold-move (takes-user g u r) t p l k = lost-none (getD (t .globalFromSolver) k 0)
 hold-move (gives-solver g s) t p l k = give-held (t .globalFromSolver) g s k (let z = p .sizes in let y = l .mark in omega arith)

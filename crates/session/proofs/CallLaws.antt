@@ -20,7 +20,7 @@ use Rattle.scope.specs.declared.ProofStep.{ProofStep}
 use Rattle.scope.specs.declared.Simplified.{Simplified}
 use Rattle.scope.specs.declared.Simplified.the-variants.{Kept, Dropped, Shortened, Binary}
 use Rattle.scope.specs.Literals.{indexOf}
-use Rattle.scope.specs.Table.{Table, recordOf, assumedOf, isDeleted}
+use Rattle.scope.specs.Table.{Table, recordOf, assumedOf, isDeleted, undeleted}
 use Rattle.scope.specs.Sound.{soundb, Sound}
 use Rattle.scope.specs.Notes.{Note}
 use Rattle.scope.specs.Entries.{noted, hides}
@@ -31,15 +31,15 @@ use Rattle.scope.specs.Map as Maps
 use Rattle.scope.specs.Grant as Grants
 use Rattle.scope.specs.Pose as Poses
 use Rattle.scope.specs.Remove as Removes
-use Rattle.scope.specs.Map.{undeleted, toMap, unsampled, mapRefusal, mapOf, newUserRefusal, newUserOf}
+use Rattle.scope.specs.Map.{toMap, unsampled, mapRefusal, mapOf, newUserRefusal, newUserOf}
 use Rattle.scope.specs.Grant.{grantRefusal, grantOf}
 use Rattle.scope.specs.Pose.{usersToMap, poseRefusal, poseOf}
 use Rattle.scope.specs.Modes
 use Rattle.scope.specs.Modes.{modeNumber, setModeRefusal, setModeOf, observeRefusal, observeOf}
-use Rattle.scope.specs.Marks.{notHeld, markRefusal, markOf, assignRefusal, assignOf}
+use Rattle.scope.specs.Marks.{notHeld, markRefusal, markOf, assignRefusal, assignOf, unheld}
 use Rattle.scope.specs.Remove.{removeRefusal, removeOf, sweepRefusal, sweepOf}
 use Rattle.scope.specs.Steps.{ruleOf, literalsOf, clauseSteps}
-use Rattle.scope.specs.Write.{renameLits, holders, unmatched, outside, unheld, stepRefusal, renameOf, lacked, stepBytes, writeRefusal, writeOf}
+use Rattle.scope.specs.Write.{renameLits, holders, unmatched, outside, stepRefusal, renameOf, lacked, stepBytes, writeRefusal, writeOf}
 use Rattle.scope.specs.Simplify.{isTrue, isFalse, unfalse, simplified, restOf, simplifySteps, simplifyBytes, simplifyRefusal, simplifiedNumber, simplifyOf}
 use Rattle.scope.specs.Models.{modelOf}
 use Rattle.scope.specs.Calls
@@ -50,13 +50,13 @@ use Rattle.scope.proofs.MapLaws.{map-room-of, map-user-reach, new-user-reach}
 use Rattle.scope.proofs.GrantLaws.{grant-reach}
 use Rattle.scope.proofs.PoseLaws.{pose-room-of, pose-reach}
 use Rattle.scope.proofs.ModeLaws.{set-mode-reach, observe-reach}
-use Rattle.scope.proofs.MarkLaws.{mark-reach, assign-reach}
+use Rattle.scope.proofs.MarkLaws.{held-past, lits-past, mark-reach, assign-reach}
 use Rattle.scope.proofs.RemoveLaws.{remove-reach, sweep-reach}
 use Rattle.scope.proofs.WriteLaws.{solver-codes, rename-codes, keep-none, written-valid}
 use Rattle.session.specs.Ledger.{EntersLit, Pairwise, nil, cons, Enters}
 use Rattle.session.specs.Entered.{hiddenBy, entriesOf, simplifyLines, linesOf}
-use Rattle.session.specs.Session.{Turn, turn, does}
-use Rattle.session.specs.Made.{countsOf}
+use Rattle.session.specs.Session.{Turn, turn, turnDoes}
+use Rattle.session.specs.Made.{filledBy}
 use Rattle.session.proofs.ToldLaws.{Told, last-snoc, take-filled}
 use Rattle.session.proofs.EnterLaws.{Tell, solver-lits, lits-enter, write-enters}
 
@@ -93,10 +93,10 @@ roomy room notes z = ltb-false room (3 * length notes) z
 -- a call of which the ledger enters its notes alone: it hides nothing, has no line, and answers no count of bytes
 abbrev Quiet : Calls.Call → Type 0
 Quiet call =
-    (hiddenBy call ≡ []) × ((vs ws : List ℕ) (notes : List Note) → linesOf call vs ws notes ≡ []) × ((vs : List ℕ) → countsOf call vs .bytes ≡ 0)
+    (hiddenBy call ≡ []) × ((vs ws : List ℕ) (notes : List Note) → linesOf call vs ws notes ≡ []) × ((vs : List ℕ) → filledBy call vs .bytes ≡ 0)
 
 quiet-lawful : (f : Format) (x : Turn) (t : Table) (vs : List ℕ) (o : Outcome) → Quiet (x .call) → o .bytes ≡ []
-    → countsOf (x .call) vs .notes ≡ length (o .notes) → 3 * length (o .notes) ≤ x .rooms .notes → Reach t (map noted (o .notes)) (o .table)
+    → filledBy (x .call) vs .notes ≡ length (o .notes) → 3 * length (o .notes) ≤ x .rooms .notes → Reach t (map noted (o .notes)) (o .table)
     → Lawful f x t vs o
 unfolding entriesOf encode Valid
 quiet-lawful f x t vs o (hidden, lines, counted) b n m r =
@@ -116,7 +116,7 @@ quiet-lawful f x t vs o (hidden, lines, counted) b n m r =
           };
     }
 
-lookup-owed : (f : Format) (x : Turn) (t : Table) (values : List ℕ) → Quiet (x .call) → ((vs : List ℕ) → countsOf (x .call) vs .notes ≡ 0)
+lookup-owed : (f : Format) (x : Turn) (t : Table) (values : List ℕ) → Quiet (x .call) → ((vs : List ℕ) → filledBy (x .call) vs .notes ≡ 0)
     → Owed f x t (lookupOf t values)
 unfolding lookupOf
 lookup-owed f x t values q n = owed f x t _ _ (λ e. accepting refl (quiet-lawful f x t values _ q refl (n values) (omega arith) stop))
@@ -180,7 +180,7 @@ mark-owed : (f : Format) (t : Table) (m : Mark) (s : ℕ) (rooms : Calls.Rooms) 
 unfolding markOf markRefusal notHeld linesOf
 mark-owed f t m s rooms = owed f _ t _ _ (λ e.
     let (p, e1) = first-sound t _ e in
-    let (a, e2) = past (notHeld t s) 8 _ (omega arith) e1 in
+    let (a, e2) = held-past t s _ e1 in
     accepting refl (quiet-lawful f _ t _ _ (refl, λ vs ws notes. refl, λ vs. refl) refl refl (omega arith)
     (mark-reach t m s p (eqb-false (getD (t .globalFromSolver) s 0) 0 a))))
 
@@ -188,7 +188,7 @@ assign-owed : (f : Format) (t : Table) (c : ℕ) (rooms : Calls.Rooms) → Owed 
 unfolding assignOf assignRefusal notHeld linesOf
 assign-owed f t c rooms = owed f _ t _ _ (λ e.
     let (p, e1) = first-sound t _ e in
-    let (a, e2) = past (notHeld t (indexOf c)) 8 _ (omega arith) e1 in
+    let (a, e2) = held-past t (indexOf c) _ e1 in
     accepting refl (quiet-lawful f _ t _ _ (refl, λ vs ws notes. refl, λ vs. refl) refl refl (omega arith)
     (assign-reach t c p (eqb-false (getD (t .globalFromSolver) (indexOf c) 0) 0 a))))
 
@@ -196,7 +196,7 @@ remove-owed : (f : Format) (t : Table) (s : ℕ) (rooms : Calls.Rooms) → Owed 
 unfolding removeOf removeRefusal notHeld linesOf
 remove-owed f t s rooms = owed f _ t _ _ (λ e.
     let (p, e1) = first-sound t _ e in
-    let (a, e2) = past (notHeld t s) 8 _ (omega arith) e1 in
+    let (a, e2) = held-past t s _ e1 in
     let (z, _) = past (short (rooms .notes) (Removes.remove s t .notes)) 2 _ (omega arith) e2 in
     accepting refl (quiet-lawful f _ t _ _ (refl, λ vs ws notes. refl, λ vs. refl) refl refl (roomy (rooms .notes) (Removes.remove s t .notes) z)
     (remove-reach t s p (eqb-false (getD (t .globalFromSolver) s 0) 0 a))))
@@ -262,9 +262,9 @@ record Writes (f : Format) (x : Turn) (t : Table) (vs : List ℕ) (o : Outcome) 
   notes : o .notes ≡ []
   hidden : hiddenBy (x .call) ≡ []
   bytes : o .bytes ≡ encode f steps
-  noteCount : countsOf (x .call) vs .notes ≡ 0
-  wordCount : countsOf (x .call) vs .words ≡ length (o .words)
-  byteCount : countsOf (x .call) vs .bytes ≡ length (o .bytes)
+  noteCount : filledBy (x .call) vs .notes ≡ 0
+  wordCount : filledBy (x .call) vs .words ≡ length (o .words)
+  byteCount : filledBy (x .call) vs .bytes ≡ length (o .bytes)
   wordRoom : length (o .words) ≤ x .rooms .words
   byteRoom : length (o .bytes) ≤ x .rooms .bytes
   enters : (notes : List Note) → Tell notes t → Enters (linesOf (x .call) vs (o .words) notes) steps
@@ -285,21 +285,21 @@ writing-lawful f x t vs o steps w =
             noteRoom = rw (w .notes) (omega arith);
             lines = λ out notes e.
                 ap (λ (ws : List ℕ). linesOf (x .call) vs ws notes)
-                (take-filled out (o .words) (countsOf (x .call) vs .words) (w .wordCount) (let r = w .wordRoom in omega arith));
+                (take-filled out (o .words) (filledBy (x .call) vs .words) (w .wordCount) (let r = w .wordRoom in omega arith));
             bytes = w .byteCount;
             byteRoom = w .byteRoom;
           };
     }
 
 write-owed : (f : Format) (t : Table) (step : ProofStep) (solverVars : Bool) (lits hashes : List ℕ) (rooms : Calls.Rooms)
-    → Owed f (turn (Calls.write step solverVars lits hashes) rooms) t (does f (turn (Calls.write step solverVars lits hashes) rooms) t)
-unfolding does Calls.perform writeOf writeRefusal stepRefusal stepBytes linesOf
+    → Owed f (turn (Calls.write step solverVars lits hashes) rooms) t (turnDoes f (turn (Calls.write step solverVars lits hashes) rooms) t)
+unfolding turnDoes Calls.perform writeOf writeRefusal stepRefusal stepBytes linesOf
 write-owed f t step solverVars lits hashes rooms = owed f _ t _ _ (λ e.
     let ls = literalsOf step lits in
     let (p, e1) = first-sound t _ e in
     let (a, e2) = past (unmatched step lits hashes) 14 _ (omega arith) e1 in
     let (inside, e3) = past (outside t solverVars ls) 3 _ (omega arith) e2 in
-    let (held, e4) = past (unheld t solverVars ls) 8 _ (omega arith) e3 in
+    let (held, e4) = lits-past t solverVars ls _ e3 in
     let (d, e5) = past (lacked (ruleOf step .writes)) 11 _ (omega arith) e4 in
     let (z, _) = past (ltb (rooms .bytes) (length (stepBytes f t step solverVars lits))) 2 _ (omega arith) e5 in
     accepting refl (writing-lawful f _ t _ _ (clauseSteps step (renameLits (holders t) solverVars ls)) (record {
@@ -317,13 +317,13 @@ write-owed f t step solverVars lits hashes rooms = owed f _ t _ _ (λ e.
     })))
 
 simplify-owed : (f : Format) (t : Table) (lits : List ℕ) (redundant : Bool) (rooms : Calls.Rooms)
-    → Owed f (turn (Calls.simplify lits redundant) rooms) t (does f (turn (Calls.simplify lits redundant) rooms) t)
-unfolding does Calls.perform simplifyOf simplifyRefusal simplifyBytes unheld unfalse Valid linesOf
+    → Owed f (turn (Calls.simplify lits redundant) rooms) t (turnDoes f (turn (Calls.simplify lits redundant) rooms) t)
+unfolding turnDoes Calls.perform simplifyOf simplifyRefusal simplifyBytes unheld unfalse Valid linesOf
 simplify-owed f t lits redundant rooms = owed f _ t _ _ (λ e.
     let rest = restOf (simplified t lits) t lits in
     let (p, e1) = first-sound t _ e in
     let (a, e2) = past (ltb 8192 (length lits)) 3 _ (omega arith) e1 in
-    let (held, e3) = past (unheld t true lits) 8 _ (omega arith) e2 in
+    let (held, e3) = lits-past t true lits _ e2 in
     let kept = keep-none (λ c. notHeld t (indexOf c)) _ lits held in
     let (d, e4) = past (not (anyOf (isTrue t) lits) && (anyOf (isFalse t) lits && ltb (length (unfalse t lits)) 2)) 12 _ (omega arith) e3 in
     let (z, _) = past (ltb (rooms .words) (length rest) || ltb (rooms .bytes) (length (simplifyBytes f t lits redundant))) 2 _ (omega arith) e4 in
@@ -361,10 +361,10 @@ simplify-owed f t lits redundant rooms = owed f _ t _ _ (λ e.
 -- ---- every call
 
 abbrev CallOwed : Format → Calls.Call → Calls.Rooms → Table → Type 0
-CallOwed f call rooms t = Owed f (turn call rooms) t (does f (turn call rooms) t)
+CallOwed f call rooms t = Owed f (turn call rooms) t (turnDoes f (turn call rooms) t)
 
 call-owed : (f : Format) (call : Calls.Call) (rooms : Calls.Rooms) (t : Table) → CallOwed f call rooms t
-unfolding does Calls.perform linesOf globalFromUserOf userFromGlobalOf solverFromGlobalOf globalFromSolverOf recordWordOf assignmentWordOf
+unfolding turnDoes Calls.perform linesOf globalFromUserOf userFromGlobalOf solverFromGlobalOf globalFromSolverOf recordWordOf assignmentWordOf
 call-owed f (Calls.lookup asked i) rooms t = by-asked asked
   where
     quiet : (asked : Calls.Asked) → Quiet (Calls.lookup asked i)
@@ -392,5 +392,5 @@ call-owed f (Calls.rename step solverVars lits hashes) rooms t = rename-owed f t
 call-owed f (Calls.write step solverVars lits hashes) rooms t = write-owed f t step solverVars lits hashes rooms
 call-owed f Calls.model rooms t = model-owed f t rooms
 
-pub turn-owed : (f : Format) (x : Turn) (t : Table) → Owed f x t (does f x t)
+pub turn-owed : (f : Format) (x : Turn) (t : Table) → Owed f x t (turnDoes f x t)
 turn-owed f x t = call-owed f (x .call) (x .rooms) t

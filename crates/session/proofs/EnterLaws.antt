@@ -17,9 +17,9 @@ use Rattle.scope.specs.declared.ProofStep.the-variants.{FailedAssumptions, Solv
 use Rattle.scope.specs.Literals.{indexOf}
 use Rattle.scope.specs.Table.{Table}
 use Rattle.scope.specs.Notes.{Note, Held, heldBy}
-use Rattle.scope.specs.Marks.{notHeld}
+use Rattle.scope.specs.Marks.{notHeld, unheld}
 use Rattle.scope.specs.Steps.{literalsOf, clauseSteps}
-use Rattle.scope.specs.Write.{renameLit, renameLits, holders, unheld}
+use Rattle.scope.specs.Write.{renameLit, renameLits, holders}
 use Rattle.session.specs.Ledger.{Line, line, EntersLit, plus, minus, given, Pairwise, nil, cons, EntersStep, Enters}
 use Rattle.session.specs.Entered.{writeLines}
 use Rattle.session.proofs.HeldLaws.{held-says}

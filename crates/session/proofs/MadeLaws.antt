@@ -16,8 +16,8 @@ use Rattle.scope.specs.Contract.{Said, Memory, Does, Meets}
 use Rattle.scope.specs.Calls.{Call}
 use Rattle.session.specs.Ledger.{notesOf}
 use Rattle.session.specs.Entered.{entriesOf, linesOf}
-use Rattle.session.specs.Session.{does, State, start, enter, Holds}
-use Rattle.session.specs.Made.{notesIn, countsOf, Has, Made, turnOf, leaves, Met, Program, ends, calls, seen, ledger}
+use Rattle.session.specs.Session.{turnDoes, State, start, enter, Holds}
+use Rattle.session.specs.Made.{notesIn, filledBy, Has, Made, turnOf, leaves, Met, Program, ends, calls, seen, ledger}
 use Rattle.session.proofs.ToldLaws.{Told, take-filled, notes-filled}
 use Rattle.session.proofs.CallLaws.{Owed, refusing, accepting, turn-owed}
 use Rattle.session.proofs.SessionLaws.{Invariant, enter-keeps, invariant-holds, open-start}
@@ -49,13 +49,13 @@ seen-accepted σ m o vs k q told =
     let call = m .call in
     enter-same σ call vs (seen m) o (k .kept .table)
     (ap (notesIn _) (k .kept .noted)
-    ∙ notes-filled (m .memory .notes) (o .notes) _ (ap (λ (x : List ℕ). countsOf call x .notes) v ∙ told .notes) (told .noteRoom))
+    ∙ notes-filled (m .memory .notes) (o .notes) _ (ap (λ (x : List ℕ). filledBy call x .notes) v ∙ told .notes) (told .noteRoom))
     (λ notes.
-    ap (λ (x : List ℕ). linesOf call vs (take (countsOf call x .words) (m .words .left)) notes) v
-    ∙ ap (λ (x : List ℕ). linesOf call vs (take (countsOf call vs .words) x) notes) (k .words)
+    ap (λ (x : List ℕ). linesOf call vs (take (filledBy call x .words) (m .words .left)) notes) v
+    ∙ ap (λ (x : List ℕ). linesOf call vs (take (filledBy call vs .words) x) notes) (k .words)
     ∙ told .lines (m .words .lent) notes refl)
-    (ap (take (countsOf call (valuesOf (m .said .answer)) .bytes)) (k .bytes)
-    ∙ take-filled (m .bytes .lent) (o .bytes) _ (ap (λ (x : List ℕ). countsOf call x .bytes) v ∙ told .bytes) (told .byteRoom))
+    (ap (take (filledBy call (valuesOf (m .said .answer)) .bytes)) (k .bytes)
+    ∙ take-filled (m .bytes .lent) (o .bytes) _ (ap (λ (x : List ℕ). filledBy call x .bytes) v ∙ told .bytes) (told .byteRoom))
 
 -- what is seen of a call that met its contract is entered as what the definitions give
 seen-entered : (f : Format) (σ : State) (m : Made) (o : Outcome) → Filled m o → Owed f (turnOf m) (m .memory .table) o
@@ -77,7 +77,7 @@ ledger-keeps : (f : Format) (t : Table) (ms : List Made) → Program f t ms → 
 unfolding ledger seen
 ledger-keeps f t [] ends σ e i = i
 ledger-keeps f t (m ∷ ms) (calls k p) σ e i =
-    let o = does f (turnOf m) (m .memory .table) in
+    let o = turnDoes f (turnOf m) (m .memory .table) in
     let w = turn-owed f (turnOf m) (m .memory .table) in
     let q = seen-entered f σ m o (record { kept = k .meets; words = k .words; bytes = k .bytes }) w in
     ledger-keeps f (leaves m) ms p (enter σ (m .call) (seen m) (m .said .answer))

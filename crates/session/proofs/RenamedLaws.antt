@@ -12,11 +12,13 @@ use Rattle.scope.specs.Table.{Table}
 use Rattle.scope.specs.Sound.{soundb}
 use Rattle.scope.specs.Steps.{literalsOf}
 use Rattle.scope.specs.Outcome.{Outcome, unless}
-use Rattle.scope.specs.Write.{unmatched, outside, unheld, stepRefusal, renameRefusal, renameOf}
+use Rattle.scope.specs.Marks.{unheld}
+use Rattle.scope.specs.Write.{unmatched, outside, stepRefusal, renameRefusal, renameOf}
 use Rattle.scope.proofs.SoundLaws.{sound-of}
 use Rattle.scope.proofs.ResultLaws.{past}
 use Rattle.session.specs.Ledger.{notesOf, EntersLit, Pairwise}
 use Rattle.session.specs.Session.{State, Holds}
+use Rattle.scope.proofs.MarkLaws.{lits-past}
 use Rattle.session.proofs.EnterLaws.{lits-enter}
 use Rattle.session.proofs.LookupLaws.{says-holder}
 
@@ -33,7 +35,7 @@ all-held t step solverVars lits hashes outs hashOuts e =
     let (a, e1) = past (not (soundb t)) 1 _ (omega arith) e in
     let (b, e2) = past (unmatched step lits hashes) 14 _ (omega arith) e1 in
     let (c, e3) = past (outside t solverVars (literalsOf step lits)) 3 _ (omega arith) e2 in
-    past (unheld t solverVars (literalsOf step lits)) 8 _ (omega arith) e3 .0
+    lits-past t solverVars (literalsOf step lits) _ e3 .0
 
 pub rename-entered : (f : Format) (σ : State) → Holds f σ → (step : ProofStep) (solverVars : Bool) (lits hashes vs : List ℕ) (outs hashOuts : ℕ)
     → renameOf (σ .table) step solverVars lits hashes outs hashOuts .answer ≡ accepted vs

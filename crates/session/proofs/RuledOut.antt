@@ -4,6 +4,7 @@
 use Prim.Native.Nat.{ℕ, zero, suc, _+_, _*_, _/_}
 use mathlib.Core.Path.{_≡_, refl, sym, ap, _∙_, subst}
 use mathlib.Core.Bool.{Bool, true, true≢false}
+use mathlib.Core.Logic.{_≢_}
 use mathlib.Core.List.{List, [], _∷_, _++_, map, append-assoc, append-nil}
 use native.Mathlib.Omega.{arith}
 use Rattle.base.specs.Answer.{Answer, accepted, refused}
@@ -14,12 +15,15 @@ use Rattle.drat.specs.declared.Kind.the-variants.{Add, Delete}
 use Rattle.drat.proofs.Written.{encode-spells}
 use Rattle.scope.specs.declared.ProofStep.the-variants.{AtClause, UnitClauses, DeleteClause}
 use Rattle.scope.specs.declared.DeleteClauseProof.{DeleteClauseProof}
+use Rattle.scope.specs.declared.Simplified.{Simplified}
+use Rattle.scope.specs.declared.Simplified.the-variants.{Kept, Dropped, Shortened, Binary}
+use Rattle.scope.specs.Simplify.{simplifiedNumber}
 use Rattle.scope.specs.Notes.{Note, Held}
 use Rattle.scope.specs.Outcome.{Outcome}
 use Rattle.scope.specs.Calls.{Call, simplify, write}
 use Rattle.session.specs.Ledger.{notesOf, Line, line, EntersLit, plus, minus, given, Pairwise, cons, Enters}
 use Rattle.session.specs.Entered.{entriesOf, linesOf}
-use Rattle.session.specs.Session.{Turn, does, State, enter, after, run, Holds}
+use Rattle.session.specs.Session.{Turn, turnDoes, State, enter, afterTurn, run, Holds}
 use Rattle.session.proofs.EnterLaws.{enters-once}
 
 -- ---- a literal that nobody holds
@@ -56,11 +60,11 @@ enter-grows σ call o (accepted vs) = (linesOf call vs (o .words) (notesOf (σ .
 enter-grows σ call o (refused n vs) = ([], sym (append-nil (σ .lines)))
 
 run-grows : (f : Format) (σ : State) (xs : List Turn) → (ms : List Line) × (run f σ xs .lines ≡ σ .lines ++ ms)
-unfolding run after
+unfolding run afterTurn
 run-grows f σ [] = ([], sym (append-nil (σ .lines)))
 run-grows f σ (x ∷ xs) =
-    let (ms, p) = enter-grows σ (x .call) (does f x (σ .table)) (does f x (σ .table) .answer) in
-    let (ns, q) = run-grows f (after f σ x) xs in
+    let (ms, p) = enter-grows σ (x .call) (turnDoes f x (σ .table)) (turnDoes f x (σ .table) .answer) in
+    let (ns, q) = run-grows f (afterTurn f σ x) xs in
     (ms ++ ns, q ∙ ap (λ (ls : List Line). ls ++ ns) p ∙ append-assoc (σ .lines) ms ns)
 
 -- the notes so far, once an accepted call's are entered
@@ -111,11 +115,15 @@ unheld-unit f σ bs cs hashes c o vs n =
     (map-around (λ b. line Add true (b ∷ []) notes) bs cs c) n
 
 -- Simplify where it drops, shortens or leaves a binary clause
-pub unheld-simplified : (f : Format) (σ : State) (redundant : Bool) (bs cs : List ℕ) (c k : ℕ) (o : Outcome) (vs : List ℕ)
-    → Nobody (c / 2) (sofar σ (simplify (bs ++ c ∷ cs) redundant) o) → Refuted f σ (simplify (bs ++ c ∷ cs) redundant) o (suc k ∷ vs)
+pub unheld-simplified : (f : Format) (σ : State) (redundant : Bool) (bs cs : List ℕ) (c : ℕ) (what : Simplified) (o : Outcome) (vs : List ℕ)
+    → what ≢ Kept → Nobody (c / 2) (sofar σ (simplify (bs ++ c ∷ cs) redundant) o)
+    → Refuted f σ (simplify (bs ++ c ∷ cs) redundant) o (simplifiedNumber what ∷ vs)
 unfolding linesOf
-unheld-simplified f σ redundant bs cs c zero o vs n = unheld-call f σ _ o _ [] [] Delete bs cs c refl n
-unheld-simplified f σ redundant bs cs c (suc k) o vs n =
+unheld-simplified f σ redundant bs cs c Kept o vs k n = absurd (k refl)
+unheld-simplified f σ redundant bs cs c Dropped o vs k n = unheld-call f σ _ o _ [] [] Delete bs cs c refl n
+unheld-simplified f σ redundant bs cs c Shortened o vs k n =
+    unheld-call f σ _ o _ (line Add true (o .words) (sofar σ (simplify (bs ++ c ∷ cs) redundant) o) ∷ []) [] Delete bs cs c refl n
+unheld-simplified f σ redundant bs cs c Binary o vs k n =
     unheld-call f σ _ o _ (line Add true (o .words) (sofar σ (simplify (bs ++ c ∷ cs) redundant) o) ∷ []) [] Delete bs cs c refl n
 
 -- ---- the bytes are of other clause steps than the ledger's

@@ -21,7 +21,7 @@ use Rattle.scope.proofs.MoveLaws.{reach-sound}
 use Rattle.scope.proofs.OpenLaws.{open-opened, open-sound}
 use Rattle.session.specs.Ledger.{notesOf, nil, Enters}
 use Rattle.session.specs.Entered.{entriesOf}
-use Rattle.session.specs.Session.{Turn, does, State, start, enter, after, run, Holds}
+use Rattle.session.specs.Session.{Turn, turnDoes, State, start, enter, afterTurn, run, Holds}
 use Rattle.session.proofs.HeldLaws.{held-says}
 use Rattle.session.proofs.AgreeLaws.{Agrees, reach-agrees, empty-agrees}
 use Rattle.session.proofs.CallLaws.{Lawful, Owed, refusing, accepting, turn-owed}
@@ -65,14 +65,14 @@ unfolding enter
 enter-keeps f σ x o refusing i = i
 enter-keeps f σ x o (accepting {vs = vs} e l) i = rw e (accepted-keeps f σ x vs o l i)
 
-pub after-keeps : (f : Format) (σ : State) (x : Turn) → Invariant f σ → Invariant f (after f σ x)
-unfolding after
-after-keeps f σ x i = enter-keeps f σ x (does f x (σ .table)) (turn-owed f x (σ .table)) i
+pub after-keeps : (f : Format) (σ : State) (x : Turn) → Invariant f σ → Invariant f (afterTurn f σ x)
+unfolding afterTurn
+after-keeps f σ x i = enter-keeps f σ x (turnDoes f x (σ .table)) (turn-owed f x (σ .table)) i
 
 pub run-keeps : (f : Format) (σ : State) (xs : List Turn) → Invariant f σ → Invariant f (run f σ xs)
 unfolding run
 run-keeps f σ [] i = i
-run-keeps f σ (x ∷ xs) i = run-keeps f (after f σ x) xs (after-keeps f σ x i)
+run-keeps f σ (x ∷ xs) i = run-keeps f (afterTurn f σ x) xs (after-keeps f σ x i)
 
 -- what the invariant says of a state
 pub invariant-holds : (f : Format) (σ : State) → Invariant f σ → Holds f σ

@@ -13,14 +13,14 @@ use Rattle.scope.proofs.ResultLaws.{word-some}
 use Rattle.scope.proofs.NoteWords.{words-length}
 use Rattle.session.specs.Entered.{linesOf}
 use Rattle.session.specs.Session.{Turn}
-use Rattle.session.specs.Made.{notesIn, lastOr, countsOf}
+use Rattle.session.specs.Made.{notesIn, lastOr, filledBy}
 
 pub record Told (x : Turn) (vs : List ℕ) (o : Outcome) : Type 0 where
-  pub notes : countsOf (x .call) vs .notes ≡ length (o .notes)
+  pub notes : filledBy (x .call) vs .notes ≡ length (o .notes)
   pub noteRoom : 3 * length (o .notes) ≤ x .rooms .notes
   pub lines : (out : List ℕ) (notes : List Note) → length out ≡ x .rooms .words
-      → linesOf (x .call) vs (take (countsOf (x .call) vs .words) (sets out 0 (o .words))) notes ≡ linesOf (x .call) vs (o .words) notes
-  pub bytes : countsOf (x .call) vs .bytes ≡ length (o .bytes)
+      → linesOf (x .call) vs (take (filledBy (x .call) vs .words) (sets out 0 (o .words))) notes ≡ linesOf (x .call) vs (o .words) notes
+  pub bytes : filledBy (x .call) vs .bytes ≡ length (o .bytes)
   pub byteRoom : length (o .bytes) ≤ x .rooms .bytes
 
 pub last-snoc : (d n : ℕ) (vs : List ℕ) → lastOr d (vs ++ (n ∷ [])) ≡ n

@@ -5,31 +5,34 @@ use Rattle.drat.specs.Numeral.{spell, further, bytesOf}
 use Rattle.drat.specs.Grammar.{number, numbers, encodeStep, encode}
 use Rattle.drat.specs.Reading.{digitsFrom, signedFrom, thenBlank, lebFrom, endFrom, lineFrom, token, blankFrom, opening, consPart, body, asStep, oneStep, consStep, stepsFrom, readProof}
 use Rattle.drat.specs.Filled.{answerOf, codesOf, endsFrom, kindsOf}
-use Rattle.scope.specs.Table.{word, isShown, giveUser, takeUser, giveSolver, takeSolver, putRecord, putValue}
+use Rattle.scope.specs.Table.{word, isShown, giveUser, takeUser, giveSolver, takeSolver, putRecord, putValue, dropGlobal, leastFree, undeleted, nextSolver}
 use Rattle.scope.specs.Sound.{soundb, sizesb, marksb, atMostb, tailb, backb, namedb, deletedb, tailsb, pairsb}
 use Rattle.scope.specs.Outcome.{choose, each, unless}
 use Rattle.scope.specs.Open.{emptyTable, openOf}
-use Rattle.scope.specs.Map.{leastFree, globalFor, mapOne, fillGap, mapUser, nextUser, newUser}
-use Rattle.scope.specs.Map.{undeleted, toMap, unsampled, mapRefusal, mapOf, newUserRefusal, newUserOf}
-use Rattle.scope.specs.Grant.{nextSolver, grantOne, grant, grantRefusal, grantOf}
+use Rattle.scope.specs.Map.{globalFor, mapOne, fillGap, mapUser, nextUser, newUser}
+use Rattle.scope.specs.Map.{toMap, unsampled, mapRefusal, mapOf, newUserRefusal, newUserOf}
+use Rattle.scope.specs.Grant.{grantOne, grant, grantRefusal, grantOf}
 use Rattle.scope.specs.Modes.{isUnused, deleteIfUnused, show, hide, change, setMode}
 use Rattle.scope.specs.Modes.{setModeRefusal, setModeOf, isHidden, observeOne, observe, observeRefusal, observeOf}
-use Rattle.scope.specs.Marks.{notHeld, mark, markRefusal, markOf}
+use Rattle.scope.specs.Marks.{notHeld, mark, markRefusal, markOf, unheld, heldElse, litsHeldElse}
 use Rattle.scope.specs.Remove.{removeHeld, learn, sweepHeld, sweepOne, sweep, sweepRefusal, sweepOf}
-use Rattle.scope.specs.Write.{renameLits, unmatched, outside, unheld, stepRefusal, stepBytes, writeRefusal, writeOf}
-use Rattle.session.specs.Worked.{Agree, cases}
+use Rattle.scope.specs.Write.{renameLits, unmatched, outside, stepRefusal, stepBytes, writeRefusal, writeOf}
+use Rattle.session.specs.Worked.{CasesAgree, cases}
 
 infixr 20 _and_
 _and_ : {A B : Type 0} → A → B → A × B
 x and y = (x, y)
 
-pub worked : Agree cases
-unfolding allBelow least count everyOf anyOf keepOf spell further bytesOf number numbers encodeStep encode digitsFrom signedFrom thenBlank lebFrom endFrom lineFrom token blankFrom
+pub worked : CasesAgree cases
+unfolding allBelow least count everyOf anyOf keepOf spell further bytesOf number numbers encodeStep encode digitsFrom signedFrom thenBlank lebFrom
+    endFrom lineFrom token blankFrom
     opening consPart body asStep oneStep consStep stepsFrom readProof answerOf codesOf endsFrom kindsOf word isShown giveUser takeUser giveSolver
-    takeSolver putRecord putValue soundb sizesb marksb atMostb tailb backb namedb deletedb tailsb pairsb choose each unless emptyTable openOf leastFree
+    takeSolver putRecord dropGlobal putValue soundb sizesb marksb atMostb tailb backb namedb deletedb tailsb pairsb choose each unless emptyTable openOf
+    leastFree
     globalFor mapOne fillGap mapUser nextUser newUser undeleted toMap unsampled mapRefusal mapOf newUserRefusal newUserOf nextSolver grantOne grant
     grantRefusal grantOf isUnused deleteIfUnused show hide change setMode setModeRefusal setModeOf isHidden observeOne observe observeRefusal observeOf
-    notHeld mark markRefusal markOf removeHeld learn sweepHeld sweepOne sweep sweepRefusal sweepOf renameLits unmatched outside unheld stepRefusal
+    notHeld heldElse mark markRefusal markOf removeHeld learn sweepHeld sweepOne sweep sweepRefusal sweepOf renameLits unmatched outside unheld litsHeldElse
+    stepRefusal
     stepBytes writeRefusal writeOf
 worked =
     refl and refl and refl and refl and refl and refl and refl and refl and refl and refl and

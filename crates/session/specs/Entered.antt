@@ -45,7 +45,9 @@ abbrev pub simplifyLines : List ℕ → List ℕ → List ℕ → List Note → 
 simplifyLines [] lits rest notes = []
 simplifyLines (zero ∷ vs) lits rest notes = []
 simplifyLines (suc zero ∷ vs) lits rest notes = line Delete true lits notes ∷ []
-simplifyLines (suc (suc k) ∷ vs) lits rest notes = line Add true rest notes ∷ line Delete true lits notes ∷ []
+simplifyLines (suc (suc zero) ∷ vs) lits rest notes = line Add true rest notes ∷ line Delete true lits notes ∷ []
+simplifyLines (suc (suc (suc zero)) ∷ vs) lits rest notes = line Add true rest notes ∷ line Delete true lits notes ∷ []
+simplifyLines (suc (suc (suc (suc k))) ∷ vs) lits rest notes = []
 
 -- Write, told by the kind of step: a clause is added or deleted, units are added one by one, and the ten other kinds have no line.
 abbrev pub writeLines : ProofStep → Bool → List ℕ → List Note → List Line

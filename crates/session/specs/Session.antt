@@ -26,8 +26,8 @@ abbrev pub turn : Call → Rooms → Turn
 turn call rooms = record { call = call; rooms = rooms }
 
 -- what it does, in the session's format
-unfoldable pub does : Format → Turn → Table → Outcome
-does f x t = perform f (x .call) (x .rooms) t
+unfoldable pub turnDoes : Format → Turn → Table → Outcome
+turnDoes f x t = perform f (x .call) (x .rooms) t
 
 -- The table as the last call left it, the ledger with its entries and its lines, and the proof bytes joined up to then.
 pub record State : Type 0 where
@@ -53,12 +53,12 @@ enter σ call o (accepted vs) =
       bytes = σ .bytes ++ o .bytes;
     }
 
-unfoldable pub after : Format → State → Turn → State
-after f σ x = let o = does f x (σ .table) in enter σ (x .call) o (o .answer)
+unfoldable pub afterTurn : Format → State → Turn → State
+afterTurn f σ x = let o = turnDoes f x (σ .table) in enter σ (x .call) o (o .answer)
 
 unfoldable pub run : Format → State → List Turn → State
 run f σ [] = σ
-run f σ (x ∷ xs) = run f (after f σ x) xs
+run f σ (x ∷ xs) = run f (afterTurn f σ x) xs
 
 -- a Lookup of the table is accepted and says this
 abbrev pub Says : (Table → ℕ → Outcome) → Table → ℕ → ℕ → Type 0

@@ -27,24 +27,24 @@ use Rattle.scope.specs.Remove.{sweepOf}
 use Rattle.scope.specs.Write.{writeOf}
 
 -- what is looked at: notes, an answer, bytes
-pub data Seen : Type 0 where
-  notes : List Note → Seen
-  answer : Answer → Seen
-  bytes : List ℕ → Seen
+pub data CaseSeen : Type 0 where
+  notes : List Note → CaseSeen
+  answer : Answer → CaseSeen
+  bytes : List ℕ → CaseSeen
 
 -- a case's number, what the definitions give, and what document 01 says
 pub record Case : Type 0 where
   pub number : ℕ
-  pub gives : Seen
-  pub says : Seen
+  pub gives : CaseSeen
+  pub says : CaseSeen
 
-abbrev case : ℕ → Seen → Seen → Case
+abbrev case : ℕ → CaseSeen → CaseSeen → Case
 case n x y = record { number = n; gives = x; says = y }
 
 -- In every case they are the same.
-abbrev pub Agree : List Case → Type 0
-Agree [] = Unit {0}
-Agree (c ∷ cs) = (c .gives ≡ c .says) × Agree cs
+abbrev pub CasesAgree : List Case → Type 0
+CasesAgree [] = Unit {0}
+CasesAgree (c ∷ cs) = (c .gives ≡ c .says) × CasesAgree cs
 
 -- A DIMACS number, the literal code that it is the number of, and its bytes: its decimal digits, after a minus if it is negative, with a
 -- blank after them; twice its magnitude, plus 1 if it is negative, in LEB128. `number-bytes` ties them to the writer's.

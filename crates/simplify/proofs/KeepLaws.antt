@@ -83,7 +83,8 @@ module _ (q : ℕ → Bool) (xs : List ℕ) where
     pub store-start : l ≡ stored 0
     store-start = ap (λ (ys : List ℕ). sets l 0 (map f ys)) (sym kept-start)
 
-    pub store-some : (m : List ℕ) (i k x : ℕ) → i < length xs → q (getD xs i 0) ≡ true → k ≡ length (keptTo i) → m ≡ stored i → x ≡ f (getD xs i 0) → set m k x ≡ stored (i + 1)
+    pub store-some : (m : List ℕ) (i k x : ℕ) → i < length xs → q (getD xs i 0) ≡ true → k ≡ length (keptTo i) → m ≡ stored i → x ≡ f (getD xs i 0)
+        → set m k x ≡ stored (i + 1)
     store-some m i k x h e n w v =
         store-next l m (map f (keptTo i)) 0 k x w (omega (arith, n, length-map (keptTo i) f))
         ∙ ap (λ (ys : List ℕ). sets l 0 ys)

@@ -28,17 +28,18 @@ use Rattle.scope.specs.Contract.{Does}
 use Rattle.scope.specs.Sound.{soundb}
 use Rattle.scope.specs.Steps.{clauseSteps}
 use Rattle.scope.specs.Outcome.{Outcome, refusal, unless}
-use Rattle.scope.specs.Write.{renameLits, holders, outside, unheld}
+use Rattle.scope.specs.Write.{renameLits, holders, outside}
 use Rattle.scope.specs.Literals.{indexOf}
-use Rattle.scope.specs.Marks.{notHeld}
-use Rattle.scope.specs.Simplify.{isFalse, unfalse, simplified, restOf, flagOf, deleteCause, simplifySteps, simplifyBytes, simplifyRefusal, simplifiedNumber, simplifyOf}
-use Rattle.scope.proofs.ResultLaws.{past}
+use Rattle.scope.specs.Marks.{notHeld, unheld, litsHeldElse}
+use Rattle.scope.specs.Simplify.{isFalse, unfalse, simplified, restOf, flagOf, deleteCause, simplifySteps, simplifyBytes, simplifyRefusal, simplifiedNumber}
+use Rattle.scope.specs.Simplify.{simplifyOf}
+use Rattle.scope.proofs.ResultLaws.{past, unless-some}
+use Rattle.scope.proofs.MarkLaws.{lits-past, lits-else, lits-refuses}
 use Rattle.steps.specs.declared.write.Recorded.{Recorded}
 use Rattle.steps.specs.declared.write.Recorded.the-variants as W
 use Rattle.steps.specs.Refusals.{literalRefusal, laid, laidBytes}
 use Rattle.steps.proofs.WriteLaws.{short-laid, whole-laid, laid-done, laid-refused, filled-done, filled-refused}
 use Rattle.steps.proofs.LiteralLaws.{clear, few, names-part, names-within, names-given as names-written}
-use Rattle.scope.proofs.ResultLaws.{unless-some}
 use Rattle.steps.proofs.ChainLaws.{first-some, first-none}
 use Rattle.steps.proofs.UnitLaws.{encode-none}
 use Rattle.simplify.specs.declared.Reduced.{Reduced}
@@ -86,10 +87,11 @@ module _ (t : Table) (lits : List ℕ) where
       let q = clear t true lits (p .1) in
       record { sound = not-false (soundb t) (p .0); inside = q .inside; held = q .held }
 
+  -- those before 8
   tests : List (Bool × ℕ)
-  tests = (not (soundb t), 0) ∷ (ltb 8192 (length lits), 2) ∷ (unheld t true lits, 7) ∷ []
+  tests = (not (soundb t), 0) ∷ (ltb 8192 (length lits), 2) ∷ []
 
-  clause-tests : clauseRefusal t lits ≡ pick (not (soundb t)) 1 (pick (ltb 8192 (length lits)) 3 (pick (unheld t true lits) 8 0))
+  clause-tests : clauseRefusal t lits ≡ pick (not (soundb t)) 1 (pick (ltb 8192 (length lits)) 3 (litsHeldElse t true lits 0))
   unfolding clauseRefusal literalRefusal outside
   clause-tests = rw (or-false (ltb 8192 (length lits)))
 
@@ -103,11 +105,15 @@ module _ (f : Format) (t : Table) (lits : List ℕ) (redundant : Bool) (outs roo
 
   first : (n : ℕ) → n ≡ clauseRefusal t lits → (n ≡ 0 → ⊥) → n ≡ simplifyRefusal f t lits redundant outs room
   unfolding simplifyRefusal tests
-  first n e h = first-some (tests t lits) n later (e ∙ clause-tests t lits) h
+  first n e h =
+      first-some (tests t lits) n (litsHeldElse t true lits 0) (litsHeldElse t true lits later) (λ q. lits-refuses t true lits n later q h)
+      (e ∙ clause-tests t lits)
 
   after : clauseRefusal t lits ≡ 0 → simplifyRefusal f t lits redundant outs room ≡ later
   unfolding simplifyRefusal tests
-  after e = first-none (tests t lits) (clauseRefusal t lits) later (clause-tests t lits) e
+  after e =
+      let x = first-none (tests t lits) (litsHeldElse t true lits 0) (litsHeldElse t true lits later) (sym (clause-tests t lits) ∙ e) in
+      x .1 ∙ lits-else t true lits later (lits-past t true lits 0 (x .0) .0)
 
   -- ---- an outcome by the sort
 
@@ -132,7 +138,8 @@ module _ (f : Format) (t : Table) (lits : List ℕ) (redundant : Bool) (outs roo
   unfolding simplifyOf simplifyBytes
   by-sort what a b d z s p q r =
       ap (λ (m : ℕ). unless m t (filledAs (simplified t lits))) (after z)
-      ∙ ap (λ (w : Simplified). unless (pick (tooFew t lits) 12 (pick (ltb outs (length (restOf w t lits)) || ltb room (length (bytesAs w))) 2 0)) t (filledAs w)) s
+      ∙ ap (λ (w : Simplified). unless (pick (tooFew t lits) 12 (pick (ltb outs (length (restOf w t lits)) || ltb room (length (bytesAs w))) 2 0)) t
+      (filledAs w)) s
       ∙ rw (p, q, r)
 
   pub comes-first : (n : ℕ) → n ≡ clauseRefusal t lits → (n ≡ 0 → ⊥) → outcome ≡ refusal n t
@@ -143,15 +150,18 @@ module _ (f : Format) (t : Table) (lits : List ℕ) (redundant : Bool) (outs roo
   unfolding unless
   comes-12 what z s p = by-sort what true _ _ z s p refl refl
 
-  pub comes-2-words : (what : Simplified) → clauseRefusal t lits ≡ 0 → simplified t lits ≡ what → tooFew t lits ≡ false → outs < length (restOf what t lits) → outcome ≡ refusal 2 t
+  pub comes-2-words : (what : Simplified) → clauseRefusal t lits ≡ 0 → simplified t lits ≡ what → tooFew t lits ≡ false → outs < length (restOf what t lits)
+      → outcome ≡ refusal 2 t
   unfolding unless
   comes-2-words what z s p l = by-sort what false true _ z s p (lt-ltb outs (length (restOf what t lits)) l) refl
 
-  pub comes-2-bytes : (what : Simplified) → clauseRefusal t lits ≡ 0 → simplified t lits ≡ what → tooFew t lits ≡ false → length (restOf what t lits) ≤ outs → ltb room (length (bytesAs what)) ≡ true → outcome ≡ refusal 2 t
+  pub comes-2-bytes : (what : Simplified) → clauseRefusal t lits ≡ 0 → simplified t lits ≡ what → tooFew t lits ≡ false → length (restOf what t lits) ≤ outs
+      → ltb room (length (bytesAs what)) ≡ true → outcome ≡ refusal 2 t
   unfolding unless
   comes-2-bytes what z s p l q = by-sort what false false true z s p (le-ltb outs (length (restOf what t lits)) l) q
 
-  pub comes-filled : (what : Simplified) → clauseRefusal t lits ≡ 0 → simplified t lits ≡ what → tooFew t lits ≡ false → length (restOf what t lits) ≤ outs → ltb room (length (bytesAs what)) ≡ false → outcome ≡ filledAs what
+  pub comes-filled : (what : Simplified) → clauseRefusal t lits ≡ 0 → simplified t lits ≡ what → tooFew t lits ≡ false → length (restOf what t lits) ≤ outs
+      → ltb room (length (bytesAs what)) ≡ false → outcome ≡ filledAs what
   unfolding unless
   comes-filled what z s p l q = by-sort what false false false z s p (le-ltb outs (length (restOf what t lits)) l) q
 
@@ -191,20 +201,34 @@ module _ (f : Format) (t : Table) (lits : List ℕ) (redundant : Bool) (room : �
 abbrev dropBytes : Format → Table → List ℕ → DeleteClauseProof → List ℕ
 dropBytes f t lits cause = encode f (clauseSteps (DeleteClause cause) (renameLits (holders t) true lits))
 
-module _ (f : Format) (t : Table) (lits : List ℕ) (redundant : Bool) (cause : DeleteClauseProof) (o x : List ℕ) (z : clauseRefusal t lits ≡ 0) (s : simplified t lits ≡ Dropped) where
-  pub dropped-short : (n : ℕ) (r : Recorded) → r ≡ laid (dropBytes f t lits cause) (length o) → r ≡ W.Refused n → x ≡ sets o 0 (laidBytes (dropBytes f t lits cause) (length o))
-      → ((outs : ℕ) → refused 2 [] ≡ outcome f t lits redundant outs (length o) .answer) × ((outs : ℕ) → x ≡ sets o 0 (outcome f t lits redundant outs (length o) .bytes))
+module _ (f : Format) (t : Table) (lits : List ℕ) (redundant : Bool) (cause : DeleteClauseProof) (o x : List ℕ) (z : clauseRefusal t lits ≡ 0)
+    (s : simplified t lits ≡ Dropped) where
+  pub dropped-short : (n : ℕ) (r : Recorded) → r ≡ laid (dropBytes f t lits cause) (length o) → r ≡ W.Refused n
+      → x ≡ sets o 0 (laidBytes (dropBytes f t lits cause) (length o))
+      → ((outs : ℕ) → refused 2 [] ≡ outcome f t lits redundant outs (length o) .answer)
+      × ((outs : ℕ) → x ≡ sets o 0 (outcome f t lits redundant outs (length o) .bytes))
   dropped-short n r e q u =
       let w = laid-refused (dropBytes f t lits cause) (length o) n r e q in
-      let k : (outs : ℕ) → outcome f t lits redundant outs (length o) ≡ refusal 2 t = λ outs. comes-2-bytes f t lits redundant outs (length o) Dropped z s (few-dropped t lits s) (omega arith) w in
-      (λ outs. sym (ap (λ (p : Outcome). p .answer) (k outs)), λ outs. filled-refused (dropBytes f t lits cause) o x w u ∙ sym (ap (λ (p : Outcome). sets o 0 (p .bytes)) (k outs)))
+      let k : (outs : ℕ) → outcome f t lits redundant outs (length o) ≡ refusal 2 t =
+      λ outs. comes-2-bytes f t lits redundant outs (length o) Dropped z s (few-dropped t lits s) (omega arith) w in (
+        λ outs. sym (ap (λ (p : Outcome). p .answer) (k outs)),
+        λ outs. filled-refused (dropBytes f t lits cause) o x w u
+            ∙ sym (ap (λ (p : Outcome). sets o 0 (p .bytes)) (k outs)),
+      )
 
-  pub dropped-filled : (n : ℕ) (r : Recorded) → r ≡ laid (dropBytes f t lits cause) (length o) → r ≡ W.Done n → x ≡ sets o 0 (laidBytes (dropBytes f t lits cause) (length o))
-      → ((outs : ℕ) → accepted (1 ∷ 0 ∷ 0 ∷ n ∷ []) ≡ outcome f t lits redundant outs (length o) .answer) × ((outs : ℕ) → x ≡ sets o 0 (outcome f t lits redundant outs (length o) .bytes))
+  pub dropped-filled : (n : ℕ) (r : Recorded) → r ≡ laid (dropBytes f t lits cause) (length o) → r ≡ W.Done n
+      → x ≡ sets o 0 (laidBytes (dropBytes f t lits cause) (length o))
+      → ((outs : ℕ) → accepted (1 ∷ 0 ∷ 0 ∷ n ∷ []) ≡ outcome f t lits redundant outs (length o) .answer)
+      × ((outs : ℕ) → x ≡ sets o 0 (outcome f t lits redundant outs (length o) .bytes))
   dropped-filled n r e q u =
       let w = laid-done (dropBytes f t lits cause) (length o) n r e q in
-      let k : (outs : ℕ) → outcome f t lits redundant outs (length o) ≡ filledAs f t lits redundant outs (length o) Dropped = λ outs. comes-filled f t lits redundant outs (length o) Dropped z s (few-dropped t lits s) (omega arith) (w .0) in
-      (λ outs. ap (λ (m : ℕ). accepted (1 ∷ 0 ∷ 0 ∷ m ∷ [])) (w .1) ∙ sym (ap (λ (p : Outcome). p .answer) (k outs)), λ outs. filled-done (dropBytes f t lits cause) o x (w .0) u ∙ sym (ap (λ (p : Outcome). sets o 0 (p .bytes)) (k outs)))
+      let k : (outs : ℕ) → outcome f t lits redundant outs (length o) ≡ filledAs f t lits redundant outs (length o) Dropped =
+      λ outs. comes-filled f t lits redundant outs (length o) Dropped z s (few-dropped t lits s) (omega arith) (w .0) in (
+        λ outs. ap (λ (m : ℕ). accepted (1 ∷ 0 ∷ 0 ∷ m ∷ [])) (w .1)
+            ∙ sym (ap (λ (p : Outcome). p .answer) (k outs)),
+        λ outs. filled-done (dropBytes f t lits cause) o x (w .0) u
+            ∙ sym (ap (λ (p : Outcome). sets o 0 (p .bytes)) (k outs)),
+      )
 
 -- ---- shortened or binary
 
@@ -213,7 +237,8 @@ cut-rest Shortened t lits shortened = refl
 cut-rest Binary t lits binary = refl
 
 cut-steps : (what : Simplified) (redundant : Bool) (rest clause : List ℕ) → Cuts what
-    → simplifySteps what redundant rest clause ≡ clauseSteps (AtClause (flagOf what redundant)) rest ++ clauseSteps (DeleteClause (deleteCause redundant simpler)) clause
+    → simplifySteps what redundant rest clause ≡ clauseSteps (AtClause (flagOf what redundant)) rest ++ clauseSteps
+    (DeleteClause (deleteCause redundant simpler)) clause
 cut-steps Shortened redundant rest clause shortened = refl
 cut-steps Binary redundant rest clause binary = refl
 
@@ -227,7 +252,8 @@ cut-bytes f what redundant flag cause rest clause k =
 -- both steps laid where there is room for both
 pub both-short : (f : Format) (what : Simplified) (redundant flag : Bool) (cause : DeleteClauseProof) (rest clause o : List ℕ) (a b : ℕ) → Cuts what
     → a ≡ length (encode f (clauseSteps (AtClause flag) rest)) → b ≡ length (encode f (clauseSteps (DeleteClause cause) clause)) → length o < a + b
-    → (W.Refused 2 ≡ laid (encode f (simplifySteps what redundant rest clause)) (length o)) × (o ≡ sets o 0 (laidBytes (encode f (simplifySteps what redundant rest clause)) (length o)))
+    → (W.Refused 2 ≡ laid (encode f (simplifySteps what redundant rest clause)) (length o))
+    × (o ≡ sets o 0 (laidBytes (encode f (simplifySteps what redundant rest clause)) (length o)))
 both-short f what redundant flag cause rest clause o a b k p q l =
     let e = ap length (cut-bytes f what redundant flag cause rest clause k) in
     let x = encode f (clauseSteps (AtClause flag) rest) in
@@ -237,7 +263,8 @@ both-short f what redundant flag cause rest clause o a b k p q l =
 pub both-whole : (f : Format) (what : Simplified) (redundant flag : Bool) (cause : DeleteClauseProof) (rest clause o u v : List ℕ) (a b : ℕ) → Cuts what
     → a ≡ length (encode f (clauseSteps (AtClause flag) rest)) → b ≡ length (encode f (clauseSteps (DeleteClause cause) clause)) → a + b ≤ length o
     → u ≡ sets o 0 (encode f (clauseSteps (AtClause flag) rest)) → v ≡ sets u a (encode f (clauseSteps (DeleteClause cause) clause))
-    → (W.Done (a + b) ≡ laid (encode f (simplifySteps what redundant rest clause)) (length o)) × (v ≡ sets o 0 (laidBytes (encode f (simplifySteps what redundant rest clause)) (length o)))
+    → (W.Done (a + b) ≡ laid (encode f (simplifySteps what redundant rest clause)) (length o))
+    × (v ≡ sets o 0 (laidBytes (encode f (simplifySteps what redundant rest clause)) (length o)))
 both-whole f what redundant flag cause rest clause o u v a b k p q l m n =
     let e = cut-bytes f what redundant flag cause rest clause k in
     let x = encode f (clauseSteps (AtClause flag) rest) in
@@ -245,7 +272,8 @@ both-whole f what redundant flag cause rest clause o u v a b k p q l m n =
     whole-laid (encode f (simplifySteps what redundant rest clause)) o v (a + b) (omega (arith, ap length e, length-append x y)) l
     (n ∙ ap₂ (λ (w : List ℕ) (i : ℕ). sets w i y) m (p ∙ omega arith) ∙ sym (sets-append x y o 0) ∙ sym (ap (sets o 0) e))
 
-module _ (f : Format) (t : Table) (lits : List ℕ) (redundant : Bool) (outs room : ℕ) (what : Simplified) (z : clauseRefusal t lits ≡ 0) (s : simplified t lits ≡ what) (k : Cuts what) where
+module _ (f : Format) (t : Table) (lits : List ℕ) (redundant : Bool) (outs room : ℕ) (what : Simplified) (z : clauseRefusal t lits ≡ 0)
+    (s : simplified t lits ≡ what) (k : Cuts what) where
   pub cut-few : length (unfalse t lits) < 2 → outcome f t lits redundant outs room ≡ refusal 12 t
   cut-few l = comes-12 f t lits redundant outs room what z s (few-cut t lits what s k ∙ lt-ltb (length (unfalse t lits)) 2 l)
 
@@ -253,7 +281,8 @@ module _ (f : Format) (t : Table) (lits : List ℕ) (redundant : Bool) (outs roo
   enough l = few-cut t lits what s k ∙ le-ltb (length (unfalse t lits)) 2 l
 
   pub cut-short-words : 2 ≤ length (unfalse t lits) → outs < length (unfalse t lits) → outcome f t lits redundant outs room ≡ refusal 2 t
-  cut-short-words l h = comes-2-words f t lits redundant outs room what z s (enough l) (subst (λ (r : List ℕ). outs < length r) (sym (cut-rest what t lits k)) h)
+  cut-short-words l h = comes-2-words f t lits redundant outs room what z s (enough l)
+      (subst (λ (r : List ℕ). outs < length r) (sym (cut-rest what t lits k)) h)
 
   -- the rest and the clause, whose names are read back from buffers
   module _ (rest clause : List ℕ) (p : rest ≡ renameLits (holders t) true (unfalse t lits)) (q : clause ≡ renameLits (holders t) true lits) where
@@ -262,14 +291,16 @@ module _ (f : Format) (t : Table) (lits : List ℕ) (redundant : Bool) (outs roo
         ap₂ (λ (x y : List ℕ). encode f (simplifySteps what redundant x y))
         (p ∙ ap (renameLits (holders t) true) (sym (cut-rest what t lits k))) q
 
-    pub cut-short-bytes : 2 ≤ length (unfalse t lits) → length (unfalse t lits) ≤ outs → ltb room (length (encode f (simplifySteps what redundant rest clause))) ≡ true
+    pub cut-short-bytes : 2 ≤ length (unfalse t lits) → length (unfalse t lits) ≤ outs
+        → ltb room (length (encode f (simplifySteps what redundant rest clause))) ≡ true
         → outcome f t lits redundant outs room ≡ refusal 2 t
     cut-short-bytes l h e =
         comes-2-bytes f t lits redundant outs room what z s (enough l)
         (subst (λ (r : List ℕ). length r ≤ outs) (sym (cut-rest what t lits k)) h)
         (sym (ap (λ (bs : List ℕ). ltb room (length bs)) same-bytes) ∙ e)
 
-    pub cut-filled : 2 ≤ length (unfalse t lits) → length (unfalse t lits) ≤ outs → ltb room (length (encode f (simplifySteps what redundant rest clause))) ≡ false
+    pub cut-filled : 2 ≤ length (unfalse t lits) → length (unfalse t lits) ≤ outs
+        → ltb room (length (encode f (simplifySteps what redundant rest clause))) ≡ false
         → outcome f t lits redundant outs room ≡ filledAs f t lits redundant outs room what
     cut-filled l h e =
         comes-filled f t lits redundant outs room what z s (enough l)
@@ -310,7 +341,8 @@ module _ (t : Table) (lits : List ℕ) (z : clauseRefusal t lits ≡ 0) (o : Lis
         let w = names-written t true lits o m e (j .inside) q (j .sound) (j .held) in
         record { codes = w .0; few = w .1 }
 
-    pub rest-part : (k : ℕ) → k ≡ length (unfalse t lits) → m ≡ sets o 0 (renameLits (holders t) true (unfalse t lits)) → take k m ≡ renameLits (holders t) true (unfalse t lits)
+    pub rest-part : (k : ℕ) → k ≡ length (unfalse t lits) → m ≡ sets o 0 (renameLits (holders t) true (unfalse t lits))
+        → take k m ≡ renameLits (holders t) true (unfalse t lits)
     rest-part k n q = ap (λ (i : ℕ). take i m) n ∙ names-part t true (unfalse t lits) o m e rest-inside q
 
     pub rest-written : (k : ℕ) → k ≡ length (unfalse t lits) → m ≡ sets o 0 (renameLits (holders t) true (unfalse t lits)) → Written (take k m)
@@ -330,7 +362,8 @@ answer-is what m n flag i j g p q r = λ d. accepted (simplifiedNumber what ∷ 
 
 -- ---- a clause cut: what the call says, with the slices for words and bytes before (o, b) and after (x, y)
 
-module _ (f : Format) (t : Table) (lits : List ℕ) (redundant : Bool) (what : Simplified) (o b : List ℕ) (z : clauseRefusal t lits ≡ 0) (s : simplified t lits ≡ what) (k : Cuts what) where
+module _ (f : Format) (t : Table) (lits : List ℕ) (redundant : Bool) (what : Simplified) (o b : List ℕ) (z : clauseRefusal t lits ≡ 0)
+    (s : simplified t lits ≡ what) (k : Cuts what) where
   abbrev comes : Outcome
   comes = outcome f t lits redundant (length o) (length b)
 
@@ -343,10 +376,12 @@ module _ (f : Format) (t : Table) (lits : List ℕ) (redundant : Bool) (what : S
 
   pub says-2-words : (m : ℕ) → m ≡ length (unfalse t lits) → 2 ≤ m → length o < m → Says (refused 2 []) o b
   says-2-words m e l h =
-      parts comes (refusal 2 t) (refused 2 []) o b o b (cut-short-words f t lits redundant (length o) (length b) what z s k (omega arith) (omega arith)) refl refl refl
+      parts comes (refusal 2 t) (refused 2 []) o b o b (cut-short-words f t lits redundant (length o) (length b) what z s k (omega arith) (omega arith)) refl
+      refl refl
 
   module _ (rest clause y : List ℕ) (p : rest ≡ renameLits (holders t) true (unfalse t lits)) (q : clause ≡ renameLits (holders t) true lits) (r : Recorded)
-      (e : r ≡ laid (encode f (simplifySteps what redundant rest clause)) (length b)) (u : y ≡ sets b 0 (laidBytes (encode f (simplifySteps what redundant rest clause)) (length b))) where
+      (e : r ≡ laid (encode f (simplifySteps what redundant rest clause)) (length b))
+      (u : y ≡ sets b 0 (laidBytes (encode f (simplifySteps what redundant rest clause)) (length b))) where
     both : List ℕ
     both = encode f (simplifySteps what redundant rest clause)
 
@@ -386,19 +421,25 @@ module _ (f : Format) (t : Table) (lits : List ℕ) (redundant : Bool) (o b : Li
   pub dropped-words : simplified t lits ≡ Dropped → o ≡ sets o 0 (outcome f t lits redundant (length o) (length b) .words)
   dropped-words s = go (ltb (length b) (length (bytesAs f t lits redundant (length o) (length b) Dropped))) refl
     where
-      go : (d : Bool) → ltb (length b) (length (bytesAs f t lits redundant (length o) (length b) Dropped)) ≡ d → o ≡ sets o 0 (outcome f t lits redundant (length o) (length b) .words)
-      go true e = sym (ap (λ (p : Outcome). sets o 0 (p .words)) (comes-2-bytes f t lits redundant (length o) (length b) Dropped z s (few-dropped t lits s) (omega arith) e))
-      go false e = sym (ap (λ (p : Outcome). sets o 0 (p .words)) (comes-filled f t lits redundant (length o) (length b) Dropped z s (few-dropped t lits s) (omega arith) e))
+      go : (d : Bool) → ltb (length b) (length (bytesAs f t lits redundant (length o) (length b) Dropped)) ≡ d
+          → o ≡ sets o 0 (outcome f t lits redundant (length o) (length b) .words)
+      go true e = sym (ap (λ (p : Outcome). sets o 0 (p .words))
+          (comes-2-bytes f t lits redundant (length o) (length b) Dropped z s (few-dropped t lits s) (omega arith) e))
+      go false e = sym (ap (λ (p : Outcome). sets o 0 (p .words))
+          (comes-filled f t lits redundant (length o) (length b) Dropped z s (few-dropped t lits s) (omega arith) e))
 
 -- the table that an answer leaves is the one given
-left-same : (r : Reduced) (t : Table) → tableOf (reduced r (t .counts) .counts) (t .globalFromUser) (t .userFromGlobal) (t .solverFromGlobal) (t .globalFromSolver) (t .assignment) (t .records) ≡ t
-left-same (Done what rest flag bytes) t = refl
-left-same (Refused n) t = refl
+reduced-same : (r : Reduced) (t : Table) → tableOf (reduced r (t .counts) .counts) (t .globalFromUser) (t .userFromGlobal) (t .solverFromGlobal)
+    (t .globalFromSolver) (t .assignment) (t .records) ≡ t
+reduced-same (Done what rest flag bytes) t = refl
+reduced-same (Refused n) t = refl
 
-pub meets : (f : Format) (t : Table) (lits : List ℕ) (redundant : Bool) (outs room : ℕ) (r : Reduced) → reduced r (t .counts) .answer ≡ outcome f t lits redundant outs room .answer
+pub meets : (f : Format) (t : Table) (lits : List ℕ) (redundant : Bool) (outs room : ℕ) (r : Reduced)
+    → reduced r (t .counts) .answer ≡ outcome f t lits redundant outs room .answer
     → Does (outcome f t lits redundant outs room) (reduced r (t .counts))
-    (tableOf (reduced r (t .counts) .counts) (t .globalFromUser) (t .userFromGlobal) (t .solverFromGlobal) (t .globalFromSolver) (t .assignment) (t .records)) [] []
+    (tableOf (reduced r (t .counts) .counts) (t .globalFromUser) (t .userFromGlobal) (t .solverFromGlobal) (t .globalFromSolver) (t .assignment) (t .records))
+    [] []
 unfolding notesWords
 meets f t lits redundant outs room r e =
     let w = comes-still f t lits redundant outs room in
-    record { answer = e; table = left-same r t ∙ sym (w .0); noted = sym (ap (λ (ns : List Note). sets [] 0 (notesWords ns)) (w .1)) }
+    record { answer = e; table = reduced-same r t ∙ sym (w .0); noted = sym (ap (λ (ns : List Note). sets [] 0 (notesWords ns)) (w .1)) }

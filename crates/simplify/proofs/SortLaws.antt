@@ -20,30 +20,32 @@ use Rattle.simplify.specs.Values.{trueBy, falseBy, unfalseBy}
 use Rattle.simplify.specs.Cuts.{Cuts, shortened, binary}
 use Rattle.simplify.proofs.KeepLaws.{some-go}
 
-module _ (t : Table) (lits : List ℕ) where
-  -- ---- the code's way
+-- ---- the code's way, by the assignment
 
-  pub sort-dropped : anyOf (trueBy (t .assignment)) lits ≡ true → Dropped ≡ simplified t lits
+module _ (t : Table) (values : List ℕ) (p : t .assignment ≡ values) (lits : List ℕ) where
+  pub sort-dropped : anyOf (trueBy values) lits ≡ true → Dropped ≡ simplified t lits
   unfolding simplified
-  sort-dropped a = rw a
+  sort-dropped a = rw (p, a)
 
-  some-false : anyOf (isFalse t) lits ≡ ltb (length (unfalseBy (t .assignment) lits)) (length lits)
-  some-false = some-go (isFalse t) lits
+  some-false : anyOf (falseBy values) lits ≡ ltb (length (unfalseBy values lits)) (length lits)
+  some-false = some-go (falseBy values) lits
 
-  pub sort-kept : (k : ℕ) → anyOf (trueBy (t .assignment)) lits ≡ false → k ≡ length (unfalseBy (t .assignment) lits) → length lits ≤ k → Kept ≡ simplified t lits
+  pub sort-kept : (k : ℕ) → anyOf (trueBy values) lits ≡ false → k ≡ length (unfalseBy values lits) → length lits ≤ k → Kept ≡ simplified t lits
   unfolding simplified
-  sort-kept k a n h = rw (a, some-false, le-ltb (length (unfalseBy (t .assignment) lits)) (length lits) (omega arith))
+  sort-kept k a n h = rw (p, a, some-false, le-ltb (length (unfalseBy values lits)) (length lits) (omega arith))
 
-  pub sort-binary : (k : ℕ) → anyOf (trueBy (t .assignment)) lits ≡ false → k ≡ length (unfalseBy (t .assignment) lits) → k < length lits → k ≡ 2 → Binary ≡ simplified t lits
+  pub sort-binary : (k : ℕ) → anyOf (trueBy values) lits ≡ false → k ≡ length (unfalseBy values lits) → k < length lits → k ≡ 2 → Binary ≡ simplified t lits
   unfolding simplified unfalse
   sort-binary k a n h z =
-      rw (a, some-false, lt-ltb (length (unfalseBy (t .assignment) lits)) (length lits) (omega arith), eq-eqb (length (unfalseBy (t .assignment) lits)) 2 (omega arith))
+      rw (p, a, some-false, lt-ltb (length (unfalseBy values lits)) (length lits) (omega arith), eq-eqb (length (unfalseBy values lits)) 2 (omega arith))
 
-  pub sort-shortened : (k : ℕ) → anyOf (trueBy (t .assignment)) lits ≡ false → k ≡ length (unfalseBy (t .assignment) lits) → k < length lits → (k ≡ 2 → ⊥) → Shortened ≡ simplified t lits
+  pub sort-shortened : (k : ℕ) → anyOf (trueBy values) lits ≡ false → k ≡ length (unfalseBy values lits) → k < length lits → (k ≡ 2 → ⊥)
+      → Shortened ≡ simplified t lits
   unfolding simplified unfalse
   sort-shortened k a n h z =
-      rw (a, some-false, lt-ltb (length (unfalseBy (t .assignment) lits)) (length lits) (omega arith), ne-eqb (length (unfalseBy (t .assignment) lits)) 2 (λ q. z (n ∙ q)))
+      rw (p, a, some-false, lt-ltb (length (unfalseBy values lits)) (length lits) (omega arith), ne-eqb (length (unfalseBy values lits)) 2 (λ q. z (n ∙ q)))
 
+module _ (t : Table) (lits : List ℕ) where
   -- ---- what the sort says of refusal 12: none true, some false, fewer than two unknown
 
   abbrev pub tooFew : Bool

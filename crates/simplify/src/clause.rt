@@ -10,8 +10,10 @@ ghost use lib.ListN.{length};
 ghost use Rattle.base.specs.Bounded.{anyOf};
 ghost use Rattle.base.specs.Lent.{old, new, Fills};
 ghost use Rattle.scope.specs.Sound.{soundb};
+ghost use Rattle.scope.specs.Table.{Table};
 ghost use Rattle.scope.specs.Contract.{given, before};
-ghost use Rattle.scope.specs.Write.{renameLits, holders, unheld};
+ghost use Rattle.scope.specs.Marks.{unheld};
+ghost use Rattle.scope.specs.Write.{renameLits, holders};
 ghost use Rattle.scope.specs.Simplify.{unfalse, simplified};
 ghost use Rattle.simplify.specs.Values.{trueBy, falseBy, unfalseBy};
 
@@ -56,17 +58,8 @@ fn count_unfalse(assignment: &[u32], lits: &[u32]) -> usize
 }
 
 // A true literal drops the clause; otherwise false literals go. Two left then is binary; where none went, it is kept.
-pub fn sort_clause(
-    c: Counts,
-    gu: &[u32],
-    ug: &[u32],
-    sg: &[u32],
-    gs: &[u32],
-    assignment: &[u32],
-    records: &[u32],
-    lits: &[u32],
-) -> Simplified
-    ensures { λ r. ⌜ r ≡ simplified (before c gu ug sg gs assignment records) (old lits) ⌝ }
+pub fn sort_clause(assignment: &[u32], lits: &[u32]) -> Simplified
+    ensures { λ r. ⌜ ((t : Table) → t .assignment ≡ old assignment → r ≡ simplified t (old lits)) ⌝ }
 {
     if any_true(assignment, lits) {
         return Simplified::Dropped;

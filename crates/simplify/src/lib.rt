@@ -47,7 +47,7 @@ fn clause_refusal(
     if !is_sound(c, gu, ug, sg, gs, assignment, records) {
         return 1;
     }
-    literal_refusal(c, gu, ug, sg, gs, assignment, records, true, lits)
+    literal_refusal(c, gs, true, lits)
 }
 
 // The add step's redundant flag: only if the clause was and over two remain.
@@ -220,7 +220,8 @@ fn shorten_clause(
     requires { ⌜ clauseRefusal (given c gu ug sg gs assignment records) (now lits) ≡ 0 ⌝ }
     requires { ⌜ simplified (given c gu ug sg gs assignment records) (now lits) ≡ what ⌝ }
     requires { ⌜ Cuts what ⌝ }
-    ensures { λ r. ⌜ reduced r c .answer ≡ simplifyOf f (before c gu ug sg gs assignment records) (old lits) redundant (length (old out)) (length (old bytes)) .answer ⌝ }
+    ensures { λ r. ⌜ reduced r c .answer
+        ≡ simplifyOf f (before c gu ug sg gs assignment records) (old lits) redundant (length (old out)) (length (old bytes)) .answer ⌝ }
     ensures out { λ _. ⌜ Fills out 0
         (simplifyOf f (before c gu ug sg gs assignment records) (old lits) redundant (length (old out)) (length (old bytes)) .words) ⌝ }
     ensures bytes { λ _. ⌜ Fills bytes 0
@@ -282,7 +283,7 @@ pub fn simplify_clause(
     if n != 0 {
         return Reduced::Refused(n);
     }
-    let what = sort_clause(c, gu, ug, sg, gs, assignment, records, lits);
+    let what = sort_clause(assignment, lits);
     match what {
         Simplified::Kept => keep_clause(c, gu, ug, sg, gs, assignment, records, lits, out),
         Simplified::Dropped => drop_clause(

@@ -8,7 +8,8 @@ use lib.ListN.{getD}
 use Rattle.scope.specs.declared.Counts.{Counts}
 use Rattle.scope.specs.declared.DeleteClauseProof.the-variants.{Redundant, Satisfied, Simplified}
 use Rattle.scope.specs.declared.ProofStep.{ProofStep}
-use Rattle.scope.specs.declared.ProofStep.the-variants.{AddClause, AtClause, UnitClauses, DeleteClause, Model, Assumptions, FailedAssumptions, SolverVarName, UserVarName, DeleteVar, ChangeSamplingMode, ChangeHashBits, End}
+use Rattle.scope.specs.declared.ProofStep.the-variants.{AddClause, AtClause, UnitClauses, DeleteClause, Model, Assumptions, FailedAssumptions, SolverVarName}
+use Rattle.scope.specs.declared.ProofStep.the-variants.{UserVarName, DeleteVar, ChangeSamplingMode, ChangeHashBits, End}
 use Rattle.scope.specs.Steps.{stepWords}
 use Rattle.steps.specs.declared.rename.Renamed.{Renamed}
 use Rattle.steps.specs.declared.rename.Renamed.the-variants.{Done, Refused}

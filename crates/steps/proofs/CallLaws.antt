@@ -31,5 +31,6 @@ told o p said left a b d x y z e n q r u v w =
     }
 
 -- a refusal leaves all memory as it was
-pub told-refusal : (o : Outcome) (n : ℕ) (t : Table) (said : Said) (a b d : List ℕ) → o ≡ refusal n t → said .answer ≡ refusal n t .answer → Told o said t a b d a b d
+pub told-refusal : (o : Outcome) (n : ℕ) (t : Table) (said : Said) (a b d : List ℕ) → o ≡ refusal n t → said .answer ≡ refusal n t .answer
+    → Told o said t a b d a b d
 told-refusal o n t said a b d e q = told o (refusal n t) said t a b d a b d e refl q refl refl refl refl

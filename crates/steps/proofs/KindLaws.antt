@@ -7,7 +7,8 @@ use mathlib.Core.Bool.{_&&_, not}
 use lib.Dec.{lit<, eqb}
 use lib.ListN.{getD, length}
 use Rattle.scope.specs.declared.ProofStep.{ProofStep}
-use Rattle.scope.specs.declared.ProofStep.the-variants.{AddClause, AtClause, UnitClauses, DeleteClause, Model, Assumptions, FailedAssumptions, SolverVarName, UserVarName, DeleteVar, ChangeSamplingMode, ChangeHashBits, End}
+use Rattle.scope.specs.declared.ProofStep.the-variants.{AddClause, AtClause, UnitClauses, DeleteClause, Model, Assumptions, FailedAssumptions, SolverVarName}
+use Rattle.scope.specs.declared.ProofStep.the-variants.{UserVarName, DeleteVar, ChangeSamplingMode, ChangeHashBits, End}
 use Rattle.scope.specs.Steps.{ruleOf, kindOf}
 use Rattle.scope.specs.Write.{unmatched}
 use Rattle.steps.specs.Kinds.{ruleAt}

@@ -5,27 +5,25 @@ use mathlib.Core.Bool.{Bool, true, false, _&&_, _||_, not, true≢false}
 use mathlib.Core.Logic.{⊎-elim, _≢_}
 use mathlib.Core.List.{List, [], _∷_, map}
 use native.Mathlib.Omega.{arith}
-use lib.Dec.{eqb, ltb, leb, eqb·suc-zero}
+use lib.Dec.{eqb, ltb, leb}
 use lib.ListN.{length, getD, take, length-map, List·getD-eq-default}
 use lib.Seq.{sets, length-sets}
-use borrow.Author.Tests.{lt-ltb, le-ltb, ltb-false, eqb-false, leb-false}
+use borrow.Author.Tests.{ne-eqb, lt-ltb, le-ltb, ltb-false, eqb-false, leb-false}
 use Rattle.base.specs.Choice.{pick}
 use Rattle.base.specs.Bounded.{anyOf}
 use Rattle.base.proofs.Truth.{same, split}
 use Rattle.base.proofs.MemberLaws.{any-none, or-left, or-right}
 use Rattle.drat.specs.Grammar.{Codes}
-use Rattle.scope.specs.declared.Global.{Global}
-use Rattle.scope.specs.Table.{Table, word}
+use Rattle.scope.specs.declared.Counts.{Counts}
+use Rattle.scope.specs.Table.{Table}
 use Rattle.scope.specs.Sound.{soundb}
 use Rattle.scope.specs.Literals.{indexOf}
-use Rattle.scope.specs.Marks.{notHeld}
-use Rattle.scope.specs.Write.{renameLit, renameLits, holders, outside, unheld}
+use Rattle.scope.specs.Marks.{notHeld, unheld, litsHeldElse}
+use Rattle.scope.specs.Write.{renameLit, renameLits, holders, outside}
 use Rattle.scope.proofs.SoundLaws.{sound-of}
 use Rattle.scope.proofs.PairLaws.{below-mark, pair-flip}
 use Rattle.scope.proofs.ResultLaws.{past}
-use Rattle.table.specs.declared.FoundGlobal.{FoundGlobal}
-use Rattle.table.specs.declared.FoundGlobal.the-variants.{At, Nothing}
-use Rattle.table.specs.Found.{foundGlobal}
+use Rattle.scope.proofs.MarkLaws.{lits-past, lits-else}
 use Rattle.steps.specs.Refusals.{literalRefusal}
 use Rattle.steps.proofs.StoreLaws.{stored-part}
 
@@ -35,21 +33,27 @@ pub refuse-many : (t : Table) (s : Bool) (lits : List ℕ) → 8192 < length lit
 unfolding literalRefusal outside
 refuse-many t s lits h = rw (lt-ltb 8192 (length lits) h)
 
-pub refuse-beyond : (t : Table) (s : Bool) (lits : List ℕ) → length lits ≤ 8192 → s ≡ false → anyOf (λ c. leb (t .counts .capacity) (indexOf c)) lits ≡ true → 3 ≡ literalRefusal t s lits
+pub refuse-beyond : (t : Table) (d : Counts) (s : Bool) (lits : List ℕ) → t .counts ≡ d → length lits ≤ 8192 → s ≡ false
+    → anyOf (λ c. leb (d .capacity) (indexOf c)) lits ≡ true → 3 ≡ literalRefusal t s lits
 unfolding literalRefusal outside
-refuse-beyond t s lits h z e = rw (z, le-ltb 8192 (length lits) h, e)
+refuse-beyond t d s lits p h z e = rw (z, le-ltb 8192 (length lits) h, p, e)
 
-pub pass-global : (t : Table) (s : Bool) (lits : List ℕ) → length lits ≤ 8192 → s ≡ false → anyOf (λ c. leb (t .counts .capacity) (indexOf c)) lits ≡ false → 0 ≡ literalRefusal t s lits
+pub pass-global : (t : Table) (d : Counts) (s : Bool) (lits : List ℕ) → t .counts ≡ d → length lits ≤ 8192 → s ≡ false
+    → anyOf (λ c. leb (d .capacity) (indexOf c)) lits ≡ false → 0 ≡ literalRefusal t s lits
 unfolding literalRefusal outside unheld
-pass-global t s lits h z e = rw (z, le-ltb 8192 (length lits) h, e)
+pass-global t d s lits p h z e =
+    let inside = ap (λ (x : Counts). anyOf (λ c. leb (x .capacity) (indexOf c)) lits) p ∙ e in
+    rw (z, le-ltb 8192 (length lits) h, inside) (sym (lits-else t false lits 0 refl))
 
-pub refuse-unheld : (t : Table) (s : Bool) (lits : List ℕ) → length lits ≤ 8192 → s ≡ true → anyOf (λ c. eqb (getD (t .globalFromSolver) (indexOf c) 0) 0) lits ≡ true → 8 ≡ literalRefusal t s lits
-unfolding literalRefusal outside unheld notHeld
-refuse-unheld t s lits h z e = rw (z, le-ltb 8192 (length lits) h, e)
+pub refuse-unheld : (t : Table) (gs : List ℕ) (s : Bool) (lits : List ℕ) → t .globalFromSolver ≡ gs → length lits ≤ 8192 → s ≡ true
+    → anyOf (λ c. eqb (getD gs (indexOf c) 0) 0) lits ≡ true → 8 ≡ literalRefusal t s lits
+unfolding literalRefusal outside litsHeldElse unheld notHeld
+refuse-unheld t gs s lits q h z e = rw (z, le-ltb 8192 (length lits) h, q, e)
 
-pub pass-solver : (t : Table) (s : Bool) (lits : List ℕ) → length lits ≤ 8192 → s ≡ true → anyOf (λ c. eqb (getD (t .globalFromSolver) (indexOf c) 0) 0) lits ≡ false → 0 ≡ literalRefusal t s lits
+pub pass-solver : (t : Table) (gs : List ℕ) (s : Bool) (lits : List ℕ) → t .globalFromSolver ≡ gs → length lits ≤ 8192 → s ≡ true
+    → anyOf (λ c. eqb (getD gs (indexOf c) 0) 0) lits ≡ false → 0 ≡ literalRefusal t s lits
 unfolding literalRefusal outside unheld notHeld
-pass-solver t s lits h z e = rw (z, le-ltb 8192 (length lits) h, e)
+pass-solver t gs s lits q h z e = rw (z, le-ltb 8192 (length lits) h) (sym (lits-else t true lits 0 (rw q e)))
 
 -- where neither applies
 pub record Clear (t : Table) (s : Bool) (lits : List ℕ) : Type 0 where
@@ -59,14 +63,17 @@ pub record Clear (t : Table) (s : Bool) (lits : List ℕ) : Type 0 where
 pub clear : (t : Table) (s : Bool) (lits : List ℕ) → literalRefusal t s lits ≡ 0 → Clear t s lits
 unfolding literalRefusal
 clear t s lits e =
-    let p = past (outside t s lits) 3 (pick (unheld t s lits) 8 0) (omega arith) e in
-    record { inside = p .0; held = past (unheld t s lits) 8 0 (omega arith) (p .1) .0 }
+    let p = past (outside t s lits) 3 (litsHeldElse t s lits 0) (omega arith) e in
+    record { inside = p .0; held = lits-past t s lits 0 (p .1) .0 }
 
 pub few : (t : Table) (s : Bool) (lits : List ℕ) → outside t s lits ≡ false → length lits ≤ 8192
 unfolding outside
 few t s lits e = ltb-false 8192 (length lits) (or-left (ltb 8192 (length lits)) _ e)
 
 -- ---- names
+
+pub word-filled : (w g : ℕ) → w ≡ g + 1 → eqb w 0 ≡ false
+word-filled w g e = ne-eqb w 0 (λ z. omega arith)
 
 there : (l : List ℕ) (i : ℕ) → getD l i 0 ≢ 0 → i < length l
 there l i n = ⊎-elim (λ (h : i < length l). h) (λ (h : length l ≤ i). absurd (n (List·getD-eq-default l 0 h))) (split i (length l))
@@ -84,7 +91,8 @@ word-small t h s = ⊎-elim
     (same (getD (t .globalFromSolver) s 0) 0)
 
 -- the index of a held literal has a holder
-pub held-at : (t : Table) (s : Bool) (lits : List ℕ) (i : ℕ) → unheld t s lits ≡ false → i < length lits → s ≡ true → getD (t .globalFromSolver) (getD lits i 0 / 2) 0 ≢ 0
+pub held-at : (t : Table) (s : Bool) (lits : List ℕ) (i : ℕ) → unheld t s lits ≡ false → i < length lits → s ≡ true
+    → getD (t .globalFromSolver) (getD lits i 0 / 2) 0 ≢ 0
 unfolding unheld notHeld
 held-at t s lits i u l e =
     eqb-false (getD (t .globalFromSolver) (getD lits i 0 / 2) 0) 0
@@ -114,7 +122,8 @@ pub names-length : (h : ℕ → ℕ) (s : Bool) (lits : List ℕ) → length (re
 unfolding renameLits
 names-length h s lits = length-map lits (renameLit h s)
 
-pub names-codes : (t : Table) (s : Bool) (lits : List ℕ) → soundb t ≡ true → outside t s lits ≡ false → unheld t s lits ≡ false → Codes (renameLits (holders t) s lits)
+pub names-codes : (t : Table) (s : Bool) (lits : List ℕ) → soundb t ≡ true → outside t s lits ≡ false → unheld t s lits ≡ false
+    → Codes (renameLits (holders t) s lits)
 unfolding renameLits outside
 names-codes t s lits h o u i l =
     let k : i < length lits = subst (λ (n : ℕ). i < n) (length-map lits (renameLit (holders t) s)) l in
@@ -133,28 +142,17 @@ names-codes t s lits h o u i l =
 
 -- ---- names in a buffer of 8,192
 
-module _ (t : Table) (s : Bool) (lits zs m : List ℕ) (z : length zs ≡ 8192) (o : outside t s lits ≡ false) (e : m ≡ sets zs 0 (renameLits (holders t) s lits)) where
-  pub names-part : take (length lits) m ≡ renameLits (holders t) s lits
-  names-part =
-      let h = few t s lits o in
-      stored-part zs m (renameLits (holders t) s lits) (length lits) e (sym (names-length (holders t) s lits)) (omega arith)
+module _ (t : Table) (s : Bool) (lits zs m : List ℕ) (z : length zs ≡ 8192) (o : outside t s lits ≡ false) (e : m ≡ sets zs 0 (renameLits (holders t) s lits))
+  where
+    pub names-part : take (length lits) m ≡ renameLits (holders t) s lits
+    names-part =
+        let h = few t s lits o in
+        stored-part zs m (renameLits (holders t) s lits) (length lits) e (sym (names-length (holders t) s lits)) (omega arith)
 
-  pub names-within : length lits ≤ length m
-  names-within = let h = few t s lits o in let k = ap length e ∙ length-sets zs 0 (renameLits (holders t) s lits) in omega arith
+    pub names-within : length lits ≤ length m
+    names-within = let h = few t s lits o in let k = ap length e ∙ length-sets zs 0 (renameLits (holders t) s lits) in omega arith
 
-  pub names-given : soundb t ≡ true → unheld t s lits ≡ false → Codes (take (length lits) m) × (length (take (length lits) m) ≤ 8192)
-  names-given h u =
-      subst (λ (l : List ℕ). Codes l × (length l ≤ 8192)) (sym names-part)
-      (names-codes t s lits h o u, subst (λ (n : ℕ). n ≤ 8192) (sym (names-length (holders t) s lits)) (few t s lits o))
-
--- ---- a holder found, or none
-
-pub found-nothing : (w : ℕ) (r : FoundGlobal) → r ≡ foundGlobal w → r ≡ Nothing → eqb w 0 ≡ true
-unfolding word
-found-nothing zero r e q = refl
-found-nothing (suc i) r e q = let z : _≡_ {A = ℕ} 0 1 = cc in absurd (omega arith)
-
-pub found-at : (w : ℕ) (r : FoundGlobal) (g : Global) → r ≡ foundGlobal w → r ≡ At g → eqb w 0 ≡ false
-unfolding word
-found-at zero r g e q = let z : _≡_ {A = ℕ} 0 1 = cc in absurd (omega arith)
-found-at (suc i) r g e q = eqb·suc-zero i
+    pub names-given : soundb t ≡ true → unheld t s lits ≡ false → Codes (take (length lits) m) × (length (take (length lits) m) ≤ 8192)
+    names-given h u =
+        subst (λ (l : List ℕ). Codes l × (length l ≤ 8192)) (sym names-part)
+        (names-codes t s lits h o u, subst (λ (n : ℕ). n ≤ 8192) (sym (names-length (holders t) s lits)) (few t s lits o))

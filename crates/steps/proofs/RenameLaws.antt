@@ -31,8 +31,10 @@ module _ (t : Table) (step : ProofStep) (s : Bool) (lits hashes a b : List ℕ) 
   unfolding renameOf
   rename-refused n e h = told-refusal outcome n t (renamed (Refused n) (t .counts)) a b [] (unless-some n refusing t _ e h) refl
 
-  pub rename-done : (n k m : ℕ) (x y : List ℕ) → n ≡ refusing → n ≡ 0 → k ≡ pick (ruleOf step .renamed) (length lits) 0 → m ≡ pick (hasHashes step) (length hashes) 0
-      → x ≡ sets a 0 (renameLits (holders t) s (take k lits)) → y ≡ sets b 0 (take m hashes) → Told outcome (renamed (Done k m step) (t .counts)) t a b [] x y []
+  pub rename-done : (n k m : ℕ) (x y : List ℕ) → n ≡ refusing → n ≡ 0 → k ≡ pick (ruleOf step .renamed) (length lits) 0
+      → m ≡ pick (hasHashes step) (length hashes) 0
+      → x ≡ sets a 0 (renameLits (holders t) s (take k lits)) → y ≡ sets b 0 (take m hashes)
+      → Told outcome (renamed (Done k m step) (t .counts)) t a b [] x y []
   unfolding renameOf
   rename-done n k m x y e z p q r u =
       told outcome _ (renamed (Done k m step) (t .counts)) t a b [] x y [] (unless-none refusing t _ (sym e ∙ z)) refl

@@ -14,11 +14,13 @@ use Rattle.scope.specs.declared.ProofStep.{ProofStep}
 use Rattle.scope.specs.Table.{Table}
 use Rattle.scope.specs.Sound.{soundb}
 use Rattle.scope.specs.Steps.{ruleOf, hasHashes, literalsOf, hashesOf}
-use Rattle.scope.specs.Write.{unmatched, outside, unheld, stepRefusal, renameRefusal}
+use Rattle.scope.specs.Marks.{litsHeldElse}
+use Rattle.scope.specs.Write.{unmatched, outside, stepRefusal, renameRefusal}
 use Rattle.scope.proofs.ResultLaws.{past}
+use Rattle.scope.proofs.MarkLaws.{lits-past, lits-else, lits-refuses}
 use Rattle.steps.specs.Refusals.{literalRefusal}
 use Rattle.steps.proofs.LiteralLaws.{Clear, clear}
-use Rattle.steps.proofs.ChainLaws.{first-some, first-none, first-zero}
+use Rattle.steps.proofs.ChainLaws.{first-some, first-none}
 
 -- ---- all of a list or none
 
@@ -43,7 +45,8 @@ literals-part step lits k e = ap (λ (n : ℕ). take n lits) e ∙ pick-part (ru
 pub literals-most : (step : ProofStep) (lits : List ℕ) (k : ℕ) → k ≡ pick (ruleOf step .renamed) (length lits) 0 → k ≤ length lits
 literals-most step lits k e = subst (λ (n : ℕ). n ≤ length lits) (sym e) (pick-most (ruleOf step .renamed) (length lits))
 
-pub literals-fit : (step : ProofStep) (lits : List ℕ) (k a : ℕ) → k ≡ pick (ruleOf step .renamed) (length lits) 0 → length (literalsOf step lits) ≤ a → length (take k lits) ≤ a
+pub literals-fit : (step : ProofStep) (lits : List ℕ) (k a : ℕ) → k ≡ pick (ruleOf step .renamed) (length lits) 0 → length (literalsOf step lits) ≤ a
+    → length (take k lits) ≤ a
 literals-fit step lits k a e h = subst (λ (l : List ℕ). length l ≤ a) (sym (literals-part step lits k e)) h
 
 pub hashes-length : (step : ProofStep) (hashes : List ℕ) (k : ℕ) → k ≡ pick (hasHashes step) (length hashes) 0 → k ≡ length (hashesOf step hashes)
@@ -55,7 +58,8 @@ hashes-part step hashes k e = ap (λ (n : ℕ). take n hashes) e ∙ pick-part (
 pub hashes-most : (step : ProofStep) (hashes : List ℕ) (k : ℕ) → k ≡ pick (hasHashes step) (length hashes) 0 → k ≤ length hashes
 hashes-most step hashes k e = subst (λ (n : ℕ). n ≤ length hashes) (sym e) (pick-most (hasHashes step) (length hashes))
 
-pub hashes-fit : (step : ProofStep) (hashes : List ℕ) (k a : ℕ) → k ≡ pick (hasHashes step) (length hashes) 0 → length (hashesOf step hashes) ≤ a → length (take k hashes) ≤ a
+pub hashes-fit : (step : ProofStep) (hashes : List ℕ) (k a : ℕ) → k ≡ pick (hasHashes step) (length hashes) 0 → length (hashesOf step hashes) ≤ a
+    → length (take k hashes) ≤ a
 hashes-fit step hashes k a e h = subst (λ (l : List ℕ). length l ≤ a) (sym (hashes-part step hashes k e)) h
 
 -- ---- 1, 14, 3, 8
@@ -74,26 +78,33 @@ module _ (t : Table) (step : ProofStep) (s : Bool) (lits hashes : List ℕ) wher
   unfolding stepRefusal literalRefusal
   refuse-literals r k h e q p = rw (h, e) (p ∙ ap (literalRefusal t s) (literals-part step lits k q))
 
-  -- as a list
+  -- those before 8, as a list
   tests : List (Bool × ℕ)
   tests =
       (not (soundb t), 0)
       ∷ (unmatched step lits hashes, 13)
       ∷ (outside t s (literalsOf step lits), 2)
-      ∷ (unheld t s (literalsOf step lits), 7)
       ∷ []
+
+  abbrev held : ℕ → ℕ
+  held rest = litsHeldElse t s (literalsOf step lits) rest
 
   pub refused-first : (n rest : ℕ) → n ≡ stepRefusal t step s lits hashes 0 → (n ≡ 0 → ⊥) → n ≡ stepRefusal t step s lits hashes rest
   unfolding stepRefusal tests
-  refused-first n rest e h = first-some tests n rest e h
+  refused-first n rest e h = first-some tests n (held 0) (held rest) (λ q. lits-refuses t s (literalsOf step lits) n rest q h) e
 
   pub refused-later : (n rest : ℕ) → n ≡ stepRefusal t step s lits hashes 0 → n ≡ 0 → stepRefusal t step s lits hashes rest ≡ rest
   unfolding stepRefusal tests
-  refused-later n rest e z = first-none tests n rest e z
+  refused-later n rest e z =
+      let x = first-none tests (held 0) (held rest) (sym e ∙ z) in
+      x .1 ∙ lits-else t s (literalsOf step lits) rest (lits-past t s (literalsOf step lits) 0 (x .0) .0)
 
   pub refused-none : (rest : ℕ) → stepRefusal t step s lits hashes rest ≡ 0 → (stepRefusal t step s lits hashes 0 ≡ 0) × (rest ≡ 0)
   unfolding stepRefusal tests
-  refused-none rest e = first-zero tests rest e
+  refused-none rest e =
+      let x = first-none tests (held rest) (held 0) e in
+      let y = lits-past t s (literalsOf step lits) rest (x .0) in
+      (x .1 ∙ lits-else t s (literalsOf step lits) 0 (y .0), y .1)
 
   -- where none applies
   pub record StepClear : Type 0 where

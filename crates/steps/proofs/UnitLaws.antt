@@ -62,7 +62,8 @@ module _ (f : Format) (l : List ℕ) where
   units-done i h = ap (λ (xs : List ℕ). encode f (written AddEach xs)) (drop-of-length-le l h)
 
   -- one step more written
-  pub units-put : (o m : List ℕ) (p q i : ℕ) → i < length l → m ≡ sets o p (unitAt i) → q ≡ p + length (unitAt i) → sets m q (unitsFrom (i + 1)) ≡ sets o p (unitsFrom i)
+  pub units-put : (o m : List ℕ) (p q i : ℕ) → i < length l → m ≡ sets o p (unitAt i) → q ≡ p + length (unitAt i)
+      → sets m q (unitsFrom (i + 1)) ≡ sets o p (unitsFrom i)
   units-put o m p q i h e k =
       ap₂ (λ (x : List ℕ) (j : ℕ). sets x j (unitsFrom (i + 1))) e k
       ∙ sym (sets-append (unitAt i) (unitsFrom (i + 1)) o p)

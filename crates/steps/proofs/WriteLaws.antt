@@ -63,7 +63,8 @@ short-laid bs o n e l =
     let h = lt-ltb (length o) (length bs) (omega arith) in
     (rw h, rw h)
 
-pub whole-laid : (bs o p : List ℕ) (n : ℕ) → n ≡ length bs → n ≤ length o → p ≡ sets o 0 bs → (W.Done n ≡ laid bs (length o)) × (p ≡ sets o 0 (laidBytes bs (length o)))
+pub whole-laid : (bs o p : List ℕ) (n : ℕ) → n ≡ length bs → n ≤ length o → p ≡ sets o 0 bs → (W.Done n ≡ laid bs (length o))
+    × (p ≡ sets o 0 (laidBytes bs (length o)))
 whole-laid bs o p n e l q =
     let h = le-ltb (length o) (length bs) (omega arith) in
     (rw h (ap W.Done e), rw h q)
@@ -105,9 +106,10 @@ filled-refused bs o p e q = q ∙ rw e
 -- ---- the call
 
 -- the table that an answer leaves is the one given
-left-same : (r : Recorded) (t : Table) → tableOf (recorded r (t .counts) .counts) (t .globalFromUser) (t .userFromGlobal) (t .solverFromGlobal) (t .globalFromSolver) (t .assignment) (t .records) ≡ t
-left-same (W.Done n) t = refl
-left-same (W.Refused n) t = refl
+recorded-same : (r : Recorded) (t : Table) → tableOf (recorded r (t .counts) .counts) (t .globalFromUser) (t .userFromGlobal) (t .solverFromGlobal)
+    (t .globalFromSolver) (t .assignment) (t .records) ≡ t
+recorded-same (W.Done n) t = refl
+recorded-same (W.Refused n) t = refl
 
 module _ (f : Format) (t : Table) (step : ProofStep) (s : Bool) (lits hashes d : List ℕ) where
   abbrev outcome : Outcome
@@ -141,7 +143,8 @@ module _ (f : Format) (t : Table) (step : ProofStep) (s : Bool) (lits hashes d :
       → r ≡ laid (encode f (clauseSteps step (renameLits (holders t) s (take k lits)))) (length d)
       → x ≡ sets d 0 (laidBytes (encode f (clauseSteps step (renameLits (holders t) s (take k lits)))) (length d))
       → Told outcome (recorded r (t .counts))
-      (tableOf (recorded r (t .counts) .counts) (t .globalFromUser) (t .userFromGlobal) (t .solverFromGlobal) (t .globalFromSolver) (t .assignment) (t .records))
+      (tableOf (recorded r (t .counts) .counts) (t .globalFromUser) (t .userFromGlobal) (t .solverFromGlobal) (t .globalFromSolver) (t .assignment)
+      (t .records))
       [] [] d [] [] x
   unfolding writeOf writeRefusal stepBytes
   write-judged n k r x e z h q p u =
@@ -154,7 +157,10 @@ module _ (f : Format) (t : Table) (step : ProofStep) (s : Bool) (lits hashes d :
 
       go : (b : Bool) → ltb (length d) (length bytes) ≡ b → r ≡ pick b (W.Refused 2) (W.Done (length bytes)) → x ≡ sets d 0 (pick b [] bytes)
           → Told outcome (recorded r (t .counts))
-          (tableOf (recorded r (t .counts) .counts) (t .globalFromUser) (t .userFromGlobal) (t .solverFromGlobal) (t .globalFromSolver) (t .assignment) (t .records))
+          (tableOf (recorded r (t .counts) .counts) (t .globalFromUser) (t .userFromGlobal) (t .solverFromGlobal) (t .globalFromSolver) (t .assignment)
+          (t .records))
           [] [] d [] [] x
-      go true y a w = told outcome (refusal 2 t) (recorded r (t .counts)) _ [] [] d [] [] x (unless-some 2 refusing t _ (sym (after true y)) (λ q. omega arith)) refl (ap (λ (q : Recorded). recorded q (t .counts) .answer) a) (left-same r t) refl refl w
-      go false y a w = told outcome filled (recorded r (t .counts)) _ [] [] d [] [] x (unless-none refusing t filled (after false y)) refl (ap (λ (q : Recorded). recorded q (t .counts) .answer) a) (left-same r t) refl refl w
+      go true y a w = told outcome (refusal 2 t) (recorded r (t .counts)) _ [] [] d [] [] x (unless-some 2 refusing t _ (sym (after true y)) (λ q. omega arith))
+          refl (ap (λ (q : Recorded). recorded q (t .counts) .answer) a) (recorded-same r t) refl refl w
+      go false y a w = told outcome filled (recorded r (t .counts)) _ [] [] d [] [] x (unless-none refusing t filled (after false y)) refl
+          (ap (λ (q : Recorded). recorded q (t .counts) .answer) a) (recorded-same r t) refl refl w

@@ -5,7 +5,8 @@ use mathlib.Core.List.{List, [], _∷_}
 use lib.ListN.{getD}
 use Rattle.scope.specs.declared.DeleteClauseProof.the-variants.{Redundant}
 use Rattle.scope.specs.declared.ProofStep.{ProofStep}
-use Rattle.scope.specs.declared.ProofStep.the-variants.{AddClause, AtClause, UnitClauses, DeleteClause, Model, Assumptions, FailedAssumptions, SolverVarName, UserVarName, DeleteVar, ChangeSamplingMode, ChangeHashBits, End}
+use Rattle.scope.specs.declared.ProofStep.the-variants.{AddClause, AtClause, UnitClauses, DeleteClause, Model, Assumptions, FailedAssumptions, SolverVarName}
+use Rattle.scope.specs.declared.ProofStep.the-variants.{UserVarName, DeleteVar, ChangeSamplingMode, ChangeHashBits, End}
 use Rattle.scope.specs.declared.KindRule.{KindRule}
 use Rattle.scope.specs.Steps.{ruleOf}
 

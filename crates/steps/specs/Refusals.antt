@@ -8,11 +8,12 @@ use Rattle.base.specs.Choice.{pick}
 use Rattle.steps.specs.declared.write.Recorded.{Recorded}
 use Rattle.steps.specs.declared.write.Recorded.the-variants.{Done, Refused}
 use Rattle.scope.specs.Table.{Table}
-use Rattle.scope.specs.Write.{outside, unheld}
+use Rattle.scope.specs.Marks.{litsHeldElse}
+use Rattle.scope.specs.Write.{outside}
 
 -- 3; 8 for a solver literal.
 unfoldable pub literalRefusal : Table → Bool → List ℕ → ℕ
-literalRefusal t solverVars lits = pick (outside t solverVars lits) 3 (pick (unheld t solverVars lits) 8 0)
+literalRefusal t solverVars lits = pick (outside t solverVars lits) 3 (litsHeldElse t solverVars lits 0)
 
 -- Bytes with room for so many: what is answered, 2 or their number, and what is filled.
 abbrev pub laid : List ℕ → ℕ → Recorded

@@ -6,20 +6,23 @@ use scope::Counts;
 use scope::ProofStep;
 use scope::Solver;
 use table::FoundGlobal;
+use table::any_outside;
 use table::holder;
 use table::is_sound;
 ghost use mathlib.Core.Path.{_≡_};
 ghost use mathlib.Core.Bool.{true, false};
 ghost use mathlib.Core.Logic.{_≢_};
 ghost use Prim.Native.Nat.{_/_, _≤_, _<_};
-ghost use lib.Dec.{eqb, leb};
+ghost use lib.Dec.{eqb};
 ghost use lib.ListN.{length, getD};
 ghost use Rattle.base.specs.Bounded.{anyOf};
 ghost use Rattle.base.specs.Lent.{old, new, Fills};
 ghost use Rattle.scope.specs.Literals.{indexOf};
 ghost use Rattle.scope.specs.Sound.{soundb};
+ghost use Rattle.scope.specs.Table.{Table};
 ghost use Rattle.scope.specs.Contract.{given, before, quiet, Meets};
-ghost use Rattle.scope.specs.Write.{renameLit, renameLits, holders, unheld, stepRefusal, renameRefusal, renameOf};
+ghost use Rattle.scope.specs.Marks.{unheld};
+ghost use Rattle.scope.specs.Write.{renameLit, renameLits, holders, stepRefusal, renameRefusal, renameOf};
 ghost use Rattle.steps.specs.Refusals.{literalRefusal};
 ghost use Rattle.steps.specs.Answers.{renamed};
 
@@ -37,39 +40,15 @@ fn any_unheld(gs: &[u32], lits: &[u32]) -> bool
     false
 }
 
-// Some literal's index is at or above the capacity.
-fn any_beyond(capacity: u32, lits: &[u32]) -> bool
-    ensures { λ r. ⌜ r ≡ anyOf (λ c. leb capacity (indexOf c)) (old lits) ⌝ }
-{
-    let mut i = 0;
-    while i < lits.len() {
-        if capacity <= lits[i] / 2 {
-            return true;
-        }
-        i += 1;
-    }
-    false
-}
-
 // The first refusal that literals have, 0 for none: 3, 8.
-pub fn literal_refusal(
-    c: Counts,
-    gu: &[u32],
-    ug: &[u32],
-    sg: &[u32],
-    gs: &[u32],
-    assignment: &[u32],
-    records: &[u32],
-    solvervars: bool,
-    lits: &[u32],
-) -> u32
-    ensures { λ r. ⌜ r ≡ literalRefusal (before c gu ug sg gs assignment records) solvervars (old lits) ⌝ }
+pub fn literal_refusal(c: Counts, gs: &[u32], solvervars: bool, lits: &[u32]) -> u32
+    ensures { λ r. ⌜ ((t : Table) → t .counts ≡ c → t .globalFromSolver ≡ old gs → r ≡ literalRefusal t solvervars (old lits)) ⌝ }
 {
     if 8192 < lits.len() {
         return 3;
     }
     if !solvervars {
-        if any_beyond(c.capacity, lits) {
+        if any_outside(c.capacity, lits) {
             return 3;
         }
         return 0;
@@ -163,17 +142,7 @@ pub fn step_refusal(
         return 14;
     }
     let k = carried(step, lits.len());
-    literal_refusal(
-        c,
-        gu,
-        ug,
-        sg,
-        gs,
-        assignment,
-        records,
-        solvervars,
-        &lits[..k],
-    )
+    literal_refusal(c, gs, solvervars, &lits[..k])
 }
 
 // The same with 2, for the rooms for literals and for hashes.

@@ -21,7 +21,8 @@ ghost use Rattle.scope.specs.declared.Writes.the-variants.{AddEach};
 ghost use Rattle.scope.specs.Sound.{soundb};
 ghost use Rattle.scope.specs.Contract.{given, before, quiet, Meets};
 ghost use Rattle.scope.specs.Steps.{written, clauseSteps};
-ghost use Rattle.scope.specs.Write.{renameLits, holders, outside, unheld, writeOf};
+ghost use Rattle.scope.specs.Marks.{unheld};
+ghost use Rattle.scope.specs.Write.{renameLits, holders, outside, writeOf};
 ghost use Rattle.steps.specs.Refusals.{laid, laidBytes};
 ghost use Rattle.steps.specs.Answers.{recorded};
 

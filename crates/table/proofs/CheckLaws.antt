@@ -1,4 +1,4 @@
--- Laws by which the loops of src/checks.rt are the tests of crates/scope/specs/Sound.antt. A loop gathers `allBelow i p`; where the tails
+-- Laws by which the loops of src/ are the tests of crates/scope/specs/Sound.antt. A loop gathers `allBelow i p`; where the tails
 -- are as they should be, p holds at or above the mark, so that the loop can stop there.
 use Prim.Native.Nat.{ℕ, zero, suc, _+_, _-_, _≤_, _<_}
 use mathlib.Core.Path.{_≡_, refl, sym, ap, _∙_}
@@ -9,15 +9,17 @@ use native.Mathlib.Nat.{eq-or-lt-of-le, add-zero}
 use native.Mathlib.Numerals.{add-one}
 use native.Mathlib.Omega.{arith}
 use lib.Dec.{eqb, ltb, leb}
-use lib.ListN.{length, getD, List·getD-eq-default}
+use lib.ListN.{length, getD, take}
+use lib.Seq.{take-all}
 use borrow.Author.Tests.{lt-ltb, le-ltb, le-leb, leb-true, eqb-true, not-true, not-false}
 use Rattle.base.specs.Choice.{pick}
-use Rattle.base.specs.Bounded.{allBelow, count}
+use Rattle.base.specs.Bounded.{allBelow, count, anyOf}
 use Rattle.base.proofs.BelowLaws.{all-at, all-intro, and-true}
 use Rattle.base.proofs.Truth.{truth, and-iff, split}
-use Rattle.base.proofs.MemberLaws.{getD-default}
+use Rattle.base.proofs.MemberLaws.{getD-default, any-more}
 use Rattle.scope.specs.Table.{Table, isShown}
-use Rattle.scope.specs.Sound.{Sizes, sizesb, marksb, atMostb, tailb, backb, namedb, deletedb, tailsb, pairsb, soundb}
+use Rattle.scope.specs.Sound.{sizesb, marksb, atMostb, tailb, backb, namedb, deletedb, tailsb, pairsb, soundb}
+use Rattle.scope.proofs.SoundLaws.{tail-of}
 use Rattle.table.specs.Checks.{isFilled, rowb}
 use Rattle.table.proofs.PairCounts.{back-has, back-low, pair-counts}
 
@@ -72,6 +74,15 @@ unfolding allBelow
 all-and zero p q = refl
 all-and (suc n) p q = ap (λ (b : Bool). b && (p n && q n)) (all-and n p q) ∙ and-swap (allBelow n p) (allBelow n q) (p n) (q n)
 
+-- ---- anyOf, gathered by a loop
+
+pub any-on : (p : ℕ → Bool) (lits : List ℕ) (i : ℕ) (b : Bool) → i < length lits → b ≡ anyOf p (take i lits)
+    → b || p (getD lits i 0) ≡ anyOf p (take (i + 1) lits)
+any-on p lits i b l e = ap (λ (x : Bool). x || p (getD lits i 0)) e ∙ sym (any-more p lits i 0 l)
+
+pub any-all : (p : ℕ → Bool) (lits : List ℕ) (i : ℕ) (b : Bool) → length lits ≤ i → b ≡ anyOf p (take i lits) → b ≡ anyOf p lits
+any-all p lits i b l e = e ∙ ap (anyOf p) (take-all i lits l)
+
 -- ---- the tail of a list
 
 unfoldable pub tailAt : ℕ → ℕ → List ℕ → ℕ → Bool
@@ -91,14 +102,6 @@ pub tail-end : (mark blank : ℕ) (xs : List ℕ) (i : ℕ) (ok : Bool) → ok �
 unfolding tailb tailAt
 tail-end mark blank xs i ok e q = e ∙ ap (λ (k : ℕ). allBelow k (tailAt mark blank xs)) q
 
--- what it says of every index
-pub tail-has : (mark blank : ℕ) (xs : List ℕ) → tailb mark blank xs ≡ true → (i : ℕ) → mark ≤ i → getD xs i blank ≡ blank
-unfolding tailb tailAt
-tail-has mark blank xs h i l = ⊎-elim
-    (λ (m : i < length xs). eqb-true _ _ (rw (le-ltb i mark l) at (all-at (length xs) (tailAt mark blank xs) h i m)))
-    (λ (m : length xs ≤ i). List·getD-eq-default xs blank m)
-    (split i (length xs))
-
 -- ---- every word at most m
 
 abbrev pub mostAt : ℕ → List ℕ → ℕ → Bool
@@ -109,7 +112,7 @@ pub most-end : (m mark : ℕ) (xs : List ℕ) (i : ℕ) (ok : Bool) → mark ≤
 unfolding atMostb
 most-end m mark xs i ok l h e q =
     e ∙ ap (λ (k : ℕ). allBelow k (mostAt m xs)) q
-    ∙ all-mark (length xs) mark (mostAt m xs) l (λ j k. rw (tail-has mark 0 xs h j k) (le-leb 0 m (omega arith)))
+    ∙ all-mark (length xs) mark (mostAt m xs) l (λ j k. rw (tail-of mark 0 xs h j k) (le-leb 0 m (omega arith)))
 
 pub most-has : (m : ℕ) (xs : List ℕ) (b : Bool) → b ≡ atMostb m xs → not b ≡ false → (i : ℕ) → i < length xs → getD xs i 0 ≤ m
 unfolding atMostb
@@ -134,7 +137,7 @@ pub back-end : (a b : List ℕ) (mark i : ℕ) (ok : Bool) → mark ≤ length a
 unfolding backb
 back-end a b mark i ok l h e q =
     e ∙ ap (λ (k : ℕ). allBelow k (backAt a b)) q
-    ∙ all-mark (length a) mark (backAt a b) l (λ j k. rw (tail-has mark 0 a h j k) refl)
+    ∙ all-mark (length a) mark (backAt a b) l (λ j k. rw (tail-of mark 0 a h j k) refl)
 
 pub no-pair : (a b : List ℕ) (ok : Bool) → ok ≡ backb a b → not ok ≡ true → false ≡ backb a b && backb b a
 no-pair a b ok e n = rw (no-of e n)
@@ -167,10 +170,11 @@ count-mark (suc n) mark p l h = ⊎-elim
     (λ (e : mark < suc n). count-mark n mark p (omega arith) h ∙ rw (h n (omega arith)))
     (eq-or-lt-of-le l)
 
-pub filled-end : (xs : List ℕ) (mark i k : ℕ) → mark ≤ length xs → tailb mark 0 xs ≡ true → k ≡ count i (isFilled xs) → i ≡ mark → k ≡ count (length xs) (isFilled xs)
+pub filled-end : (xs : List ℕ) (mark i k : ℕ) → mark ≤ length xs → tailb mark 0 xs ≡ true → k ≡ count i (isFilled xs) → i ≡ mark
+    → k ≡ count (length xs) (isFilled xs)
 filled-end xs mark i k l h e q =
     e ∙ ap (λ (n : ℕ). count n (isFilled xs)) q
-    ∙ count-mark (length xs) mark (isFilled xs) l (λ j m. rw (tail-has mark 0 xs h j m) refl)
+    ∙ count-mark (length xs) mark (isFilled xs) l (λ j m. rw (tail-of mark 0 xs h j m) refl)
 
 -- ---- the rows of the globals
 
@@ -199,14 +203,10 @@ unfolding rowb isShown
 rows-end records users solvers mark i ok l h hu hs e q =
     e ∙ ap (λ (k : ℕ). allBelow k (rowAt records users solvers)) q
     ∙ all-mark (length records) mark (rowAt records users solvers) l
-    (λ j k. rw (tail-has mark 47 records h j k, tail-has mark 0 users hu j k, tail-has mark 0 solvers hs j k) refl)
+    (λ j k. rw (tail-of mark 47 records h j k, tail-of mark 0 users hu j k, tail-of mark 0 solvers hs j k) refl)
     ∙ rows-split records users solvers
 
 -- ---- the table
-
-pub sizes-is : (t : Table) → sizesb t ≡ true → marksb (t .counts) ≡ true → Sizes t
-unfolding sizesb marksb
-sizes-is t h m = let k = simp truth at h in let l = simp truth at m in omega arith
 
 pub record Tails (t : Table) : Type 0 where
   pub gu : tailb (t .counts .user) 0 (t .globalFromUser) ≡ true

@@ -1,9 +1,14 @@
--- What a lookup answers and what the word says are the same.
+-- What a lookup answers and what the word says are the same; refusal 8 by what it answers.
 use Prim.Native.Nat.{ℕ, zero, suc, _+_, _-_}
 use mathlib.Core.Path.{_≡_, refl, sym, ap, _∙_}
 use native.Mathlib.Omega.{arith}
 use native.Mathlib.Numerals.{add-one}
-use Rattle.scope.specs.Table.{word}
+use mathlib.Core.List.{List}
+use lib.ListN.{getD}
+use borrow.Author.Tests.{ne-eqb}
+use Rattle.scope.specs.declared.Global.{Global}
+use Rattle.scope.specs.Table.{Table, word}
+use Rattle.scope.specs.Marks.{notHeld, heldElse}
 use Rattle.table.specs.declared.FoundUser.{FoundUser}
 use Rattle.table.specs.declared.FoundUser.the-variants as U
 use Rattle.table.specs.declared.FoundGlobal.{FoundGlobal}
@@ -25,7 +30,8 @@ found-some none some w (suc i) e n =
 
 -- ---- what an answer says of the word: for `At g` the word is g + 1, for `Nothing` it is 0
 
-word-read : {A : Type 0} (read : A → ℕ) (none : A) (some : ℕ → A) → read none ≡ 0 → ((i : ℕ) → read (some i) ≡ i + 1) → (w : ℕ) (f : A) → f ≡ word none some w → w ≡ read f
+word-read : {A : Type 0} (read : A → ℕ) (none : A) (some : ℕ → A) → read none ≡ 0 → ((i : ℕ) → read (some i) ≡ i + 1) → (w : ℕ) (f : A) → f ≡ word none some w
+    → w ≡ read f
 unfolding word
 word-read read none some z s zero f e = sym (ap read e ∙ z)
 word-read read none some z s (suc i) f e = sym (ap read e ∙ s i ∙ add-one i)
@@ -50,3 +56,13 @@ global-word = word-read globalWord _ _ refl (λ i. refl)
 
 pub solver-word : (w : ℕ) (f : FoundSolver) → f ≡ foundSolver w → w ≡ solverWord f
 solver-word = word-read solverWord _ _ refl (λ i. refl)
+
+-- ---- refusal 8
+
+pub unheld-8 : (t : Table) (gs : List ℕ) (s : ℕ) → t .globalFromSolver ≡ gs → G.Nothing ≡ foundGlobal (getD gs s 0) → 8 ≡ heldElse t s 0
+unfolding heldElse notHeld
+unheld-8 t gs s e q = rw (e, global-word (getD gs s 0) G.Nothing q)
+
+pub held-0 : (t : Table) (gs : List ℕ) (s : ℕ) (g : Global) → t .globalFromSolver ≡ gs → G.At g ≡ foundGlobal (getD gs s 0) → 0 ≡ heldElse t s 0
+unfolding heldElse notHeld
+held-0 t gs s g e q = let w = global-word (getD gs s 0) (G.At g) q in rw (e, ne-eqb (getD gs s 0) 0 (λ z. omega arith))

@@ -69,15 +69,15 @@ taken a b n j = eqb (getD a (getD b j 0 - 1) 0) (j + 1) && not (eqb (getD b j 0)
 abbrev pub Back : List ℕ → List ℕ → Type 0
 Back a b = (i : ℕ) → getD a i 0 ≢ 0 → getD b (getD a i 0 - 1) 0 ≡ i + 1
 
-pub record Taken (a b : List ℕ) (n j : ℕ) : Type 0 where
+pub record TakenBack (a b : List ℕ) (n j : ℕ) : Type 0 where
   pub back : getD a (getD b j 0 - 1) 0 ≡ j + 1
   pub some : getD b j 0 ≢ 0
   pub low : getD b j 0 ≤ n
 
-taken-of : (a b : List ℕ) (n j : ℕ) → taken a b n j ≡ true → Taken a b n j
+taken-of : (a b : List ℕ) (n j : ℕ) → taken a b n j ≡ true → TakenBack a b n j
 taken-of a b n j h = let k = simp truth at h in record { back = k .0 .0; some = k .0 .1; low = k .1 }
 
-taken-to : (a b : List ℕ) (n j : ℕ) → Taken a b n j → taken a b n j ≡ true
+taken-to : (a b : List ℕ) (n j : ℕ) → TakenBack a b n j → taken a b n j ≡ true
 taken-to a b n j k = simp truth ((k .back, k .some), k .low)
 
 not-true-is : (x : Bool) → (x ≡ true → ⊥) → x ≡ false
@@ -149,7 +149,7 @@ pair-counts a b e = same-test (eqb (count (length a) (isFilled a)) (count (lengt
     h : Back a b
     h = back-has a b e
 
-    over : eqb (count (length a) (isFilled a)) (count (length b) (isFilled b)) ≡ true → (j : ℕ) → getD b j 0 ≢ 0 → Taken a b (length a) j
+    over : eqb (count (length a) (isFilled a)) (count (length b) (isFilled b)) ≡ true → (j : ℕ) → getD b j 0 ≢ 0 → TakenBack a b (length a) j
     over q j n = taken-of a b (length a) j
         (count-equal (taken a b (length a)) (isFilled b) (λ i t. simp truth (taken-of a b (length a) i t .some)) (length b)
         (taken-filled a b (length b) h (back-low a b h) (length a) ∙ eqb-true _ _ q) j (inside b j n) (simp truth n))

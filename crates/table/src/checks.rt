@@ -11,7 +11,7 @@ ghost use Rattle.base.specs.Bounded.{count};
 ghost use Rattle.base.specs.Choice.{pick};
 ghost use Rattle.base.specs.Lent.{old};
 ghost use Rattle.scope.specs.Contract.{given, before};
-ghost use Rattle.scope.specs.Sound.{sizesb, marksb, atMostb, tailb, backb, namedb, deletedb, tailsb, pairsb};
+ghost use Rattle.scope.specs.Sound.{sizesb, marksb, atMostb, tailb, backb, namedb, deletedb, tailsb};
 ghost use Rattle.table.specs.Checks.{isFilled, rowb};
 
 // Watermarks: neither users nor solver indices reach further than globals, nor these than the capacity.
@@ -103,7 +103,7 @@ fn filled(xs: &[u32], mark: u32) -> u32
 }
 
 // Two maps are mutually inverse: what the first takes i to the second takes back, and no word of the second is left over.
-fn pair_ok(a: &[u32], b: &[u32], amark: u32, bmark: u32) -> bool
+pub fn pair_ok(a: &[u32], b: &[u32], amark: u32, bmark: u32) -> bool
     requires { ⌜ amark ≤ length (now a) ⌝ }
     requires { ⌜ bmark ≤ length (now b) ⌝ }
     requires { ⌜ tailb amark 0 (now a) ≡ true ⌝ }
@@ -166,22 +166,4 @@ pub fn tails_ok(
         & tail_ok(c.solver, 0, gs)
         & tail_ok(c.solver, 0, assignment)
         & tail_ok(c.global, 47, records)
-}
-
-// Each map pair is mutually inverse.
-pub fn pairs_ok(
-    c: Counts,
-    gu: &[u32],
-    ug: &[u32],
-    sg: &[u32],
-    gs: &[u32],
-    assignment: &[u32],
-    records: &[u32],
-) -> bool
-    requires { ⌜ sizesb (given c gu ug sg gs assignment records) ≡ true ⌝ }
-    requires { ⌜ marksb c ≡ true ⌝ }
-    requires { ⌜ tailsb (given c gu ug sg gs assignment records) ≡ true ⌝ }
-    ensures { λ r. ⌜ r ≡ pairsb (before c gu ug sg gs assignment records) ⌝ }
-{
-    pair_ok(gu, ug, c.user, c.global) & pair_ok(gs, sg, c.solver, c.global)
 }

@@ -1,9 +1,9 @@
-// Whether a table is sound, the words of its maps, and the words of a note: what every call over a table begins with.
+// Whether a table is sound, the words of its maps, refusal 8, and the words of a note: what the calls over a table share.
 mod checks;
 
 use checks::at_most;
 use checks::marks_ok;
-use checks::pairs_ok;
+use checks::pair_ok;
 use checks::rows_ok;
 use checks::tails_ok;
 use scope::Counts;
@@ -14,12 +14,17 @@ use scope::User;
 ghost use mathlib.Core.Path.{_≡_};
 ghost use mathlib.Core.List.{_∷_, []};
 ghost use Prim.Native.Nat.{_+_, _^_, _≤_, _<_};
+ghost use lib.Dec.{leb};
 ghost use lib.ListN.{length, getD};
+ghost use Rattle.base.specs.Bounded.{anyOf};
 ghost use Rattle.base.specs.Choice.{pick};
 ghost use Rattle.base.specs.Lent.{old, Fills};
 ghost use Rattle.scope.specs.Contract.{before};
+ghost use Rattle.scope.specs.Literals.{indexOf};
+ghost use Rattle.scope.specs.Marks.{heldElse};
 ghost use Rattle.scope.specs.Notes.{noteWords};
 ghost use Rattle.scope.specs.Sound.{sizesb, soundb};
+ghost use Rattle.scope.specs.Table.{Table};
 ghost use Rattle.table.specs.Found.{foundUser, foundGlobal, foundSolver};
 ghost use Rattle.table.specs.Noted.{noteOf, lastOf};
 
@@ -98,6 +103,29 @@ pub fn holder(gs: &[u32], solver: Solver) -> FoundGlobal
         return FoundGlobal::Nothing;
     }
     FoundGlobal::At(Global(w - 1))
+}
+
+// Refusal 8, where nobody holds the solver index; 0 for none.
+pub fn held_refusal(c: Counts, gs: &[u32], solver: Solver) -> u32
+    ensures { λ r. ⌜ ((t : Table) → t .counts ≡ c → t .globalFromSolver ≡ old gs → r ≡ heldElse t (solver .0) 0) ⌝ }
+{
+    let FoundGlobal::At(_) = holder(gs, solver) else {
+        return 8;
+    };
+    0
+}
+
+// A literal's index is at or above the capacity.
+pub fn any_outside(capacity: u32, lits: &[u32]) -> bool
+    ensures { λ r. ⌜ r ≡ anyOf (λ c. leb capacity (indexOf c)) (old lits) ⌝ }
+{
+    let mut found = false;
+    let mut i = 0;
+    while i < lits.len() {
+        found = found | (capacity <= lits[i] / 2);
+        i += 1;
+    }
+    found
 }
 
 fn yes_word(yes: bool) -> u32
@@ -201,7 +229,7 @@ pub fn is_sound(
     if !tails_ok(c, gu, ug, sg, gs, assignment, records) {
         return false;
     }
-    if !pairs_ok(c, gu, ug, sg, gs, assignment, records) {
+    if !(pair_ok(gu, ug, c.user, c.global) & pair_ok(gs, sg, c.solver, c.global)) {
         return false;
     }
     at_most(2, assignment, c.solver) & rows_ok(records, ug, sg, c.global)

@@ -1,7 +1,7 @@
-use Rattle.marks.proofs.ChangeLaws.{held, mark-1, mark-8, mark-done}
+use Rattle.marks.proofs.ChangeLaws.{held-facts, mark-1, mark-unheld, mark-done}
 use Rattle.table.proofs.FoundLaws.{global-word}
 use native.Mathlib.Omega.{arith}
-use mathlib.Core.Path.{sym, _∙_}
+use mathlib.Core.Path.{refl, sym, _∙_}
 use borrow.Author.Needs.{needs}
 use Rattle.marks.proofs.mark.Statement.{statement}
 use Rattle.marks.proofs.mark.Tie as tie
@@ -24,16 +24,21 @@ enum-known-global c = search needs
 enum-told : tie.Need-enum-told
 enum-told c = search needs
 
+held-refusal-requires : tie.Need-held-refusal-requires
+held-refusal-requires c κs = search needs
+
 same-length-2 : tie.Need-same-length-2
 same-length-2 c = search needs
 
 returns-2 : tie.Need-returns-2
 returns-2 c =
-    mark-8 _ _ _ _ (c .before .before .before .before .is-sound .ensures) _ (c .before .before .before .if1 .left) (global-word _ _ (sym (c .enum-told .given .1) ∙ (c .before .before .holder .ensures)))
+    mark-unheld _ _ _ _ (c .before .before .before .before .before .is-sound .ensures) _ _ (c .before .before .before .before .if1 .left)
+    (global-word _ _ (sym (c .before .enum-told .given .1) ∙ (c .before .before .before .holder .ensures))) (c .held-refusal .ensures _ refl refl)
 
 put-mark-requires : tie.Need-put-mark-requires
 put-mark-requires c κs =
-    let h = held _ _ _ _ (c .before .before .before .before .before .before .is-sound .ensures) (c .before .before .before .before .before .if1 .left) (global-word _ _ (sym (c .before .before .global .given .1) ∙ (c .before .before .before .before .holder .ensures))) in
+    let h = held-facts _ _ _ _ (c .before .before .before .before .before .before .is-sound .ensures) (c .before .before .before .before .before .if1 .left)
+    (global-word _ _ (sym (c .before .before .global .given .1) ∙ (c .before .before .before .before .holder .ensures))) in
     let k = h .record-word in
     (h .record-place, omega arith)
 
@@ -42,7 +47,10 @@ same-length-3 c = search needs
 
 returns-3 : tie.Need-returns-3
 returns-3 c =
-    mark-done _ _ _ _ (c .before .before .before .before .before .before .before .before .before .is-sound .ensures) _ _ _ (c .before .before .before .before .before .before .before .before .if1 .left) (global-word _ _ (sym (c .before .before .before .before .before .global .given .1) ∙ (c .before .before .before .before .before .before .before .holder .ensures))) (c .before .before .put-mark .ensures)
+    mark-done _ _ _ _ (c .before .before .before .before .before .before .before .before .before .is-sound .ensures) _ _ _
+    (c .before .before .before .before .before .before .before .before .if1 .left)
+    (global-word _ _ (sym (c .before .before .before .before .before .global .given .1)
+    ∙ (c .before .before .before .before .before .before .before .holder .ensures))) (c .before .before .put-mark .ensures)
 
 pub mark-spec : {M : Type 1} → statement M
 mark-spec =
@@ -54,6 +62,7 @@ mark-spec =
     holder-requires
     enum-known-global
     enum-told
+    held-refusal-requires
     same-length-2
     returns-2
     put-mark-requires

@@ -1,5 +1,5 @@
-use Rattle.removal.proofs.SweepOneLaws.{learn-asks, notes-none, notes-kept, notes-removed}
-use Rattle.removal.proofs.RefusalLaws.{found-at}
+use Rattle.removal.proofs.SweepOneLaws.{notes-none, notes-kept, notes-removed}
+use Rattle.table.proofs.FoundLaws.{global-word}
 use borrow.Author.Tests.{not-true, not-false}
 use mathlib.Core.Path.{sym, _∙_}
 use borrow.Author.Needs.{needs}
@@ -16,7 +16,7 @@ enum-told : tie.Need-enum-told
 enum-told c = search needs
 
 returns : tie.Need-returns
-returns c = notes-none _ _ (sym (c .enum-told .given .1) ∙ (c .before .before .holder .ensures))
+returns c = notes-none _ _ _ _ _ (sym (c .enum-told .given .1) ∙ (c .before .before .holder .ensures))
 
 cast-g : tie.Need-cast-g
 cast-g c = search needs
@@ -25,7 +25,9 @@ mul-learnt-record : tie.Need-mul-learnt-record
 mul-learnt-record c = search needs
 
 shared-slice-read-learnt-record : tie.Need-shared-slice-read-learnt-record
-shared-slice-read-learnt-record c = ((c .before .before .before .before .before .before .before .before .before .before .before .before .pre) _ (found-at _ _ (sym (c .before .before .before .global .given .1) ∙ (c .before .before .before .before .before .holder .ensures)))) .live .words
+shared-slice-read-learnt-record c =
+    let entry = c .before .before .before .before .before .before .before .before .before .before in
+    ((entry .pre) _ (global-word _ _ (sym (c .before .before .before .global .given .1) ∙ (c .before .before .before .before .before .holder .ensures)))) .words
 
 cast-learnt-record : tie.Need-cast-learnt-record
 cast-learnt-record c = search needs
@@ -34,28 +36,50 @@ mul-learnt-record-2 : tie.Need-mul-learnt-record-2
 mul-learnt-record-2 c = search needs
 
 shared-slice-read-learnt-record-2 : tie.Need-shared-slice-read-learnt-record-2
-shared-slice-read-learnt-record-2 c = ((c .before .before .before .before .before .before .before .before .before .before .before .before .before .before .pre) _ (found-at _ _ (sym (c .before .before .before .before .before .global .given .1) ∙ (c .before .before .before .before .before .before .before .holder .ensures)))) .value
+shared-slice-read-learnt-record-2 c =
+    let entry = c .before .before .before .before .before .before .before .before .before .before .before .before in
+    ((entry .pre) _ (global-word _ _ (sym (c .before .before .before .before .before .global .given .1)
+    ∙ (c .before .before .before .before .before .before .before .holder .ensures)))) .value
 
 learnt-record-requires : tie.Need-learnt-record-requires
-learnt-record-requires c κs = learn-asks _ _ _ ((c .before .before .before .before .before .before .before .before .before .before .before .before .before .before .pre) _ (found-at _ _ (sym (c .before .before .before .before .before .global .given .1) ∙ (c .before .before .before .before .before .before .before .holder .ensures))))
+learnt-record-requires c κs =
+    let entry = c .before .before .before .before .before .before .before .before .before .before .before .before in
+    let h = ((entry .pre) _ (global-word _ _ (sym (c .before .before .before .before .before .global .given .1)
+    ∙ (c .before .before .before .before .before .before .before .holder .ensures)))) in (h .undeleted, h .small)
 
 is-loose-requires : tie.Need-is-loose-requires
 is-loose-requires c κs = search needs
 
 returns-2 : tie.Need-returns-2
-returns-2 c = notes-kept _ _ _ (sym (c .before .before .before .before .before .before .before .before .global .given .1) ∙ (c .before .before .before .before .before .before .before .before .before .before .holder .ensures)) ((c .before .before .before .before .before .before .before .before .before .before .before .before .before .before .before .before .before .pre) _ (found-at _ _ (sym (c .before .before .before .before .before .before .before .before .global .given .1) ∙ (c .before .before .before .before .before .before .before .before .before .before .holder .ensures)))) _ (c .before .before .learnt-record .ensures) (sym (c .before .is-loose .ensures) ∙ not-true _ (c .if1 .taken))
+returns-2 c =
+    let at-holder = c .before .before .before .before .before .before .before .before .before .before in
+    let entry = at-holder .before .before .before .before .before in
+    notes-kept _ _ _ _ _ _ (sym (c .before .before .before .before .before .before .before .before .global .given .1) ∙ (at-holder .holder .ensures))
+    ((entry .pre) _ (global-word _ _ (sym (c .before .before .before .before .before .before .before .before .global .given .1)
+    ∙ (at-holder .holder .ensures)))) _ (c .before .before .learnt-record .ensures) (sym (c .before .is-loose .ensures) ∙ not-true _ (c .if1 .taken))
 
 mul-removal-notes : tie.Need-mul-removal-notes
 mul-removal-notes c = search needs
 
 shared-slice-read-removal-notes : tie.Need-shared-slice-read-removal-notes
-shared-slice-read-removal-notes c = ((c .before .before .before .before .before .before .before .before .before .before .before .before .before .before .before .before .before .before .pre) _ (found-at _ _ (sym (c .before .before .before .before .before .before .before .before .before .global .given .1) ∙ (c .before .before .before .before .before .before .before .before .before .before .before .holder .ensures)))) .live .user
+shared-slice-read-removal-notes c =
+    let at-holder = c .before .before .before .before .before .before .before .before .before .before .before in
+    let entry = at-holder .before .before .before .before .before in
+    ((entry .pre) _ (global-word _ _ (sym (c .before .before .before .before .before .before .before .before .before .global .given .1)
+    ∙ (at-holder .holder .ensures)))) .user
 
 removal-notes-requires : tie.Need-removal-notes-requires
 removal-notes-requires c κs = search needs
 
 returns-3 : tie.Need-returns-3
-returns-3 c = notes-removed _ _ _ (sym (c .before .before .before .before .before .before .before .before .before .before .global .given .1) ∙ (c .before .before .before .before .before .before .before .before .before .before .before .before .holder .ensures)) ((c .before .before .before .before .before .before .before .before .before .before .before .before .before .before .before .before .before .before .before .pre) _ (found-at _ _ (sym (c .before .before .before .before .before .before .before .before .before .before .global .given .1) ∙ (c .before .before .before .before .before .before .before .before .before .before .before .before .holder .ensures)))) _ (c .before .before .before .before .learnt-record .ensures) (sym (c .before .before .before .is-loose .ensures) ∙ not-false _ (c .before .before .if1 .left)) _ (c .removal-notes .ensures)
+returns-3 c =
+    let at-global = c .before .before .before .before .before .before .before .before .before .before in
+    let at-holder = at-global .before .before in
+    let entry = at-holder .before .before .before .before .before in
+    notes-removed _ _ _ _ _ _ (sym (at-global .global .given .1) ∙ (at-holder .holder .ensures))
+    ((entry .pre) _ (global-word _ _ (sym (at-global .global .given .1) ∙ (at-holder .holder .ensures)))) _
+    (c .before .before .before .before .learnt-record .ensures)
+    (sym (c .before .before .before .is-loose .ensures) ∙ not-false _ (c .before .before .if1 .left)) _ (c .removal-notes .ensures)
 
 pub notes-at-spec : {M : Type 1} → statement M
 notes-at-spec =

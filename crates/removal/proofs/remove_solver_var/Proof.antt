@@ -28,6 +28,9 @@ enum-known-global c = search needs
 enum-told : tie.Need-enum-told
 enum-told c = search needs
 
+held-refusal-requires : tie.Need-held-refusal-requires
+held-refusal-requires c κs = search needs
+
 same-length-4 : tie.Need-same-length-4
 same-length-4 c = search needs
 
@@ -38,13 +41,29 @@ same-length-6 : tie.Need-same-length-6
 same-length-6 c = search needs
 
 returns-2 : tie.Need-returns-2
-returns-2 c = absurd (never-nothing _ _ _ (removable _ _ _ _ (c .before .before .before .before .before .remove-refusal .ensures) (c .before .before .before .before .if1 .left)) (sym (c .enum-told .given .1) ∙ (c .before .before .holder .ensures)))
+returns-2 c = absurd
+    (never-nothing _ _ _ (removable _ _ _ _ (c .before .before .before .before .before .before .before .remove-refusal .ensures)
+    (c .before .before .before .before .before .before .if1 .left))
+    (sym (c .before .before .enum-told .given .1) ∙ (c .before .before .before .before .holder .ensures)))
 
 remove-held-requires : tie.Need-remove-held-requires
-remove-held-requires c κs = held-asks _ _ _ (removable _ _ _ _ (c .before .before .before .before .before .before .before .before .before .before .remove-refusal .ensures) (c .before .before .before .before .before .before .before .before .before .if1 .left)) _ (sym (c .before .before .before .before .before .global .given .1) ∙ (c .before .before .before .before .before .before .before .holder .ensures))
+remove-held-requires c κs =
+    let at-remove-refusal = c .before .before .before .before .before .before .before .before .before .before in
+    held-asks _ _ _ (removable _ _ _ _ (at-remove-refusal .remove-refusal .ensures)
+    (c .before .before .before .before .before .before .before .before .before .if1 .left)) _
+    (sym (c .before .before .before .before .before .global .given .1) ∙ (c .before .before .before .before .before .before .before .holder .ensures))
 
-cast-t33 : tie.Need-cast-t33
-cast-t33 c = record { fits = held-fits _ _ _ (removable _ _ _ _ (c .before .before .before .before .before .before .before .before .before .before .before .before .before .before .before .before .before .before .before .before .before .remove-refusal .ensures) (c .before .before .before .before .before .before .before .before .before .before .before .before .before .before .before .before .before .before .before .before .if1 .left)) _ (sym (c .before .before .before .before .before .before .before .before .before .before .before .before .before .before .before .before .global .given .1) ∙ (c .before .before .before .before .before .before .before .before .before .before .before .before .before .before .before .before .before .before .holder .ensures)) _ _ _ _ (c .before .before .before .before .before .before .before .before .before .before .remove-held .ensures) }
+cast-t36 : tie.Need-cast-t36
+cast-t36 c =
+    let at-remove-held = c .before .before .before .before .before .before .before .before .before .before in
+    let at-global = at-remove-held .before .before .before .before .before .before in
+    let at-holder = at-global .before .before in
+    let at-if1 = at-holder .before .before in
+    let at-remove-refusal = at-if1 .before in
+    record {
+      fits = held-fits _ _ _ (removable _ _ _ _ (at-remove-refusal .remove-refusal .ensures) (at-if1 .if1 .left)) _
+          (sym (at-global .global .given .1) ∙ (at-holder .holder .ensures)) _ _ _ _ (at-remove-held .remove-held .ensures);
+    }
 
 same-length-7 : tie.Need-same-length-7
 same-length-7 c = search needs
@@ -59,7 +78,15 @@ same-length-10 : tie.Need-same-length-10
 same-length-10 c = search needs
 
 returns-3 : tie.Need-returns-3
-returns-3 c = remove-does _ _ _ (removable _ _ _ _ (c .before .before .before .before .before .before .before .before .before .before .before .before .before .before .before .before .before .before .before .before .before .remove-refusal .ensures) (c .before .before .before .before .before .before .before .before .before .before .before .before .before .before .before .before .before .before .before .before .if1 .left)) _ (sym (c .before .before .before .before .before .before .before .before .before .before .before .before .before .before .before .before .global .given .1) ∙ (c .before .before .before .before .before .before .before .before .before .before .before .before .before .before .before .before .before .before .holder .ensures)) _ _ _ _ _ _ (c .before .before .before .before .before .before .before .before .before .before .before .before .before .before .before .before .before .before .before .before .before .remove-refusal .ensures) (c .before .before .before .before .before .before .before .before .before .before .before .before .before .before .before .before .before .before .before .before .if1 .left) (c .before .before .before .before .before .before .before .before .before .before .remove-held .ensures)
+returns-3 c =
+    let at-remove-held = c .before .before .before .before .before .before .before .before .before .before in
+    let at-global = at-remove-held .before .before .before .before .before .before in
+    let at-holder = at-global .before .before in
+    let at-if1 = at-holder .before .before in
+    let at-remove-refusal = at-if1 .before in
+    remove-does _ _ _ (removable _ _ _ _ (at-remove-refusal .remove-refusal .ensures) (at-if1 .if1 .left)) _
+    (sym (at-global .global .given .1) ∙ (at-holder .holder .ensures)) _ _ _ _ _ _ (at-remove-refusal .remove-refusal .ensures) (at-if1 .if1 .left)
+    (at-remove-held .remove-held .ensures)
 
 pub remove-solver-var-spec : {M : Type 1} → statement M
 remove-solver-var-spec =
@@ -73,12 +100,13 @@ remove-solver-var-spec =
     holder-requires
     enum-known-global
     enum-told
+    held-refusal-requires
     same-length-4
     same-length-5
     same-length-6
     returns-2
     remove-held-requires
-    cast-t33
+    cast-t36
     same-length-7
     same-length-8
     same-length-9

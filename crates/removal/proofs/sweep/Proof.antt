@@ -22,7 +22,11 @@ sweep-all-requires : tie.Need-sweep-all-requires
 sweep-all-requires c κs = all-asks _ _ _ (c .before .before .before .before .before .sweep-refusal .ensures) (c .before .before .before .before .if1 .left)
 
 cast-t28 : tie.Need-cast-t28
-cast-t28 c = record { fits = all-fits _ _ _ (c .before .before .before .before .before .before .before .before .before .before .before .before .before .before .before .before .sweep-refusal .ensures) (c .before .before .before .before .before .before .before .before .before .before .before .before .before .before .before .if1 .left) _ _ _ _ (c .before .before .before .before .before .before .before .before .before .before .sweep-all .ensures) }
+cast-t28 c =
+    let at-sweep-all = c .before .before .before .before .before .before .before .before .before .before in
+    let at-if1 = at-sweep-all .before .before .before .before .before in
+    let at-sweep-refusal = at-if1 .before in
+    record { fits = all-fits _ _ _ (at-sweep-refusal .sweep-refusal .ensures) (at-if1 .if1 .left) _ _ _ _ (at-sweep-all .sweep-all .ensures) }
 
 same-length-4 : tie.Need-same-length-4
 same-length-4 c = search needs
@@ -37,7 +41,11 @@ same-length-7 : tie.Need-same-length-7
 same-length-7 c = search needs
 
 returns-2 : tie.Need-returns-2
-returns-2 c = sweep-does _ _ _ (c .before .before .before .before .before .before .before .before .before .before .before .before .before .before .before .before .sweep-refusal .ensures) (c .before .before .before .before .before .before .before .before .before .before .before .before .before .before .before .if1 .left) _ _ _ _ _ (c .before .before .before .before .before .before .before .before .before .before .sweep-all .ensures)
+returns-2 c =
+    let at-sweep-all = c .before .before .before .before .before .before .before .before .before .before in
+    let at-if1 = at-sweep-all .before .before .before .before .before in
+    let at-sweep-refusal = at-if1 .before in
+    sweep-does _ _ _ (at-sweep-refusal .sweep-refusal .ensures) (at-if1 .if1 .left) _ _ _ _ _ (at-sweep-all .sweep-all .ensures)
 
 pub sweep-spec : {M : Type 1} → statement M
 sweep-spec =

@@ -11,7 +11,9 @@ use Rattle.removal.proofs.sweep_all.Statement.{statement}
 use Rattle.removal.proofs.sweep_all.Tie as tie
 
 abbrev Inv-loop : tie.InvT-loop
-Inv-loop gu ug sg₀ gs₀ assignment records₀ notes₀ last p₀ s₀ sg gs records notes p s = (s ≤ last) × Leaves (each s sweepOne (tableOf (p₀ .counts) gu ug sg₀ gs₀ assignment records₀)) 0 (p .at) (tableOf (p .counts) gu ug sg gs assignment records) notes₀ notes
+Inv-loop gu ug sg₀ gs₀ assignment records₀ notes₀ last p₀ s₀ sg gs records notes p s =
+    (s ≤ last) × Leaves (each s sweepOne (tableOf (p₀ .counts) gu ug sg₀ gs₀ assignment records₀)) 0 (p .at)
+    (tableOf (p .counts) gu ug sg gs assignment records) notes₀ notes
 
 abbrev μ-loop : tie.MeasureT-loop
 μ-loop gu ug sg₀ gs₀ assignment records₀ notes₀ last p₀ s₀ sg gs records notes p s = last - s
@@ -20,16 +22,30 @@ loop-holds : tie.Need-loop-holds Inv-loop μ-loop
 loop-holds c = (omega arith, sweep-start _ _)
 
 sweep-one-requires : tie.Need-sweep-one-requires Inv-loop μ-loop
-sweep-one-requires c κs = sweep-asks _ (c .before .before .before .before .before .before .before .before .before .before .before .before .before .before .pre .0) _ _ _ _ _ (c .before .before .before .before .before .before .loop .inv .1) _ (c .before .before .before .before .before .loop-test .taken) (c .before .before .before .before .before .before .before .before .before .before .before .before .before .before .pre .1) refl
+sweep-one-requires c κs =
+    let entry = c .before .before .before .before .before .before .before .before .before .before .before .before .before .before in
+    sweep-asks _ (entry .pre .0) _ _ _ _ _ (c .before .before .before .before .before .before .loop .inv .1) _
+    (c .before .before .before .before .before .loop-test .taken) (entry .pre .1) refl
 
 add-s : tie.Need-add-s Inv-loop μ-loop
-add-s c = let l = (c .before .before .before .before .before .before .before .before .before .before .before .before .before .before .loop-test .taken) in let z = sound-of _ (c .before .before .before .before .before .before .before .before .before .before .before .before .before .before .before .before .before .before .before .before .before .before .before .pre .0) .sizes in omega arith
+add-s c =
+    let at-loop-test = c .before .before .before .before .before .before .before .before .before .before .before .before .before .before in
+    let entry = at-loop-test .before .before .before .before .before .before .before .before .before in
+    let l = (at-loop-test .loop-test .taken) in let z = sound-of _ (entry .pre .0) .sizes in omega arith
 
 loop-less : tie.Need-loop-less Inv-loop μ-loop
-loop-less c = let l = (c .before .before .before .before .before .before .before .before .before .before .before .before .before .before .loop-test .taken) in omega arith
+loop-less c =
+    let at-loop-test = c .before .before .before .before .before .before .before .before .before .before .before .before .before .before in
+    let l = (at-loop-test .loop-test .taken) in omega arith
 
 loop-again : tie.Need-loop-again Inv-loop μ-loop
-loop-again c = (let l = (c .before .before .before .before .before .before .before .before .before .before .before .before .before .before .loop-test .taken) in omega arith, sweep-turn _ _ _ _ _ _ _ _ _ (c .before .before .before .before .before .before .before .before .before .before .before .before .before .before .before .loop .inv .1) (c .before .before .before .before .before .before .before .before .sweep-one .ensures))
+loop-again c =
+    let at-loop-test = c .before .before .before .before .before .before .before .before .before .before .before .before .before .before in
+    let at-loop = at-loop-test .before in (
+      let l = (at-loop-test .loop-test .taken) in omega arith,
+      sweep-turn _ _ _ _ _ _ _ _ _ (at-loop .loop .inv .1)
+          (c .before .before .before .before .before .before .before .before .sweep-one .ensures),
+    )
 
 same-length : tie.Need-same-length Inv-loop μ-loop
 same-length c = sweep-sizes _ (c .before .before .before .before .before .before .before .before .before .pre .0) _ _ _ _ _ (c .before .loop .inv .1) .solvers

@@ -1,6 +1,6 @@
 use lib.ListN.{length-set}
 use Rattle.removal.proofs.SweepOneLaws.{learn-asks, one-none, one-kept, one-asks, one-removed}
-use Rattle.removal.proofs.RefusalLaws.{found-at}
+use Rattle.table.proofs.FoundLaws.{global-word}
 use borrow.Author.Tests.{not-true, not-false}
 use mathlib.Core.Path.{sym, _∙_}
 use borrow.Author.Needs.{needs}
@@ -29,7 +29,10 @@ mul-learnt-record : tie.Need-mul-learnt-record
 mul-learnt-record c = search needs
 
 slice-read-learnt-record : tie.Need-slice-read-learnt-record
-slice-read-learnt-record c = ((c .before .before .before .before .before .before .before .before .before .before .before .before .before .before .pre .0) _ (found-at _ _ (sym (c .before .before .before .global .given .1) ∙ (c .before .before .before .before .before .holder .ensures)))) .live .words
+slice-read-learnt-record c =
+    let entry = c .before .before .before .before .before .before .before .before .before .before .before .before .before .before in
+    ((entry .pre .0) _ (global-word _ _ (sym (c .before .before .before .global .given .1)
+    ∙ (c .before .before .before .before .before .holder .ensures)))) .live .words
 
 cast-learnt-record : tie.Need-cast-learnt-record
 cast-learnt-record c = search needs
@@ -38,16 +41,25 @@ mul-learnt-record-2 : tie.Need-mul-learnt-record-2
 mul-learnt-record-2 c = search needs
 
 shared-slice-read-learnt-record : tie.Need-shared-slice-read-learnt-record
-shared-slice-read-learnt-record c = ((c .before .before .before .before .before .before .before .before .before .before .before .before .before .before .before .before .pre .0) _ (found-at _ _ (sym (c .before .before .before .before .before .global .given .1) ∙ (c .before .before .before .before .before .before .before .holder .ensures)))) .value
+shared-slice-read-learnt-record c =
+    let entry = c .before .before .before .before .before .before .before .before .before .before .before .before .before .before .before .before in
+    ((entry .pre .0) _ (global-word _ _ (sym (c .before .before .before .before .before .global .given .1)
+    ∙ (c .before .before .before .before .before .before .before .holder .ensures)))) .value
 
 learnt-record-requires : tie.Need-learnt-record-requires
-learnt-record-requires c κs = learn-asks _ _ _ ((c .before .before .before .before .before .before .before .before .before .before .before .before .before .before .before .before .pre .0) _ (found-at _ _ (sym (c .before .before .before .before .before .global .given .1) ∙ (c .before .before .before .before .before .before .before .holder .ensures))))
+learnt-record-requires c κs =
+    let entry = c .before .before .before .before .before .before .before .before .before .before .before .before .before .before .before .before in
+    learn-asks _ _ _ ((entry .pre .0) _ (global-word _ _ (sym (c .before .before .before .before .before .global .given .1)
+    ∙ (c .before .before .before .before .before .before .before .holder .ensures))))
 
 mul-records : tie.Need-mul-records
 mul-records c = search needs
 
 slice-write-records : tie.Need-slice-write-records
-slice-write-records c = ((c .before .before .before .before .before .before .before .before .before .before .before .before .before .before .before .before .before .pre .0) _ (found-at _ _ (sym (c .before .before .before .before .before .before .global .given .1) ∙ (c .before .before .before .before .before .before .before .before .holder .ensures)))) .live .words
+slice-write-records c =
+    let entry = c .before .before .before .before .before .before .before .before .before .before .before .before .before .before .before .before .before in
+    ((entry .pre .0) _ (global-word _ _ (sym (c .before .before .before .before .before .before .global .given .1)
+    ∙ (c .before .before .before .before .before .before .before .before .holder .ensures)))) .live .words
 
 is-loose-requires : tie.Need-is-loose-requires
 is-loose-requires c κs = search needs
@@ -59,10 +71,22 @@ same-length-3 : tie.Need-same-length-3
 same-length-3 c = search needs
 
 returns-2 : tie.Need-returns-2
-returns-2 c = one-kept _ _ _ _ (sym (c .before .before .before .before .before .before .before .before .global .given .1) ∙ (c .before .before .before .before .before .before .before .before .before .before .holder .ensures)) ((c .before .before .before .before .before .before .before .before .before .before .before .before .before .before .before .before .before .before .before .pre .0) _ (found-at _ _ (sym (c .before .before .before .before .before .before .before .before .global .given .1) ∙ (c .before .before .before .before .before .before .before .before .before .before .holder .ensures)))) _ (c .before .before .learnt-record .ensures) _ (sym (c .before .is-loose .ensures) ∙ not-true _ (c .if1 .taken))
+returns-2 c =
+    let at-holder = c .before .before .before .before .before .before .before .before .before .before in
+    let entry = at-holder .before .before .before .before .before .before .before .before .before in
+    one-kept _ _ _ _ (sym (c .before .before .before .before .before .before .before .before .global .given .1) ∙ (at-holder .holder .ensures))
+    ((entry .pre .0) _ (global-word _ _ (sym (c .before .before .before .before .before .before .before .before .global .given .1)
+    ∙ (at-holder .holder .ensures)))) _ (c .before .before .learnt-record .ensures) _ (sym (c .before .is-loose .ensures) ∙ not-true _ (c .if1 .taken))
 
 remove-held-requires : tie.Need-remove-held-requires
-remove-held-requires c κs = one-asks _ _ _ _ (sym (c .before .before .before .before .before .before .before .before .before .before .before .before .global .given .1) ∙ (c .before .before .before .before .before .before .before .before .before .before .before .before .before .before .holder .ensures)) ((c .before .before .before .before .before .before .before .before .before .before .before .before .before .before .before .before .before .before .before .before .before .before .before .pre .0) _ (found-at _ _ (sym (c .before .before .before .before .before .before .before .before .before .before .before .before .global .given .1) ∙ (c .before .before .before .before .before .before .before .before .before .before .before .before .before .before .holder .ensures)))) _ (c .before .before .before .before .before .before .learnt-record .ensures) _ (c .before .before .before .before .before .before .before .before .before .before .before .before .before .before .before .before .before .before .before .before .before .before .before .pre .1) (sym (c .before .before .before .before .before .is-loose .ensures) ∙ not-false _ (c .before .before .before .before .if1 .left))
+remove-held-requires c κs =
+    let at-global = c .before .before .before .before .before .before .before .before .before .before .before .before in
+    let at-holder = at-global .before .before in
+    let entry = at-holder .before .before .before .before .before .before .before .before .before in
+    one-asks _ _ _ _ (sym (at-global .global .given .1) ∙ (at-holder .holder .ensures))
+    ((entry .pre .0) _ (global-word _ _ (sym (at-global .global .given .1) ∙ (at-holder .holder .ensures)))) _
+    (c .before .before .before .before .before .before .learnt-record .ensures) _ (entry .pre .1)
+    (sym (c .before .before .before .before .before .is-loose .ensures) ∙ not-false _ (c .before .before .before .before .if1 .left))
 
 same-length-4 : tie.Need-same-length-4
 same-length-4 c = search needs
@@ -77,7 +101,17 @@ same-length-7 : tie.Need-same-length-7
 same-length-7 c = search needs
 
 returns-3 : tie.Need-returns-3
-returns-3 c = one-removed _ _ _ _ (sym (c .before .before .before .before .before .before .before .before .before .before .before .before .before .before .before .before .before .before .before .before .before .global .given .1) ∙ (c .before .before .before .before .before .before .before .before .before .before .before .before .before .before .before .before .before .before .before .before .before .before .before .holder .ensures)) ((c .before .before .before .before .before .before .before .before .before .before .before .before .before .before .before .before .before .before .before .before .before .before .before .before .before .before .before .before .before .before .before .before .pre .0) _ (found-at _ _ (sym (c .before .before .before .before .before .before .before .before .before .before .before .before .before .before .before .before .before .before .before .before .before .global .given .1) ∙ (c .before .before .before .before .before .before .before .before .before .before .before .before .before .before .before .before .before .before .before .before .before .before .before .holder .ensures)))) _ (c .before .before .before .before .before .before .before .before .before .before .before .before .before .before .before .learnt-record .ensures) _ _ _ _ (sym (c .before .before .before .before .before .before .before .before .before .before .before .before .before .before .is-loose .ensures) ∙ not-false _ (c .before .before .before .before .before .before .before .before .before .before .before .before .before .if1 .left)) (c .before .before .before .before .before .before .before .before .remove-held .ensures)
+returns-3 c =
+    let at-if1 = c .before .before .before .before .before .before .before .before .before .before .before .before .before in
+    let at-is-loose = at-if1 .before in
+    let at-learnt-record = at-is-loose .before in
+    let at-global = at-learnt-record .before .before .before .before .before .before in
+    let at-holder = at-global .before .before in
+    let entry = at-holder .before .before .before .before .before .before .before .before .before in
+    one-removed _ _ _ _ (sym (at-global .global .given .1) ∙ (at-holder .holder .ensures))
+    ((entry .pre .0) _ (global-word _ _ (sym (at-global .global .given .1) ∙ (at-holder .holder .ensures)))) _ (at-learnt-record .learnt-record .ensures) _
+    _ _ _ (sym (at-is-loose .is-loose .ensures) ∙ not-false _ (at-if1 .if1 .left))
+    (c .before .before .before .before .before .before .before .before .remove-held .ensures)
 
 pub sweep-one-spec : {M : Type 1} → statement M
 sweep-one-spec =

@@ -1,7 +1,8 @@
-use Rattle.scope.specs.BiMap.{indexIn, coverName}
+use Rattle.scope.specs.BiMap.{indexIn}
 use Rattle.scope.specs.declared.Name.{Name}
 use Prim.Native.Nat.{_<_}
-use mathlib.Core.Path.{sym, subst, ap, _∙_}
+use mathlib.Core.Path.{subst}
+use Rattle.scope.proofs.CountsLaws.{cover-name-user, cover-name-solver}
 use borrow.Author.Needs.{needs}
 use Rattle.scope.proofs.cover.Statement.{statement}
 use Rattle.scope.proofs.cover.Tie as tie
@@ -14,19 +15,25 @@ enum-known-n : tie.Need-enum-known-n
 enum-known-n c = search needs
 
 cover-user-requires : tie.Need-cover-user-requires
-cover-user-requires c κs = (subst (λ (n : Name). indexIn n < c .before .before .before .args .c .capacity) (c .before .n .given .1) (c .before .before .before .pre .0), c .before .before .before .pre .1)
+cover-user-requires c κs = (
+  subst (λ (n : Name). indexIn n < c .before .before .before .args .c .capacity) (c .before .n .given .1) (c .before .before .before .pre .0),
+  c .before .before .before .pre .1,
+)
 
 enum-known-n-2 : tie.Need-enum-known-n-2
 enum-known-n-2 c = search needs
 
 cover-solver-requires : tie.Need-cover-solver-requires
-cover-solver-requires c κs = (subst (λ (n : Name). indexIn n < c .before .before .before .args .c .capacity) (c .before .n2 .given .1) (c .before .before .before .pre .0), c .before .before .before .pre .1)
+cover-solver-requires c κs = (
+  subst (λ (n : Name). indexIn n < c .before .before .before .args .c .capacity) (c .before .n2 .given .1) (c .before .before .before .pre .0),
+  c .before .before .before .pre .1,
+)
 
 returns : tie.Need-returns
-returns c = c .cover-user .ensures ∙ sym (ap (λ (n : Name). coverName n (c .before .before .before .before .args .c) (c .before .before .before .before .args .g .0)) (c .before .before .n .given .1))
+returns c = cover-name-user _ _ _ _ _ (c .before .before .n .given .1) (c .cover-user .ensures)
 
 returns-2 : tie.Need-returns-2
-returns-2 c = c .cover-solver .ensures ∙ sym (ap (λ (n : Name). coverName n (c .before .before .before .before .args .c) (c .before .before .before .before .args .g .0)) (c .before .before .n2 .given .1))
+returns-2 c = cover-name-solver _ _ _ _ _ (c .before .before .n2 .given .1) (c .cover-solver .ensures)
 
 pub cover-spec : {M : Type 1} → statement M
 cover-spec =

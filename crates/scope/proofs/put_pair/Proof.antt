@@ -47,7 +47,11 @@ same-length-2 : tie.Need-same-length-2
 same-length-2 c = search needs
 
 returns-2 : tie.Need-returns-2
-returns-2 c = put-done _ _ _ _ _ _ _ _ _ (c .before .before .before .before .before .before .before .before .before .before .before .index-in .ensures) (not-false _ (c .before .before .before .before .before .before .before .before .if1 .left)) (c .before .before .before .before .before .before .before .cover .ensures) (c .before .before .before .before .link .ensures .0) (c .before .before .before .before .link .ensures .1)
+returns-2 c =
+    let at-index-in = c .before .before .before .before .before .before .before .before .before .before .before in
+    put-done _ _ _ _ _ _ _ _ _ (at-index-in .index-in .ensures) (not-false _ (c .before .before .before .before .before .before .before .before .if1 .left))
+    (c .before .before .before .before .before .before .before .cover .ensures) (c .before .before .before .before .link .ensures .0)
+    (c .before .before .before .before .link .ensures .1)
 
 pub put-pair-spec : {M : Type 1} → statement M
 put-pair-spec =

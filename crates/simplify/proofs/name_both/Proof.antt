@@ -4,10 +4,16 @@ use Rattle.simplify.proofs.name_both.Statement.{statement}
 use Rattle.simplify.proofs.name_both.Tie as tie
 
 rename-lits-requires : tie.Need-rename-lits-requires
-rename-lits-requires c κs = let j = judged _ (c .before .before .before .before .before .before .before .before .before .before .args .lits .now) (c .before .before .before .before .before .before .before .before .before .before .pre .0) in (j .sound, (j .held, room-clause _ (c .before .before .before .before .before .before .before .before .before .before .args .lits .now) (c .before .before .before .before .before .before .before .before .before .before .pre .0) (c .before .before .before .before .before .before .before .before .before .before .args .clause .now) (c .before .before .before .before .before .before .before .before .before .before .pre .1 .1)))
+rename-lits-requires c κs =
+    let entry = c .before .before .before .before .before .before .before .before .before .before in
+    let j = judged _ (entry .args .lits .now) (entry .pre .0) in
+    (j .sound, (j .held, room-clause _ (entry .args .lits .now) (entry .pre .0) (entry .args .clause .now) (entry .pre .1 .1)))
 
 keep-rest-requires : tie.Need-keep-rest-requires
-keep-rest-requires c κs = let j = judged _ (c .before .before .before .before .before .before .before .before .before .before .before .before .before .before .args .lits .now) (c .before .before .before .before .before .before .before .before .before .before .before .before .before .before .pre .0) in (j .sound, (j .held, room-rest _ (c .before .before .before .before .before .before .before .before .before .before .before .before .before .before .args .lits .now) (c .before .before .before .before .before .before .before .before .before .before .before .before .before .before .pre .0) (c .before .before .before .before .before .before .before .before .before .before .before .before .before .before .args .rest .now) (c .before .before .before .before .before .before .before .before .before .before .before .before .before .before .pre .1 .0)))
+keep-rest-requires c κs =
+    let entry = c .before .before .before .before .before .before .before .before .before .before .before .before .before .before in
+    let j = judged _ (entry .args .lits .now) (entry .pre .0) in
+    (j .sound, (j .held, room-rest _ (entry .args .lits .now) (entry .pre .0) (entry .args .rest .now) (entry .pre .1 .0)))
 
 same-length : tie.Need-same-length
 same-length c = search needs
@@ -16,7 +22,13 @@ same-length-2 : tie.Need-same-length-2
 same-length-2 c = search needs
 
 returns : tie.Need-returns
-returns c = ((c .before .before .keep-rest .ensures .0), ((c .before .before .keep-rest .ensures .1), (c .before .before .before .before .before .before .rename-lits .ensures)))
+returns c = (
+  (c .before .before .keep-rest .ensures .0),
+  (
+    (c .before .before .keep-rest .ensures .1),
+    (c .before .before .before .before .before .before .rename-lits .ensures),
+  ),
+)
 
 pub name-both-spec : {M : Type 1} → statement M
 name-both-spec =

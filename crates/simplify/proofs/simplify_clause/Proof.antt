@@ -11,7 +11,15 @@ clause-refusal-requires : tie.Need-clause-refusal-requires
 clause-refusal-requires c κs = search needs
 
 returns : tie.Need-returns
-returns c = let e = comes-first (c .before .before .before .before .before .before .before .before .before .before .before .args .f) _ (c .before .before .before .before .before .before .before .before .before .before .before .args .lits .now) (c .before .before .before .before .before .before .before .before .before .before .before .args .redundant) (length (c .before .before .before .before .before .before .before .before .before .before .before .args .out .now)) (length (c .before .before .before .before .before .before .before .before .before .before .before .args .bytes .now)) _ (c .before .clause-refusal .ensures) (c .if1 .taken) in let w = parts _ _ _ (c .before .before .before .before .before .before .before .before .before .before .before .args .out .now) (c .before .before .before .before .before .before .before .before .before .before .before .args .bytes .now) (c .before .before .before .before .before .before .before .before .before .before .before .args .out .now) (c .before .before .before .before .before .before .before .before .before .before .before .args .bytes .now) e refl refl refl in (meets (c .before .before .before .before .before .before .before .before .before .before .before .args .f) _ (c .before .before .before .before .before .before .before .before .before .before .before .args .lits .now) (c .before .before .before .before .before .before .before .before .before .before .before .args .redundant) (length (c .before .before .before .before .before .before .before .before .before .before .before .args .out .now)) (length (c .before .before .before .before .before .before .before .before .before .before .before .args .bytes .now)) (Refused _) (w .0), w .1)
+returns c =
+    let entry = c .before .before .before .before .before .before .before .before .before .before .before in
+    let e = comes-first (entry .args .f) _ (entry .args .lits .now) (entry .args .redundant) (length (entry .args .out .now)) (length (entry .args .bytes .now))
+    _ (c .before .clause-refusal .ensures) (c .if1 .taken) in
+    let w = parts _ _ _ (entry .args .out .now) (entry .args .bytes .now) (entry .args .out .now) (entry .args .bytes .now) e refl refl refl in (
+      meets (entry .args .f) _ (entry .args .lits .now) (entry .args .redundant) (length (entry .args .out .now)) (length (entry .args .bytes .now)) (Refused _)
+          (w .0),
+      w .1,
+    )
 
 sort-clause-requires : tie.Need-sort-clause-requires
 sort-clause-requires c κs = search needs
@@ -20,28 +28,63 @@ enum-told : tie.Need-enum-told
 enum-told c = search needs
 
 keep-clause-requires : tie.Need-keep-clause-requires
-keep-clause-requires c κs = ((sym (c .before .before .before .before .before .clause-refusal .ensures) ∙ (c .before .before .before .before .if1 .left)), (sym (c .before .before .before .sort-clause .ensures) ∙ (c .before .enum-told .given .1)))
+keep-clause-requires c κs = (
+  (sym (c .before .before .before .before .before .clause-refusal .ensures) ∙ (c .before .before .before .before .if1 .left)),
+  (sym (c .before .before .before .sort-clause .ensures _ refl) ∙ (c .before .enum-told .given .1)),
+)
 
 enum-told-2 : tie.Need-enum-told-2
 enum-told-2 c = search needs
 
 drop-clause-requires : tie.Need-drop-clause-requires
-drop-clause-requires c κs = ((sym (c .before .before .before .before .before .clause-refusal .ensures) ∙ (c .before .before .before .before .if1 .left)), (sym (c .before .before .before .sort-clause .ensures) ∙ (c .before .enum-told2 .given .1)))
+drop-clause-requires c κs = (
+  (sym (c .before .before .before .before .before .clause-refusal .ensures) ∙ (c .before .before .before .before .if1 .left)),
+  (sym (c .before .before .before .sort-clause .ensures _ refl) ∙ (c .before .enum-told2 .given .1)),
+)
 
 shorten-clause-requires : tie.Need-shorten-clause-requires
-shorten-clause-requires c κs = ((sym (c .before .before .before .before .before .clause-refusal .ensures) ∙ (c .before .before .before .before .if1 .left)), (sym (c .before .before .before .sort-clause .ensures), cuts-tag _ (c .before .before .match .keys3)))
+shorten-clause-requires c κs = (
+  (sym (c .before .before .before .before .before .clause-refusal .ensures) ∙ (c .before .before .before .before .if1 .left)),
+  (sym (c .before .before .before .sort-clause .ensures _ refl), cuts-tag _ (c .before .before .match .keys3)),
+)
 
 same-length : tie.Need-same-length
 same-length c = search needs
 
 returns-2 : tie.Need-returns-2
-returns-2 c = (meets (c .before .before .before .before .before .before .before .before .before .before .before .before .before .before .before .before .before .before .args .f) _ (c .before .before .before .before .before .before .before .before .before .before .before .before .before .before .before .before .before .before .args .lits .now) (c .before .before .before .before .before .before .before .before .before .before .before .before .before .before .before .before .before .before .args .redundant) (length (c .before .before .before .before .before .before .before .before .before .before .before .before .before .before .before .before .before .before .args .out .now)) (length (c .before .before .before .before .before .before .before .before .before .before .before .before .before .before .before .before .before .before .args .bytes .now)) (c .before .before .keep-clause .result) ((c .before .before .keep-clause .ensures .0) (c .before .before .before .before .before .before .before .before .before .before .before .before .before .before .before .before .before .before .args .f) (c .before .before .before .before .before .before .before .before .before .before .before .before .before .before .before .before .before .before .args .redundant) (length (c .before .before .before .before .before .before .before .before .before .before .before .before .before .before .before .before .before .before .args .bytes .now))), ((c .before .before .keep-clause .ensures .1) (c .before .before .before .before .before .before .before .before .before .before .before .before .before .before .before .before .before .before .args .f) (c .before .before .before .before .before .before .before .before .before .before .before .before .before .before .before .before .before .before .args .redundant) (length (c .before .before .before .before .before .before .before .before .before .before .before .before .before .before .before .before .before .before .args .bytes .now)), kept-bytes (c .before .before .before .before .before .before .before .before .before .before .before .before .before .before .before .before .before .before .args .f) _ (c .before .before .before .before .before .before .before .before .before .before .before .before .before .before .before .before .before .before .args .lits .now) (c .before .before .before .before .before .before .before .before .before .before .before .before .before .before .before .before .before .before .args .redundant) (c .before .before .before .before .before .before .before .before .before .before .before .before .before .before .before .before .before .before .args .out .now) (c .before .before .before .before .before .before .before .before .before .before .before .before .before .before .before .before .before .before .args .bytes .now) (sym (c .before .before .before .before .before .before .before .before .clause-refusal .ensures) ∙ (c .before .before .before .before .before .before .before .if1 .left)) (sym (c .before .before .before .before .before .before .sort-clause .ensures) ∙ (c .before .before .before .before .enum-told .given .1))))
+returns-2 c =
+    let entry = c .before .before .before .before .before .before .before .before .before .before .before .before .before .before .before .before .before
+    .before in (
+      meets (entry .args .f) _ (entry .args .lits .now) (entry .args .redundant) (length (entry .args .out .now)) (length (entry .args .bytes .now))
+          (c .before .before .keep-clause .result) ((c .before .before .keep-clause .ensures .0) (entry .args .f) (entry .args .redundant)
+          (length (entry .args .bytes .now))),
+      (
+        (c .before .before .keep-clause .ensures .1) (entry .args .f) (entry .args .redundant)
+            (length (entry .args .bytes .now)),
+        kept-bytes (entry .args .f) _ (entry .args .lits .now) (entry .args .redundant) (entry .args .out .now)
+            (entry .args .bytes .now) (sym (c .before .before .before .before .before .before .before .before .clause-refusal .ensures)
+            ∙ (c .before .before .before .before .before .before .before .if1 .left))
+            (sym (c .before .before .before .before .before .before .sort-clause .ensures _ refl) ∙ (c .before .before .before .before .enum-told .given .1)),
+      ),
+    )
 
 same-length-2 : tie.Need-same-length-2
 same-length-2 c = search needs
 
 returns-3 : tie.Need-returns-3
-returns-3 c = (meets (c .before .before .before .before .before .before .before .before .before .before .before .before .before .before .before .before .before .before .args .f) _ (c .before .before .before .before .before .before .before .before .before .before .before .before .before .before .before .before .before .before .args .lits .now) (c .before .before .before .before .before .before .before .before .before .before .before .before .before .before .before .before .before .before .args .redundant) (length (c .before .before .before .before .before .before .before .before .before .before .before .before .before .before .before .before .before .before .args .out .now)) (length (c .before .before .before .before .before .before .before .before .before .before .before .before .before .before .before .before .before .before .args .bytes .now)) (c .before .before .drop-clause .result) ((c .before .before .drop-clause .ensures .0) (length (c .before .before .before .before .before .before .before .before .before .before .before .before .before .before .before .before .before .before .args .out .now))), (dropped-words (c .before .before .before .before .before .before .before .before .before .before .before .before .before .before .before .before .before .before .args .f) _ (c .before .before .before .before .before .before .before .before .before .before .before .before .before .before .before .before .before .before .args .lits .now) (c .before .before .before .before .before .before .before .before .before .before .before .before .before .before .before .before .before .before .args .redundant) (c .before .before .before .before .before .before .before .before .before .before .before .before .before .before .before .before .before .before .args .out .now) (c .before .before .before .before .before .before .before .before .before .before .before .before .before .before .before .before .before .before .args .bytes .now) (sym (c .before .before .before .before .before .before .before .before .clause-refusal .ensures) ∙ (c .before .before .before .before .before .before .before .if1 .left)) (sym (c .before .before .before .before .before .before .sort-clause .ensures) ∙ (c .before .before .before .before .enum-told2 .given .1)), (c .before .before .drop-clause .ensures .1) (length (c .before .before .before .before .before .before .before .before .before .before .before .before .before .before .before .before .before .before .args .out .now))))
+returns-3 c =
+    let entry = c .before .before .before .before .before .before .before .before .before .before .before .before .before .before .before .before .before
+    .before in (
+      meets (entry .args .f) _ (entry .args .lits .now) (entry .args .redundant) (length (entry .args .out .now)) (length (entry .args .bytes .now))
+          (c .before .before .drop-clause .result) ((c .before .before .drop-clause .ensures .0) (length (entry .args .out .now))),
+      (
+        dropped-words (entry .args .f) _ (entry .args .lits .now) (entry .args .redundant) (entry .args .out .now) (entry .args .bytes .now)
+            (sym (c .before .before .before .before .before .before .before .before .clause-refusal .ensures)
+            ∙ (c .before .before .before .before .before .before .before .if1 .left))
+            (sym (c .before .before .before .before .before .before .sort-clause .ensures _ refl) ∙ (c .before .before .before .before .enum-told2 .given .1)),
+        (c .before .before .drop-clause .ensures .1) (length (entry .args .out .now)),
+      ),
+    )
 
 same-length-3 : tie.Need-same-length-3
 same-length-3 c = search needs
@@ -50,7 +93,13 @@ same-length-4 : tie.Need-same-length-4
 same-length-4 c = search needs
 
 returns-4 : tie.Need-returns-4
-returns-4 c = (meets (c .before .before .before .before .before .before .before .before .before .before .before .before .before .before .before .before .before .before .before .before .args .f) _ (c .before .before .before .before .before .before .before .before .before .before .before .before .before .before .before .before .before .before .before .before .args .lits .now) (c .before .before .before .before .before .before .before .before .before .before .before .before .before .before .before .before .before .before .before .before .args .redundant) (length (c .before .before .before .before .before .before .before .before .before .before .before .before .before .before .before .before .before .before .before .before .args .out .now)) (length (c .before .before .before .before .before .before .before .before .before .before .before .before .before .before .before .before .before .before .before .before .args .bytes .now)) (c .before .before .before .before .shorten-clause .result) (c .before .before .before .before .shorten-clause .ensures .0), (c .before .before .before .before .shorten-clause .ensures .1))
+returns-4 c =
+    let entry = c .before .before .before .before .before .before .before .before .before .before .before .before .before .before .before .before .before
+    .before .before .before in (
+      meets (entry .args .f) _ (entry .args .lits .now) (entry .args .redundant) (length (entry .args .out .now)) (length (entry .args .bytes .now))
+          (c .before .before .before .before .shorten-clause .result) (c .before .before .before .before .shorten-clause .ensures .0),
+      (c .before .before .before .before .shorten-clause .ensures .1),
+    )
 
 pub simplify-clause-spec : {M : Type 1} → statement M
 simplify-clause-spec =

@@ -1,4 +1,5 @@
-use Rattle.table.proofs.CheckLaws.{yes-of, no-sizes, no-marks, no-tails, no-pairs, sizes-is, tails-is, sound-is}
+use Rattle.scope.proofs.SoundLaws.{sizes-of}
+use Rattle.table.proofs.CheckLaws.{yes-of, no-sizes, no-marks, no-tails, no-pairs, pairs-is, tails-is, sound-is}
 use native.Mathlib.Omega.{arith}
 use borrow.Author.Needs.{needs}
 use Rattle.table.proofs.is_sound.Statement.{statement}
@@ -23,28 +24,49 @@ tails-ok-requires c κs =
 returns-3 : tie.Need-returns-3
 returns-3 c = no-tails _ _ (c .before .tails-ok .ensures) (c .if3 .taken)
 
-pairs-ok-requires : tie.Need-pairs-ok-requires
-pairs-ok-requires c κs =
-    (yes-of (c .before .before .before .before .before .sizes-ok .ensures) (c .before .before .before .before .if1 .left), (yes-of (c .before .before .before .marks-ok .ensures) (c .before .before .if2 .left), yes-of (c .before .tails-ok .ensures) (c .if3 .left)))
+pair-ok-requires : tie.Need-pair-ok-requires
+pair-ok-requires c κs =
+    let s = sizes-of _ (yes-of (c .before .before .before .before .before .sizes-ok .ensures) (c .before .before .before .before .if1 .left))
+    (yes-of (c .before .before .before .marks-ok .ensures) (c .before .before .if2 .left)) in
+    let t = tails-is _ (yes-of (c .before .tails-ok .ensures) (c .if3 .left)) in
+    (omega arith, (omega arith, (t .gu, (t .ug, (omega arith, omega arith)))))
+
+pair-ok-requires-2 : tie.Need-pair-ok-requires-2
+pair-ok-requires-2 c κs =
+    let s = sizes-of _ (yes-of (c .before .before .before .before .before .before .sizes-ok .ensures) (c .before .before .before .before .before .if1 .left))
+    (yes-of (c .before .before .before .before .marks-ok .ensures) (c .before .before .before .if2 .left)) in
+    let t = tails-is _ (yes-of (c .before .before .tails-ok .ensures) (c .before .if3 .left)) in
+    (omega arith, (omega arith, (t .gs, (t .sg, (omega arith, omega arith)))))
 
 returns-4 : tie.Need-returns-4
-returns-4 c = no-pairs _ _ (c .before .pairs-ok .ensures) (c .if4 .taken)
+returns-4 c = no-pairs _ _ (pairs-is _ _ _ (c .before .before .pair-ok .ensures) (c .before .pair-ok2 .ensures)) (c .if4 .taken)
 
 at-most-requires : tie.Need-at-most-requires
 at-most-requires c κs =
-    let s = sizes-is _ (yes-of (c .before .before .before .before .before .before .before .sizes-ok .ensures) (c .before .before .before .before .before .before .if1 .left)) (yes-of (c .before .before .before .before .before .marks-ok .ensures) (c .before .before .before .before .if2 .left)) in
-    let t = tails-is _ (yes-of (c .before .before .before .tails-ok .ensures) (c .before .before .if3 .left)) in
+    let s = sizes-of _ (yes-of (c .before .before .before .before .before .before .before .before .sizes-ok .ensures)
+    (c .before .before .before .before .before .before .before .if1 .left))
+    (yes-of (c .before .before .before .before .before .before .marks-ok .ensures) (c .before .before .before .before .before .if2 .left)) in
+    let t = tails-is _ (yes-of (c .before .before .before .before .tails-ok .ensures) (c .before .before .before .if3 .left)) in
     (omega arith, t .assignment)
 
 rows-ok-requires : tie.Need-rows-ok-requires
 rows-ok-requires c κs =
-    let s = sizes-is _ (yes-of (c .before .before .before .before .before .before .before .before .sizes-ok .ensures) (c .before .before .before .before .before .before .before .if1 .left)) (yes-of (c .before .before .before .before .before .before .marks-ok .ensures) (c .before .before .before .before .before .if2 .left)) in
-    let t = tails-is _ (yes-of (c .before .before .before .before .tails-ok .ensures) (c .before .before .before .if3 .left)) in
+    let s = sizes-of _ (yes-of (c .before .before .before .before .before .before .before .before .before .sizes-ok .ensures)
+    (c .before .before .before .before .before .before .before .before .if1 .left))
+    (yes-of (c .before .before .before .before .before .before .before .marks-ok .ensures)
+    (c .before .before .before .before .before .before .if2 .left)) in
+    let t = tails-is _ (yes-of (c .before .before .before .before .before .tails-ok .ensures) (c .before .before .before .before .if3 .left)) in
     (omega arith, (omega arith, (omega arith, (t .records, (t .ug, t .sg)))))
 
 returns-5 : tie.Need-returns-5
 returns-5 c =
-    sound-is _ _ _ (yes-of (c .before .before .before .before .before .before .before .before .before .sizes-ok .ensures) (c .before .before .before .before .before .before .before .before .if1 .left)) (yes-of (c .before .before .before .before .before .before .before .marks-ok .ensures) (c .before .before .before .before .before .before .if2 .left)) (yes-of (c .before .before .before .before .before .tails-ok .ensures) (c .before .before .before .before .if3 .left)) (yes-of (c .before .before .before .pairs-ok .ensures) (c .before .before .if4 .left)) (c .before .at-most .ensures) (c .rows-ok .ensures)
+    let at-sizes-ok = c .before .before .before .before .before .before .before .before .before .before in
+    sound-is _ _ _ (yes-of (at-sizes-ok .sizes-ok .ensures) (c .before .before .before .before .before .before .before .before .before .if1 .left))
+    (yes-of (c .before .before .before .before .before .before .before .before .marks-ok .ensures)
+    (c .before .before .before .before .before .before .before .if2 .left))
+    (yes-of (c .before .before .before .before .before .before .tails-ok .ensures) (c .before .before .before .before .before .if3 .left))
+    (yes-of (pairs-is _ _ _ (c .before .before .before .before .pair-ok .ensures) (c .before .before .before .pair-ok2 .ensures))
+    (c .before .before .if4 .left)) (c .before .at-most .ensures) (c .rows-ok .ensures)
 
 pub is-sound-spec : {M : Type 1} → statement M
 is-sound-spec =
@@ -56,7 +78,8 @@ is-sound-spec =
     returns-2
     tails-ok-requires
     returns-3
-    pairs-ok-requires
+    pair-ok-requires
+    pair-ok-requires-2
     returns-4
     at-most-requires
     rows-ok-requires

@@ -30,7 +30,8 @@ is-true-requires : tie.Need-is-true-requires Inv-loop μ-loop
 is-true-requires c κs = search needs
 
 returns : tie.Need-returns Inv-loop μ-loop
-returns c = sym (any-some (trueBy (c .before .before .before .before .before .before .before .args .assignment .now)) _ _ _ (c .before .before .before .loop-test .taken) (sym (c .before .is-true .ensures) ∙ (c .if1 .taken)))
+returns c = sym (any-some (trueBy (c .before .before .before .before .before .before .before .args .assignment .now)) _ _ _
+    (c .before .before .before .loop-test .taken) (sym (c .before .is-true .ensures) ∙ (c .if1 .taken)))
 
 add-i : tie.Need-add-i Inv-loop μ-loop
 add-i c = omega arith
@@ -39,7 +40,11 @@ loop-less : tie.Need-loop-less Inv-loop μ-loop
 loop-less c = omega arith
 
 loop-again : tie.Need-loop-again Inv-loop μ-loop
-loop-again c = (omega arith, any-step (trueBy (c .before .before .before .before .before .before .before .args .assignment .now)) _ _ _ (c .before .before .before .loop-test .taken) (c .before .before .before .before .loop .inv .1) (sym (c .before .is-true .ensures) ∙ (c .if1 .left)))
+loop-again c = (
+  omega arith,
+  any-step (trueBy (c .before .before .before .before .before .before .before .args .assignment .now)) _ _ _
+      (c .before .before .before .loop-test .taken) (c .before .before .before .before .loop .inv .1) (sym (c .before .is-true .ensures) ∙ (c .if1 .left)),
+)
 
 returns-2 : tie.Need-returns-2 Inv-loop μ-loop
 returns-2 c = sym (any-end (trueBy (c .before .before .before .before .args .assignment .now)) _ _ (c .loop-test .left) (c .before .loop .inv .1))

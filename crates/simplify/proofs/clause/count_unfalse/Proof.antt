@@ -18,7 +18,11 @@ abbrev μ-loop : tie.MeasureT-loop
 μ-loop assignment lits k₀ i₀ k i = length lits - i
 
 loop-holds : tie.Need-loop-holds Inv-loop μ-loop
-loop-holds c = (omega arith, sym (ap length (kept-start (λ x. not (falseBy (c .before .before .args .assignment .now) x)) (c .before .before .args .lits .now))))
+loop-holds c = (
+  omega arith,
+  sym
+      (ap length (kept-start (λ x. not (falseBy (c .before .before .args .assignment .now) x)) (c .before .before .args .lits .now))),
+)
 
 mul-is-false : tie.Need-mul-is-false Inv-loop μ-loop
 mul-is-false c = search needs
@@ -30,7 +34,9 @@ is-false-requires : tie.Need-is-false-requires Inv-loop μ-loop
 is-false-requires c κs = search needs
 
 add-k : tie.Need-add-k Inv-loop μ-loop
-add-k c = let z = count-most (λ x. not (falseBy (c .before .before .before .before .before .before .before .args .assignment .now) x)) (c .before .before .before .before .before .before .before .args .lits .now) (c .before .before .before .before .loop .i) _ (c .before .before .before .before .loop .inv .1) in omega arith
+add-k c = let z = count-most (λ x. not (falseBy (c .before .before .before .before .before .before .before .args .assignment .now) x))
+    (c .before .before .before .before .before .before .before .args .lits .now) (c .before .before .before .before .loop .i) _
+    (c .before .before .before .before .loop .inv .1) in omega arith
 
 add-i : tie.Need-add-i Inv-loop μ-loop
 add-i c = omega arith
@@ -39,10 +45,20 @@ loop-less : tie.Need-loop-less Inv-loop μ-loop
 loop-less c = omega arith
 
 loop-again : tie.Need-loop-again Inv-loop μ-loop
-loop-again c = (omega arith, ⊎-elim (λ w. w .1 ∙ count-some (λ x. not (falseBy (c .before .before .before .before .before .before .before .args .assignment .now) x)) (c .before .before .before .before .before .before .before .args .lits .now) _ _ (c .before .before .before .loop-test .taken) (sym (ap not (c .before .is-false .ensures)) ∙ w .0 .taken) (c .before .before .before .before .loop .inv .1)) (λ w. w .1 ∙ count-none (λ x. not (falseBy (c .before .before .before .before .before .before .before .args .assignment .now) x)) (c .before .before .before .before .before .before .before .args .lits .now) _ _ (c .before .before .before .loop-test .taken) (sym (ap not (c .before .is-false .ensures)) ∙ w .0 .left) (c .before .before .before .before .loop .inv .1)) (c .if1 .came))
+loop-again c = (
+  omega arith,
+  ⊎-elim
+      (λ w. w .1 ∙ count-some (λ x. not (falseBy (c .before .before .before .before .before .before .before .args .assignment .now) x))
+      (c .before .before .before .before .before .before .before .args .lits .now) _ _ (c .before .before .before .loop-test .taken)
+      (sym (ap not (c .before .is-false .ensures)) ∙ w .0 .taken) (c .before .before .before .before .loop .inv .1))
+      (λ w. w .1 ∙ count-none (λ x. not (falseBy (c .before .before .before .before .before .before .before .args .assignment .now) x))
+      (c .before .before .before .before .before .before .before .args .lits .now) _ _ (c .before .before .before .loop-test .taken)
+      (sym (ap not (c .before .is-false .ensures)) ∙ w .0 .left) (c .before .before .before .before .loop .inv .1)) (c .if1 .came),
+)
 
 returns : tie.Need-returns Inv-loop μ-loop
-returns c = count-end (λ x. not (falseBy (c .before .before .before .before .args .assignment .now) x)) (c .before .before .before .before .args .lits .now) _ _ (c .loop-test .left) (c .before .loop .inv .1)
+returns c = count-end (λ x. not (falseBy (c .before .before .before .before .args .assignment .now) x)) (c .before .before .before .before .args .lits .now) _ _
+    (c .loop-test .left) (c .before .loop .inv .1)
 
 pub count-unfalse-spec : {M : Type 1} → statement M
 count-unfalse-spec =

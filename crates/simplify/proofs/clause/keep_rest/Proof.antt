@@ -3,7 +3,8 @@ use Rattle.scope.specs.Write.{renameLit, renameLits}
 use Rattle.steps.proofs.LiteralLaws.{word-small, held-at}
 use Rattle.simplify.specs.Values.{falseBy}
 use mathlib.Core.Logic.{⊎-elim}
-use Rattle.simplify.proofs.KeepLaws.{keptTo, kept-start, count-some, count-none, count-end, count-most, count-room, stored, store-start, store-some, store-none, store-end, store-kept, store-there}
+use Rattle.simplify.proofs.KeepLaws.{keptTo, kept-start, count-some, count-none, count-end, count-most, count-room, stored, store-start, store-some}
+use Rattle.simplify.proofs.KeepLaws.{store-none, store-end, store-kept, store-there}
 use Prim.Native.Nat.{_≤_, _-_}
 use lib.ListN.{length, getD}
 use mathlib.Core.Bool.{true, not}
@@ -23,7 +24,18 @@ abbrev μ-loop : tie.MeasureT-loop
 μ-loop gu ug sg gs assignment records named lits out₀ k₀ i₀ out k i = length lits - i
 
 loop-holds : tie.Need-loop-holds Inv-loop μ-loop
-loop-holds c = (omega arith, sym (ap length (kept-start (λ x. not (falseBy (c .before .before .before .before .before .before .before .before .args .assignment .now) x)) (c .before .before .before .before .before .before .before .before .args .lits .now))), store-start (λ x. not (falseBy (c .before .before .before .before .before .before .before .before .args .assignment .now) x)) (c .before .before .before .before .before .before .before .before .args .lits .now) (renameLit (λ s. getD (c .before .before .before .before .before .before .before .before .args .gs .now) s 0) (c .before .before .before .before .before .before .before .before .args .named)) (c .before .before .before .before .before .before .before .before .args .out .now))
+loop-holds c = (
+  omega arith,
+  sym
+      (ap length (kept-start (λ x. not (falseBy (c .before .before .before .before .before .before .before .before .args .assignment .now) x))
+      (c .before .before .before .before .before .before .before .before .args .lits .now))),
+  store-start
+      (λ x. not (falseBy (c .before .before .before .before .before .before .before .before .args .assignment .now) x))
+      (c .before .before .before .before .before .before .before .before .args .lits .now)
+      (renameLit (λ s. getD (c .before .before .before .before .before .before .before .before .args .gs .now) s 0)
+      (c .before .before .before .before .before .before .before .before .args .named))
+      (c .before .before .before .before .before .before .before .before .args .out .now),
+)
 
 mul-code : tie.Need-mul-code Inv-loop μ-loop
 mul-code c = search needs
@@ -35,17 +47,31 @@ is-false-requires : tie.Need-is-false-requires Inv-loop μ-loop
 is-false-requires c κs = search needs
 
 rename-lit-requires : tie.Need-rename-lit-requires Inv-loop μ-loop
-rename-lit-requires c κs = (word-small _ (c .before .before .before .before .before .before .before .before .before .before .before .before .before .pre .0) _, λ b. held-at _ true _ _ (c .before .before .before .before .before .before .before .before .before .before .before .before .before .pre .1 .0) (c .before .before .before .loop-test .taken) refl)
+rename-lit-requires c κs =
+    let entry = c .before .before .before .before .before .before .before .before .before .before .before .before .before in
+    (word-small _ (entry .pre .0) _, λ b. held-at _ true _ _ (entry .pre .1 .0) (c .before .before .before .loop-test .taken) refl)
 
 mul-out : tie.Need-mul-out Inv-loop μ-loop
-mul-out c = let z = count-most (λ x. not (falseBy (c .before .before .before .before .before .before .before .before .before .before .before .before .before .before .args .assignment .now) x)) (c .before .before .before .before .before .before .before .before .before .before .before .before .before .before .args .lits .now) (c .before .before .before .before .before .loop .i) _ (c .before .before .before .before .before .loop .inv .1) in omega arith
+mul-out c =
+    let entry = c .before .before .before .before .before .before .before .before .before .before .before .before .before .before in
+    let z = count-most (λ x. not (falseBy (entry .args .assignment .now) x)) (entry .args .lits .now) (c .before .before .before .before .before .loop .i) _
+    (c .before .before .before .before .before .loop .inv .1) in omega arith
 
 slice-write-out : tie.Need-slice-write-out Inv-loop μ-loop
 unfolding unfalse
-slice-write-out c = store-there (λ x. not (falseBy (c .before .before .before .before .before .before .before .before .before .before .before .before .before .before .args .assignment .now) x)) (c .before .before .before .before .before .before .before .before .before .before .before .before .before .before .args .lits .now) (renameLit (λ s. getD (c .before .before .before .before .before .before .before .before .before .before .before .before .before .before .args .gs .now) s 0) (c .before .before .before .before .before .before .before .before .before .before .before .before .before .before .args .named)) (c .before .before .before .before .before .before .before .before .before .before .before .before .before .before .args .out .now) _ (c .before .before .before .before .before .loop .i) _ (count-room (λ x. not (falseBy (c .before .before .before .before .before .before .before .before .before .before .before .before .before .before .args .assignment .now) x)) (c .before .before .before .before .before .before .before .before .before .before .before .before .before .before .args .lits .now) _ _ (c .before .before .before .before .loop-test .taken) (sym (ap not (c .before .before .is-false .ensures)) ∙ (c .before .if1 .taken)) (c .before .before .before .before .before .loop .inv .1)) (c .before .before .before .before .before .before .before .before .before .before .before .before .before .before .pre .1 .1) (c .before .before .before .before .before .loop .inv .2)
+slice-write-out c =
+    let entry = c .before .before .before .before .before .before .before .before .before .before .before .before .before .before in
+    store-there (λ x. not (falseBy (entry .args .assignment .now) x)) (entry .args .lits .now)
+    (renameLit (λ s. getD (entry .args .gs .now) s 0) (entry .args .named)) (entry .args .out .now) _ (c .before .before .before .before .before .loop .i) _
+    (count-room (λ x. not (falseBy (entry .args .assignment .now) x)) (entry .args .lits .now) _ _ (c .before .before .before .before .loop-test .taken)
+    (sym (ap not (c .before .before .is-false .ensures)) ∙ (c .before .if1 .taken)) (c .before .before .before .before .before .loop .inv .1))
+    (entry .pre .1 .1) (c .before .before .before .before .before .loop .inv .2)
 
 add-k : tie.Need-add-k Inv-loop μ-loop
-add-k c = let z = count-most (λ x. not (falseBy (c .before .before .before .before .before .before .before .before .before .before .before .before .before .before .args .assignment .now) x)) (c .before .before .before .before .before .before .before .before .before .before .before .before .before .before .args .lits .now) (c .before .before .before .before .before .loop .i) _ (c .before .before .before .before .before .loop .inv .1) in omega arith
+add-k c =
+    let entry = c .before .before .before .before .before .before .before .before .before .before .before .before .before .before in
+    let z = count-most (λ x. not (falseBy (entry .args .assignment .now) x)) (entry .args .lits .now) (c .before .before .before .before .before .loop .i) _
+    (c .before .before .before .before .before .loop .inv .1) in omega arith
 
 add-i : tie.Need-add-i Inv-loop μ-loop
 add-i c = omega arith
@@ -54,14 +80,43 @@ loop-less : tie.Need-loop-less Inv-loop μ-loop
 loop-less c = omega arith
 
 loop-again : tie.Need-loop-again Inv-loop μ-loop
-loop-again c = ⊎-elim (λ w. let e = sym (ap not (c .before .is-false .ensures)) ∙ w .0 .taken in (omega arith, w .3 ∙ count-some (λ x. not (falseBy (c .before .before .before .before .before .before .before .before .before .before .before .before .before .args .assignment .now) x)) (c .before .before .before .before .before .before .before .before .before .before .before .before .before .args .lits .now) _ _ (c .before .before .before .loop-test .taken) e (c .before .before .before .before .loop .inv .1), w .2 ∙ store-some (λ x. not (falseBy (c .before .before .before .before .before .before .before .before .before .before .before .before .before .args .assignment .now) x)) (c .before .before .before .before .before .before .before .before .before .before .before .before .before .args .lits .now) (renameLit (λ s. getD (c .before .before .before .before .before .before .before .before .before .before .before .before .before .args .gs .now) s 0) (c .before .before .before .before .before .before .before .before .before .before .before .before .before .args .named)) (c .before .before .before .before .before .before .before .before .before .before .before .before .before .args .out .now) _ _ _ _ (c .before .before .before .loop-test .taken) e (c .before .before .before .before .loop .inv .1) (c .before .before .before .before .loop .inv .2) (w .1 .ensures))) (λ w. let e = sym (ap not (c .before .is-false .ensures)) ∙ w .0 .left in (omega arith, w .2 ∙ count-none (λ x. not (falseBy (c .before .before .before .before .before .before .before .before .before .before .before .before .before .args .assignment .now) x)) (c .before .before .before .before .before .before .before .before .before .before .before .before .before .args .lits .now) _ _ (c .before .before .before .loop-test .taken) e (c .before .before .before .before .loop .inv .1), w .1 ∙ store-none (λ x. not (falseBy (c .before .before .before .before .before .before .before .before .before .before .before .before .before .args .assignment .now) x)) (c .before .before .before .before .before .before .before .before .before .before .before .before .before .args .lits .now) (renameLit (λ s. getD (c .before .before .before .before .before .before .before .before .before .before .before .before .before .args .gs .now) s 0) (c .before .before .before .before .before .before .before .before .before .before .before .before .before .args .named)) (c .before .before .before .before .before .before .before .before .before .before .before .before .before .args .out .now) _ _ (c .before .before .before .loop-test .taken) e (c .before .before .before .before .loop .inv .2))) (c .if1 .came)
+loop-again c =
+    let entry = c .before .before .before .before .before .before .before .before .before .before .before .before .before in
+    ⊎-elim (λ w. let e = sym (ap not (c .before .is-false .ensures)) ∙ w .0 .taken in (
+      omega arith,
+      w .3 ∙ count-some (λ x. not (falseBy (entry .args .assignment .now) x)) (entry .args .lits .now) _ _
+          (c .before .before .before .loop-test .taken) e (c .before .before .before .before .loop .inv .1),
+      w .2
+          ∙ store-some (λ x. not (falseBy (entry .args .assignment .now) x)) (entry .args .lits .now)
+          (renameLit (λ s. getD (entry .args .gs .now) s 0) (entry .args .named)) (entry .args .out .now) _ _ _ _
+          (c .before .before .before .loop-test .taken) e
+          (c .before .before .before .before .loop .inv .1) (c .before .before .before .before .loop .inv .2) (w .1 .ensures),
+    )) (λ w. let e =
+    sym (ap not (c .before .is-false .ensures)) ∙ w .0 .left in (
+      omega arith,
+      w .2 ∙ count-none (λ x. not (falseBy (entry .args .assignment .now) x)) (entry .args .lits .now) _ _
+          (c .before .before .before .loop-test .taken) e (c .before .before .before .before .loop .inv .1),
+      w .1
+          ∙ store-none (λ x. not (falseBy (entry .args .assignment .now) x)) (entry .args .lits .now)
+          (renameLit (λ s. getD (entry .args .gs .now) s 0) (entry .args .named)) (entry .args .out .now) _ _ (c .before .before .before .loop-test .taken) e
+          (c .before .before .before .before .loop .inv .2),
+    )) (c .if1 .came)
 
 same-length : tie.Need-same-length Inv-loop μ-loop
-same-length c = store-kept (λ x. not (falseBy (c .before .before .before .before .before .before .before .before .before .before .args .assignment .now) x)) (c .before .before .before .before .before .before .before .before .before .before .args .lits .now) (renameLit (λ s. getD (c .before .before .before .before .before .before .before .before .before .before .args .gs .now) s 0) (c .before .before .before .before .before .before .before .before .before .before .args .named)) (c .before .before .before .before .before .before .before .before .before .before .args .out .now) _ (c .before .loop .i) (c .before .loop .inv .2)
+same-length c =
+    let entry = c .before .before .before .before .before .before .before .before .before .before in
+    store-kept (λ x. not (falseBy (entry .args .assignment .now) x)) (entry .args .lits .now)
+    (renameLit (λ s. getD (entry .args .gs .now) s 0) (entry .args .named)) (entry .args .out .now) _ (c .before .loop .i) (c .before .loop .inv .2)
 
 returns : tie.Need-returns Inv-loop μ-loop
 unfolding renameLits unfalse
-returns c = (count-end (λ x. not (falseBy (c .before .before .before .before .before .before .before .before .before .before .args .assignment .now) x)) (c .before .before .before .before .before .before .before .before .before .before .args .lits .now) _ _ (c .loop-test .left) (c .before .loop .inv .1), store-end (λ x. not (falseBy (c .before .before .before .before .before .before .before .before .before .before .args .assignment .now) x)) (c .before .before .before .before .before .before .before .before .before .before .args .lits .now) (renameLit (λ s. getD (c .before .before .before .before .before .before .before .before .before .before .args .gs .now) s 0) (c .before .before .before .before .before .before .before .before .before .before .args .named)) (c .before .before .before .before .before .before .before .before .before .before .args .out .now) _ _ (c .loop-test .left) (c .before .loop .inv .2))
+returns c =
+    let entry = c .before .before .before .before .before .before .before .before .before .before in (
+      count-end (λ x. not (falseBy (entry .args .assignment .now) x)) (entry .args .lits .now) _ _ (c .loop-test .left) (c .before .loop .inv .1),
+      store-end
+          (λ x. not (falseBy (entry .args .assignment .now) x)) (entry .args .lits .now) (renameLit (λ s. getD (entry .args .gs .now) s 0) (entry .args .named))
+          (entry .args .out .now) _ _ (c .loop-test .left) (c .before .loop .inv .2),
+    )
 
 pub keep-rest-spec : {M : Type 1} → statement M
 keep-rest-spec =

@@ -1,10 +1,12 @@
-use Rattle.steps.proofs.LiteralLaws.{found-nothing, found-at}
+use Rattle.table.proofs.FoundLaws.{global-word}
+use Rattle.steps.proofs.LiteralLaws.{word-filled}
+use borrow.Author.Tests.{eq-eqb}
 use lib.ListN.{getD, length, take}
 use lib.Dec.{eqb}
 use Rattle.scope.specs.Literals.{indexOf}
 use Prim.Native.Nat.{_≤_, _-_}
 use mathlib.Core.Bool.{false}
-use mathlib.Core.Path.{_≡_, sym}
+use mathlib.Core.Path.{_≡_, sym, _∙_}
 use native.Mathlib.Omega.{arith}
 use Rattle.base.specs.Bounded.{anyOf}
 use Rattle.base.proofs.MemberLaws.{any-start, any-step, any-end, any-some}
@@ -38,7 +40,8 @@ enum-told-2 : tie.Need-enum-told-2 Inv-loop μ-loop
 enum-told-2 c = search needs
 
 returns : tie.Need-returns Inv-loop μ-loop
-returns c = sym (any-some (λ x. eqb (getD (c .before .before .before .before .before .before .before .before .args .gs .now) (indexOf x) 0) 0) _ _ _ (c .before .before .before .before .loop-test .taken) (found-nothing _ _ (c .before .before .holder .ensures) (c .enum-told2 .given .1)))
+returns c = sym (any-some (λ x. eqb (getD (c .before .before .before .before .before .before .before .before .args .gs .now) (indexOf x) 0) 0) _ _ _
+    (c .before .before .before .before .loop-test .taken) (eq-eqb _ 0 (global-word _ _ (sym (c .enum-told2 .given .1) ∙ c .before .before .holder .ensures))))
 
 add-i : tie.Need-add-i Inv-loop μ-loop
 add-i c = omega arith
@@ -47,10 +50,16 @@ loop-less : tie.Need-loop-less Inv-loop μ-loop
 loop-less c = omega arith
 
 loop-again : tie.Need-loop-again Inv-loop μ-loop
-loop-again c = (omega arith, any-step (λ x. eqb (getD (c .before .before .before .before .before .before .before .before .args .gs .now) (indexOf x) 0) 0) _ _ _ (c .before .before .before .before .loop-test .taken) (c .before .before .before .before .before .loop .inv .1) (found-at _ _ _ (c .before .before .holder .ensures) (c .enum-told .given .1)))
+loop-again c = (
+  omega arith,
+  any-step (λ x. eqb (getD (c .before .before .before .before .before .before .before .before .args .gs .now) (indexOf x) 0) 0) _ _ _
+      (c .before .before .before .before .loop-test .taken) (c .before .before .before .before .before .loop .inv .1)
+      (word-filled _ _ (global-word _ _ (sym (c .enum-told .given .1) ∙ c .before .before .holder .ensures))),
+)
 
 returns-2 : tie.Need-returns-2 Inv-loop μ-loop
-returns-2 c = sym (any-end (λ x. eqb (getD (c .before .before .before .before .args .gs .now) (indexOf x) 0) 0) _ _ (c .loop-test .left) (c .before .loop .inv .1))
+returns-2 c = sym (any-end (λ x. eqb (getD (c .before .before .before .before .args .gs .now) (indexOf x) 0) 0) _ _ (c .loop-test .left)
+    (c .before .loop .inv .1))
 
 pub any-unheld-spec : {M : Type 1} → statement M
 any-unheld-spec =

@@ -29,7 +29,8 @@ mul-out-2 : tie.Need-mul-out-2 Inv-loop μ-loop
 mul-out-2 c = omega arith
 
 slice-write-out : tie.Need-slice-write-out Inv-loop μ-loop
-slice-write-out c = copy-there (λ h. h) (c .before .before .before .args .out .now) (c .before .before .before .args .hashes .now) _ _ (c .before .loop-test .taken) (c .before .before .before .pre) (c .before .before .loop .inv .1)
+slice-write-out c = copy-there (λ h. h) (c .before .before .before .args .out .now) (c .before .before .before .args .hashes .now) _ _
+    (c .before .loop-test .taken) (c .before .before .before .pre) (c .before .before .loop .inv .1)
 
 add-i : tie.Need-add-i Inv-loop μ-loop
 add-i c = omega arith
@@ -38,13 +39,18 @@ loop-less : tie.Need-loop-less Inv-loop μ-loop
 loop-less c = omega arith
 
 loop-again : tie.Need-loop-again Inv-loop μ-loop
-loop-again c = (omega arith, copy-next (λ h. h) (c .before .before .before .args .out .now) (c .before .before .before .args .hashes .now) _ _ _ (c .before .loop-test .taken) (c .before .before .loop .inv .1) refl)
+loop-again c = (
+  omega arith,
+  copy-next (λ h. h) (c .before .before .before .args .out .now) (c .before .before .before .args .hashes .now) _ _ _
+      (c .before .loop-test .taken) (c .before .before .loop .inv .1) refl,
+)
 
 same-length : tie.Need-same-length Inv-loop μ-loop
 same-length c = copy-kept (λ h. h) (c .before .before .args .out .now) (c .before .before .args .hashes .now) _ (c .before .loop .i) (c .before .loop .inv .1)
 
 returns : tie.Need-returns Inv-loop μ-loop
-returns c = copy-end (λ h. h) (c .before .before .args .out .now) (c .before .before .args .hashes .now) _ _ (c .loop-test .left) (c .before .loop .inv .1) ∙ ap (λ (hs : List ℕ). sets (c .before .before .args .out .now) 0 hs) (map-id (c .before .before .args .hashes .now))
+returns c = copy-end (λ h. h) (c .before .before .args .out .now) (c .before .before .args .hashes .now) _ _ (c .loop-test .left) (c .before .loop .inv .1)
+    ∙ ap (λ (hs : List ℕ). sets (c .before .before .args .out .now) 0 hs) (map-id (c .before .before .args .hashes .now))
 
 pub copy-hashes-spec : {M : Type 1} → statement M
 copy-hashes-spec =

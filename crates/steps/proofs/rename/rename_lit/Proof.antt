@@ -16,7 +16,8 @@ mul-w : tie.Need-mul-w
 mul-w c = search needs
 
 shared-slice-read-w : tie.Need-shared-slice-read-w
-shared-slice-read-w c = word-there (c .before .before .args .gs .now) (c .before .before .args .solvervars) _ (c .before .before .pre .1) (not-false (c .before .before .args .solvervars) (c .before .if1 .left))
+shared-slice-read-w c = word-there (c .before .before .args .gs .now) (c .before .before .args .solvervars) _ (c .before .before .pre .1)
+    (not-false (c .before .before .args .solvervars) (c .before .if1 .left))
 
 sub-result : tie.Need-sub-result
 sub-result c = let n = (c .before .before .pre .1) (not-false (c .before .before .args .solvervars) (c .before .if1 .left)) in omega arith
@@ -29,7 +30,8 @@ add-result c = omega (arith, (c .before .before .pre .0))
 
 returns-2 : tie.Need-returns-2
 returns-2 c =
-    let e = name-solver (λ s. getD (c .before .before .args .gs .now) s 0) (c .before .before .args .solvervars) (c .before .before .args .code) (not-false (c .before .before .args .solvervars) (c .before .if1 .left)) in
+    let e = name-solver (λ s. getD (c .before .before .args .gs .now) s 0) (c .before .before .args .solvervars) (c .before .before .args .code)
+    (not-false (c .before .before .args .solvervars) (c .before .if1 .left)) in
     omega (arith, e)
 
 pub rename-lit-spec : {M : Type 1} → statement M

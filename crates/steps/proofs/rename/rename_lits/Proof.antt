@@ -18,7 +18,13 @@ abbrev μ-loop : tie.MeasureT-loop
 μ-loop gu ug sg gs assignment records solvervars lits out₀ i₀ out i = length lits - i
 
 loop-holds : tie.Need-loop-holds Inv-loop μ-loop
-loop-holds c = (omega arith, copy-start (renameLit (λ s. getD (c .before .before .before .before .before .before .before .before .args .gs .now) s 0) (c .before .before .before .before .before .before .before .before .args .solvervars)) (c .before .before .before .before .before .before .before .before .args .out .now) (c .before .before .before .before .before .before .before .before .args .lits .now))
+loop-holds c = (
+  omega arith,
+  copy-start (renameLit (λ s. getD (c .before .before .before .before .before .before .before .before .args .gs .now) s 0)
+      (c .before .before .before .before .before .before .before .before .args .solvervars))
+      (c .before .before .before .before .before .before .before .before .args .out .now)
+      (c .before .before .before .before .before .before .before .before .args .lits .now),
+)
 
 add-rename-unit : tie.Need-add-rename-unit Inv-loop μ-loop
 add-rename-unit c = search needs
@@ -37,7 +43,8 @@ part-rename-unit-end c = search needs
 
 rename-unit-requires : tie.Need-rename-unit-requires Inv-loop μ-loop
 rename-unit-requires c κs =
-    let start = c .before .before .before .before .before .before .before .before .before .before .before in
+    let entry = c .before .before .before .before .before .before .before .before .before .before .before in
+    let start = entry in
     let l = c .before .loop-test .taken in
     unit-asks (start .args .gs .now) (start .args .solvervars) (start .args .lits .now) (c .before .before .loop .i) l
     (word-small _ (start .pre .0) _)
@@ -47,7 +54,10 @@ mul-out : tie.Need-mul-out Inv-loop μ-loop
 mul-out c = omega arith
 
 slice-write-out : tie.Need-slice-write-out Inv-loop μ-loop
-slice-write-out c = copy-there (renameLit (λ s. getD (c .before .before .before .before .before .before .before .before .before .before .before .before .args .gs .now) s 0) (c .before .before .before .before .before .before .before .before .before .before .before .before .args .solvervars)) (c .before .before .before .before .before .before .before .before .before .before .before .before .args .out .now) (c .before .before .before .before .before .before .before .before .before .before .before .before .args .lits .now) _ _ (c .before .before .loop-test .taken) (c .before .before .before .before .before .before .before .before .before .before .before .before .pre .1 .1) (c .before .before .before .loop .inv .1)
+slice-write-out c =
+    let entry = c .before .before .before .before .before .before .before .before .before .before .before .before in
+    copy-there (renameLit (λ s. getD (entry .args .gs .now) s 0) (entry .args .solvervars)) (entry .args .out .now) (entry .args .lits .now) _ _
+    (c .before .before .loop-test .taken) (entry .pre .1 .1) (c .before .before .before .loop .inv .1)
 
 add-i : tie.Need-add-i Inv-loop μ-loop
 add-i c = omega arith
@@ -56,14 +66,28 @@ loop-less : tie.Need-loop-less Inv-loop μ-loop
 loop-less c = omega arith
 
 loop-again : tie.Need-loop-again Inv-loop μ-loop
-loop-again c = (omega arith, copy-next (renameLit (λ s. getD (c .before .before .before .before .before .before .before .before .before .before .before .before .args .gs .now) s 0) (c .before .before .before .before .before .before .before .before .before .before .before .before .args .solvervars)) (c .before .before .before .before .before .before .before .before .before .before .before .before .args .out .now) (c .before .before .before .before .before .before .before .before .before .before .before .before .args .lits .now) _ _ _ (c .before .before .loop-test .taken) (c .before .before .before .loop .inv .1) (unit-named (renameLit (λ s. getD (c .before .before .before .before .before .before .before .before .before .before .before .before .args .gs .now) s 0) (c .before .before .before .before .before .before .before .before .before .before .before .before .args .solvervars)) (c .before .before .before .before .before .before .before .before .before .before .before .before .args .lits .now) (c .before .before .before .loop .i) _ (c .before .before .loop-test .taken) (c .rename-unit .ensures)))
+loop-again c =
+    let entry = c .before .before .before .before .before .before .before .before .before .before .before .before in (
+      omega arith,
+      copy-next (renameLit (λ s. getD (entry .args .gs .now) s 0) (entry .args .solvervars)) (entry .args .out .now) (entry .args .lits .now) _ _ _
+          (c .before .before .loop-test .taken) (c .before .before .before .loop .inv .1)
+          (unit-named (renameLit (λ s. getD (entry .args .gs .now) s 0) (entry .args .solvervars)) (entry .args .lits .now)
+          (c .before .before .before .loop .i) _
+          (c .before .before .loop-test .taken) (c .rename-unit .ensures)),
+    )
 
 same-length : tie.Need-same-length Inv-loop μ-loop
-same-length c = copy-kept (renameLit (λ s. getD (c .before .before .before .before .before .before .before .before .before .before .args .gs .now) s 0) (c .before .before .before .before .before .before .before .before .before .before .args .solvervars)) (c .before .before .before .before .before .before .before .before .before .before .args .out .now) (c .before .before .before .before .before .before .before .before .before .before .args .lits .now) _ (c .before .loop .i) (c .before .loop .inv .1)
+same-length c =
+    let entry = c .before .before .before .before .before .before .before .before .before .before in
+    copy-kept (renameLit (λ s. getD (entry .args .gs .now) s 0) (entry .args .solvervars)) (entry .args .out .now) (entry .args .lits .now) _
+    (c .before .loop .i) (c .before .loop .inv .1)
 
 returns : tie.Need-returns Inv-loop μ-loop
 unfolding renameLits
-returns c = copy-end (renameLit (λ s. getD (c .before .before .before .before .before .before .before .before .before .before .args .gs .now) s 0) (c .before .before .before .before .before .before .before .before .before .before .args .solvervars)) (c .before .before .before .before .before .before .before .before .before .before .args .out .now) (c .before .before .before .before .before .before .before .before .before .before .args .lits .now) _ _ (c .loop-test .left) (c .before .loop .inv .1)
+returns c =
+    let entry = c .before .before .before .before .before .before .before .before .before .before in
+    copy-end (renameLit (λ s. getD (entry .args .gs .now) s 0) (entry .args .solvervars)) (entry .args .out .now) (entry .args .lits .now) _ _
+    (c .loop-test .left) (c .before .loop .inv .1)
 
 pub rename-lits-spec : {M : Type 1} → statement M
 rename-lits-spec =

@@ -7,22 +7,36 @@ step-refusal-requires : tie.Need-step-refusal-requires
 step-refusal-requires c κs = search needs
 
 returns : tie.Need-returns
-returns c = rename-first _ (c .before .before .before .before .before .before .before .before .before .before .args .step) (c .before .before .before .before .before .before .before .before .before .before .args .solvervars) (c .before .before .before .before .before .before .before .before .before .before .args .lits .now) (c .before .before .before .before .before .before .before .before .before .before .args .hashes .now) _ _ _ (c .before .step-refusal .ensures) (c .if1 .taken)
+returns c =
+    let entry = c .before .before .before .before .before .before .before .before .before .before in
+    rename-first _ (entry .args .step) (entry .args .solvervars) (entry .args .lits .now) (entry .args .hashes .now) _ _ _ (c .before .step-refusal .ensures)
+    (c .if1 .taken)
 
 carried-requires : tie.Need-carried-requires
 carried-requires c κs = search needs
 
 returns-2 : tie.Need-returns-2
-returns-2 c = rename-short-literals _ (c .before .before .before .before .before .before .before .before .before .before .before .before .args .step) (c .before .before .before .before .before .before .before .before .before .before .before .before .args .solvervars) (c .before .before .before .before .before .before .before .before .before .before .before .before .args .lits .now) (c .before .before .before .before .before .before .before .before .before .before .before .before .args .hashes .now) _ _ _ _ (c .before .before .before .step-refusal .ensures) (c .before .before .if1 .left) (c .before .carried .ensures) (c .if2 .taken)
+returns-2 c =
+    let entry = c .before .before .before .before .before .before .before .before .before .before .before .before in
+    rename-short-literals _ (entry .args .step) (entry .args .solvervars) (entry .args .lits .now) (entry .args .hashes .now) _ _ _ _
+    (c .before .before .before .step-refusal .ensures) (c .before .before .if1 .left) (c .before .carried .ensures) (c .if2 .taken)
 
 hashed-requires : tie.Need-hashed-requires
 hashed-requires c κs = search needs
 
 returns-3 : tie.Need-returns-3
-returns-3 c = rename-short-hashes _ (c .before .before .before .before .before .before .before .before .before .before .before .before .before .before .args .step) (c .before .before .before .before .before .before .before .before .before .before .before .before .before .before .args .solvervars) (c .before .before .before .before .before .before .before .before .before .before .before .before .before .before .args .lits .now) (c .before .before .before .before .before .before .before .before .before .before .before .before .before .before .args .hashes .now) _ _ _ _ _ (c .before .before .before .before .before .step-refusal .ensures) (c .before .before .before .before .if1 .left) (c .before .before .before .carried .ensures) (c .before .before .if2 .left) (c .before .hashed .ensures) (c .if3 .taken)
+returns-3 c =
+    let entry = c .before .before .before .before .before .before .before .before .before .before .before .before .before .before in
+    rename-short-hashes _ (entry .args .step) (entry .args .solvervars) (entry .args .lits .now) (entry .args .hashes .now) _ _ _ _ _
+    (c .before .before .before .before .before .step-refusal .ensures) (c .before .before .before .before .if1 .left)
+    (c .before .before .before .carried .ensures) (c .before .before .if2 .left) (c .before .hashed .ensures) (c .if3 .taken)
 
 returns-4 : tie.Need-returns-4
-returns-4 c = rename-pass _ (c .before .before .before .before .before .before .before .before .before .before .before .before .before .before .args .step) (c .before .before .before .before .before .before .before .before .before .before .before .before .before .before .args .solvervars) (c .before .before .before .before .before .before .before .before .before .before .before .before .before .before .args .lits .now) (c .before .before .before .before .before .before .before .before .before .before .before .before .before .before .args .hashes .now) _ _ _ _ _ (c .before .before .before .before .before .step-refusal .ensures) (c .before .before .before .before .if1 .left) (c .before .before .before .carried .ensures) (c .before .before .if2 .left) (c .before .hashed .ensures) (c .if3 .left)
+returns-4 c =
+    let entry = c .before .before .before .before .before .before .before .before .before .before .before .before .before .before in
+    rename-pass _ (entry .args .step) (entry .args .solvervars) (entry .args .lits .now) (entry .args .hashes .now) _ _ _ _ _
+    (c .before .before .before .before .before .step-refusal .ensures) (c .before .before .before .before .if1 .left)
+    (c .before .before .before .carried .ensures) (c .before .before .if2 .left) (c .before .hashed .ensures) (c .if3 .left)
 
 pub rename-refusal-spec : {M : Type 1} → statement M
 rename-refusal-spec =

@@ -1,6 +1,6 @@
 use Rattle.steps.proofs.StepLaws.{rename-clear, literals-most, literals-part, literals-fit, hashes-most, hashes-fit}
 use Rattle.steps.proofs.RenameLaws.{rename-refused, rename-done}
-use Rattle.scope.specs.Write.{unheld}
+use Rattle.scope.specs.Marks.{unheld}
 use lib.Seq.{length-take-le}
 use mathlib.Core.Path.{sym, ap, _∙_}
 use borrow.Author.Needs.{needs}
@@ -11,7 +11,10 @@ rename-refusal-requires : tie.Need-rename-refusal-requires
 rename-refusal-requires c κs = search needs
 
 returns : tie.Need-returns
-returns c = let z = rename-refused _ (c .before .before .before .before .before .before .before .before .before .before .before .before .args .step) (c .before .before .before .before .before .before .before .before .before .before .before .before .args .solvervars) (c .before .before .before .before .before .before .before .before .before .before .before .before .args .lits .now) (c .before .before .before .before .before .before .before .before .before .before .before .before .args .hashes .now) (c .before .before .before .before .before .before .before .before .before .before .before .before .args .out .now) (c .before .before .before .before .before .before .before .before .before .before .before .before .args .hashout .now) _ (c .before .rename-refusal .ensures) (c .if1 .taken) in (z .does, (z .words, z .more))
+returns c =
+    let entry = c .before .before .before .before .before .before .before .before .before .before .before .before in
+    let z = rename-refused _ (entry .args .step) (entry .args .solvervars) (entry .args .lits .now) (entry .args .hashes .now) (entry .args .out .now)
+    (entry .args .hashout .now) _ (c .before .rename-refusal .ensures) (c .if1 .taken) in (z .does, (z .words, z .more))
 
 carried-requires : tie.Need-carried-requires
 carried-requires c κs = search needs
@@ -20,16 +23,37 @@ hashed-requires : tie.Need-hashed-requires
 hashed-requires c κs = search needs
 
 slice-aggregate-rename-lits : tie.Need-slice-aggregate-rename-lits
-slice-aggregate-rename-lits c = sym (length-take-le _ _ (literals-most (c .before .before .before .before .before .before .before .before .before .before .before .before .before .before .before .args .step) (c .before .before .before .before .before .before .before .before .before .before .before .before .before .before .before .args .lits .now) _ (c .before .before .carried .ensures)))
+slice-aggregate-rename-lits c =
+    let entry = c .before .before .before .before .before .before .before .before .before .before .before .before .before .before .before in
+    sym (length-take-le _ _ (literals-most (entry .args .step) (entry .args .lits .now) _ (c .before .before .carried .ensures)))
 
 rename-lits-requires : tie.Need-rename-lits-requires
-rename-lits-requires c κs = let k = rename-clear _ (c .before .before .before .before .before .before .before .before .before .before .before .before .before .before .before .before .args .step) (c .before .before .before .before .before .before .before .before .before .before .before .before .before .before .before .before .args .solvervars) (c .before .before .before .before .before .before .before .before .before .before .before .before .before .before .before .before .args .lits .now) (c .before .before .before .before .before .before .before .before .before .before .before .before .before .before .before .before .args .hashes .now) _ _ _ (c .before .before .before .before .before .rename-refusal .ensures) (c .before .before .before .before .if1 .left) in let p = literals-part (c .before .before .before .before .before .before .before .before .before .before .before .before .before .before .before .before .args .step) (c .before .before .before .before .before .before .before .before .before .before .before .before .before .before .before .before .args .lits .now) _ (c .before .before .before .carried .ensures) in (k .clear .sound, (ap (unheld _ (c .before .before .before .before .before .before .before .before .before .before .before .before .before .before .before .before .args .solvervars)) p ∙ k .clear .literals .held, literals-fit (c .before .before .before .before .before .before .before .before .before .before .before .before .before .before .before .before .args .step) (c .before .before .before .before .before .before .before .before .before .before .before .before .before .before .before .before .args .lits .now) _ _ (c .before .before .before .carried .ensures) (k .room)))
+rename-lits-requires c κs =
+    let entry = c .before .before .before .before .before .before .before .before .before .before .before .before .before .before .before .before in
+    let k = rename-clear _ (entry .args .step) (entry .args .solvervars) (entry .args .lits .now) (entry .args .hashes .now) _ _ _
+    (c .before .before .before .before .before .rename-refusal .ensures) (c .before .before .before .before .if1 .left) in
+    let p = literals-part (entry .args .step) (entry .args .lits .now) _ (c .before .before .before .carried .ensures) in (
+      k .clear .sound,
+      (
+        ap (unheld _ (entry .args .solvervars)) p
+            ∙ k .clear .literals .held,
+        literals-fit (entry .args .step) (entry .args .lits .now) _ _ (c .before .before .before .carried .ensures) (k .room),
+      ),
+    )
 
 slice-aggregate-copy-hashes : tie.Need-slice-aggregate-copy-hashes
-slice-aggregate-copy-hashes c = sym (length-take-le _ _ (hashes-most (c .before .before .before .before .before .before .before .before .before .before .before .before .before .before .before .before .before .before .before .before .args .step) (c .before .before .before .before .before .before .before .before .before .before .before .before .before .before .before .before .before .before .before .before .args .hashes .now) _ (c .before .before .before .before .before .before .hashed .ensures)))
+slice-aggregate-copy-hashes c =
+    let entry = c .before .before .before .before .before .before .before .before .before .before .before .before .before .before .before .before .before
+    .before .before .before in
+    sym (length-take-le _ _ (hashes-most (entry .args .step) (entry .args .hashes .now) _ (c .before .before .before .before .before .before .hashed .ensures)))
 
 copy-hashes-requires : tie.Need-copy-hashes-requires
-copy-hashes-requires c κs = hashes-fit (c .before .before .before .before .before .before .before .before .before .before .before .before .before .before .before .before .before .before .before .before .before .args .step) (c .before .before .before .before .before .before .before .before .before .before .before .before .before .before .before .before .before .before .before .before .before .args .hashes .now) _ _ (c .before .before .before .before .before .before .before .hashed .ensures) ((rename-clear _ (c .before .before .before .before .before .before .before .before .before .before .before .before .before .before .before .before .before .before .before .before .before .args .step) (c .before .before .before .before .before .before .before .before .before .before .before .before .before .before .before .before .before .before .before .before .before .args .solvervars) (c .before .before .before .before .before .before .before .before .before .before .before .before .before .before .before .before .before .before .before .before .before .args .lits .now) (c .before .before .before .before .before .before .before .before .before .before .before .before .before .before .before .before .before .before .before .before .before .args .hashes .now) _ _ _ (c .before .before .before .before .before .before .before .before .before .before .rename-refusal .ensures) (c .before .before .before .before .before .before .before .before .before .if1 .left)) .hashroom)
+copy-hashes-requires c κs =
+    let at-rename-refusal = c .before .before .before .before .before .before .before .before .before .before in
+    let entry = at-rename-refusal .before .before .before .before .before .before .before .before .before .before .before in
+    hashes-fit (entry .args .step) (entry .args .hashes .now) _ _ (c .before .before .before .before .before .before .before .hashed .ensures)
+    ((rename-clear _ (entry .args .step) (entry .args .solvervars) (entry .args .lits .now) (entry .args .hashes .now) _ _ _
+    (at-rename-refusal .rename-refusal .ensures) (c .before .before .before .before .before .before .before .before .before .if1 .left)) .hashroom)
 
 same-length : tie.Need-same-length
 same-length c = search needs
@@ -38,7 +62,16 @@ same-length-2 : tie.Need-same-length-2
 same-length-2 c = search needs
 
 returns-2 : tie.Need-returns-2
-returns-2 c = let z = rename-done _ (c .before .before .before .before .before .before .before .before .before .before .before .before .before .before .before .before .before .before .before .before .before .before .before .before .args .step) (c .before .before .before .before .before .before .before .before .before .before .before .before .before .before .before .before .before .before .before .before .before .before .before .before .args .solvervars) (c .before .before .before .before .before .before .before .before .before .before .before .before .before .before .before .before .before .before .before .before .before .before .before .before .args .lits .now) (c .before .before .before .before .before .before .before .before .before .before .before .before .before .before .before .before .before .before .before .before .before .before .before .before .args .hashes .now) (c .before .before .before .before .before .before .before .before .before .before .before .before .before .before .before .before .before .before .before .before .before .before .before .before .args .out .now) (c .before .before .before .before .before .before .before .before .before .before .before .before .before .before .before .before .before .before .before .before .before .before .before .before .args .hashout .now) _ _ _ _ _ (c .before .before .before .before .before .before .before .before .before .before .before .before .before .rename-refusal .ensures) (c .before .before .before .before .before .before .before .before .before .before .before .before .if1 .left) (c .before .before .before .before .before .before .before .before .before .before .before .carried .ensures) (c .before .before .before .before .before .before .before .before .before .before .hashed .ensures) (c .before .before .before .before .before .before .before .rename-lits .ensures) (c .before .before .copy-hashes .ensures) in (z .does, (z .words, z .more))
+returns-2 c =
+    let at-hashed = c .before .before .before .before .before .before .before .before .before .before in
+    let at-carried = at-hashed .before in
+    let at-if1 = at-carried .before in
+    let at-rename-refusal = at-if1 .before in
+    let entry = at-rename-refusal .before .before .before .before .before .before .before .before .before .before .before in
+    let z = rename-done _ (entry .args .step) (entry .args .solvervars) (entry .args .lits .now) (entry .args .hashes .now) (entry .args .out .now)
+    (entry .args .hashout .now) _ _ _ _ _ (at-rename-refusal .rename-refusal .ensures) (at-if1 .if1 .left) (at-carried .carried .ensures)
+    (at-hashed .hashed .ensures) (c .before .before .before .before .before .before .before .rename-lits .ensures)
+    (c .before .before .copy-hashes .ensures) in (z .does, (z .words, z .more))
 
 pub rename-step-spec : {M : Type 1} → statement M
 rename-step-spec =

@@ -34,19 +34,48 @@ enum-told-5 : tie.Need-enum-told-5
 enum-told-5 c = search needs
 
 returns : tie.Need-returns
-returns c = ((c .step-len .ensures .0) ∙ sym (ap length (bytes-add (c .before .before .before .before .before .args .f) (c .before .before .before .before .before .args .step) _ (c .before .before .before .before .before .args .lits .now) (c .before .before .before .rule-of .ensures) (c .before .enum-told .given .1))), omega (arith, (c .step-len .ensures .1)))
+returns c = (
+  (c .step-len .ensures .0)
+      ∙ sym (ap length (bytes-add (c .before .before .before .before .before .args .f) (c .before .before .before .before .before .args .step) _
+      (c .before .before .before .before .before .args .lits .now) (c .before .before .before .rule-of .ensures) (c .before .enum-told .given .1))),
+  omega (arith, (c .step-len .ensures .1)),
+)
 
 returns-2 : tie.Need-returns-2
-returns-2 c = ((c .units-len .ensures .0) ∙ sym (ap length (bytes-each (c .before .before .before .before .before .args .f) (c .before .before .before .before .before .args .step) _ (c .before .before .before .before .before .args .lits .now) (c .before .before .before .rule-of .ensures) (c .before .enum-told2 .given .1))), omega (arith, (c .units-len .ensures .1)))
+returns-2 c = (
+  (c .units-len .ensures .0)
+      ∙ sym (ap length (bytes-each (c .before .before .before .before .before .args .f) (c .before .before .before .before .before .args .step) _
+      (c .before .before .before .before .before .args .lits .now) (c .before .before .before .rule-of .ensures) (c .before .enum-told2 .given .1))),
+  omega (arith, (c .units-len .ensures .1)),
+)
 
 returns-3 : tie.Need-returns-3
-returns-3 c = ((c .step-len2 .ensures .0) ∙ sym (ap length (bytes-delete (c .before .before .before .before .before .args .f) (c .before .before .before .before .before .args .step) _ (c .before .before .before .before .before .args .lits .now) (c .before .before .before .rule-of .ensures) (c .before .enum-told3 .given .1))), omega (arith, (c .step-len2 .ensures .1)))
+returns-3 c = (
+  (c .step-len2 .ensures .0)
+      ∙ sym (ap length (bytes-delete (c .before .before .before .before .before .args .f) (c .before .before .before .before .before .args .step) _
+      (c .before .before .before .before .before .args .lits .now) (c .before .before .before .rule-of .ensures) (c .before .enum-told3 .given .1))),
+  omega (arith, (c .step-len2 .ensures .1)),
+)
 
 returns-4 : tie.Need-returns-4
-returns-4 c = (omega (arith, ap length (bytes-nothing (c .before .before .before .before .args .f) (c .before .before .before .before .args .step) _ (c .before .before .before .before .args .lits .now) (c .before .before .rule-of .ensures) (c .enum-told4 .given .1))), omega arith)
+returns-4 c = (
+  omega (
+    arith,
+    ap length (bytes-nothing (c .before .before .before .before .args .f) (c .before .before .before .before .args .step) _
+        (c .before .before .before .before .args .lits .now) (c .before .before .rule-of .ensures) (c .enum-told4 .given .1)),
+  ),
+  omega arith,
+)
 
 returns-5 : tie.Need-returns-5
-returns-5 c = (omega (arith, ap length (bytes-refused (c .before .before .before .before .args .f) (c .before .before .before .before .args .step) _ (c .before .before .before .before .args .lits .now) (c .before .before .rule-of .ensures) (c .enum-told5 .given .1))), omega arith)
+returns-5 c = (
+  omega (
+    arith,
+    ap length (bytes-refused (c .before .before .before .before .args .f) (c .before .before .before .before .args .step) _
+        (c .before .before .before .before .args .lits .now) (c .before .before .rule-of .ensures) (c .enum-told5 .given .1)),
+  ),
+  omega arith,
+)
 
 pub bytes-len-spec : {M : Type 1} → statement M
 bytes-len-spec =

@@ -41,7 +41,18 @@ part-put-step-end : tie.Need-part-put-step-end Inv-loop μ-loop
 part-put-step-end c = search needs
 
 put-step-requires : tie.Need-put-step-requires Inv-loop μ-loop
-put-step-requires c κs = (codes-part (c .before .before .before .loop .i) ((c .before .before .before .loop .i) + 1) (c .before .before .before .before .before .before .args .lits .now) (c .before .before .before .before .before .before .pre .0), omega (arith, units-length (c .before .before .before .before .before .before .args .f) (c .before .before .before .before .before .before .args .lits .now) (c .before .before .before .loop .i) (c .before .before .loop-test .taken), (c .before .before .before .before .before .before .pre .1), (c .before .before .before .loop .inv .1), (c .before .before .before .loop .inv .2)))
+put-step-requires c κs = (
+  codes-part (c .before .before .before .loop .i) ((c .before .before .before .loop .i) + 1)
+      (c .before .before .before .before .before .before .args .lits .now) (c .before .before .before .before .before .before .pre .0),
+  omega (
+    arith,
+    units-length (c .before .before .before .before .before .before .args .f) (c .before .before .before .before .before .before .args .lits .now)
+        (c .before .before .before .loop .i) (c .before .before .loop-test .taken),
+    (c .before .before .before .before .before .before .pre .1),
+    (c .before .before .before .loop .inv .1),
+    (c .before .before .before .loop .inv .2),
+  ),
+)
 
 add-i : tie.Need-add-i Inv-loop μ-loop
 add-i c = omega arith
@@ -50,13 +61,31 @@ loop-less : tie.Need-loop-less Inv-loop μ-loop
 loop-less c = omega arith
 
 loop-again : tie.Need-loop-again Inv-loop μ-loop
-loop-again c = (omega arith, (c .before .before .put-step .kept .1 .1 .1 .0) ∙ (c .before .before .before .before .before .before .loop .inv .1), omega (arith, (c .before .before .put-step .ensures .0), units-length (c .before .before .before .before .before .before .before .before .before .args .f) (c .before .before .before .before .before .before .before .before .before .args .lits .now) (c .before .before .before .before .before .before .loop .i) (c .before .before .before .before .before .loop-test .taken)), units-put (c .before .before .before .before .before .before .before .before .before .args .f) (c .before .before .before .before .before .before .before .before .before .args .lits .now) _ _ _ _ (c .before .before .before .before .before .before .loop .i) (c .before .before .before .before .before .loop-test .taken) (c .before .before .put-step .ensures .1) (c .before .before .put-step .ensures .0) ∙ (c .before .before .before .before .before .before .loop .inv .3))
+loop-again c = (
+  omega arith,
+  (c .before .before .put-step .kept .1 .1 .1 .0)
+      ∙ (c .before .before .before .before .before .before .loop .inv .1),
+  omega (
+    arith,
+    (c .before .before .put-step .ensures .0),
+    units-length (c .before .before .before .before .before .before .before .before .before .args .f)
+        (c .before .before .before .before .before .before .before .before .before .args .lits .now)
+        (c .before .before .before .before .before .before .loop .i)
+        (c .before .before .before .before .before .loop-test .taken),
+  ),
+  units-put
+      (c .before .before .before .before .before .before .before .before .before .args .f)
+      (c .before .before .before .before .before .before .before .before .before .args .lits .now) _ _ _ _
+      (c .before .before .before .before .before .before .loop .i) (c .before .before .before .before .before .loop-test .taken)
+      (c .before .before .put-step .ensures .1) (c .before .before .put-step .ensures .0) ∙ (c .before .before .before .before .before .before .loop .inv .3),
+)
 
 same-length : tie.Need-same-length Inv-loop μ-loop
 same-length c = (c .before .loop .inv .1)
 
 returns : tie.Need-returns Inv-loop μ-loop
-returns c = let d = units-done (c .before .before .before .before .args .f) (c .before .before .before .before .args .lits .now) (c .before .loop .i) (c .loop-test .left) in (omega (arith, ap length d), sym (ap (sets (c .before .loop .out) (c .before .loop .p)) d) ∙ (c .before .loop .inv .3))
+returns c = let d = units-done (c .before .before .before .before .args .f) (c .before .before .before .before .args .lits .now) (c .before .loop .i)
+    (c .loop-test .left) in (omega (arith, ap length d), sym (ap (sets (c .before .loop .out) (c .before .loop .p)) d) ∙ (c .before .loop .inv .3))
 
 pub put-units-spec : {M : Type 1} → statement M
 put-units-spec =

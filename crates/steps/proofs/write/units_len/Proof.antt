@@ -39,7 +39,12 @@ part-step-len-end : tie.Need-part-step-len-end Inv-loop μ-loop
 part-step-len-end c = search needs
 
 step-len-requires : tie.Need-step-len-requires Inv-loop μ-loop
-step-len-requires c κs = (codes-part (c .before .before .loop .i) ((c .before .before .loop .i) + 1) (c .before .before .before .before .args .lits .now) (c .before .before .before .before .pre .0), unit-few (c .before .before .before .before .args .f) (c .before .before .before .before .args .lits .now) (c .before .before .loop .i))
+step-len-requires c κs = (
+  codes-part (c .before .before .loop .i) ((c .before .before .loop .i) + 1) (c .before .before .before .before .args .lits .now)
+      (c .before .before .before .before .pre .0),
+  unit-few (c .before .before .before .before .args .f) (c .before .before .before .before .args .lits .now)
+      (c .before .before .loop .i),
+)
 
 add-n : tie.Need-add-n Inv-loop μ-loop
 add-n c = omega (arith, (c .step-len .ensures .1), (c .before .before .before .loop .inv .2), (c .before .before .before .before .before .pre .1))
@@ -51,10 +56,26 @@ loop-less : tie.Need-loop-less Inv-loop μ-loop
 loop-less c = omega arith
 
 loop-again : tie.Need-loop-again Inv-loop μ-loop
-loop-again c = (omega arith, omega (arith, (c .step-len .ensures .0), units-length (c .before .before .before .before .before .args .f) (c .before .before .before .before .before .args .lits .now) (c .before .before .before .loop .i) (c .before .before .loop-test .taken)), omega (arith, (c .step-len .ensures .1)))
+loop-again c = (
+  omega arith,
+  omega (
+    arith,
+    (c .step-len .ensures .0),
+    units-length (c .before .before .before .before .before .args .f)
+        (c .before .before .before .before .before .args .lits .now) (c .before .before .before .loop .i) (c .before .before .loop-test .taken),
+  ),
+  omega (arith, (c .step-len .ensures .1)),
+)
 
 returns : tie.Need-returns Inv-loop μ-loop
-returns c = (omega (arith, ap length (units-done (c .before .before .before .args .f) (c .before .before .before .args .lits .now) (c .before .loop .i) (c .loop-test .left))), omega (arith, (c .before .before .before .pre .1)))
+returns c = (
+  omega (
+    arith,
+    ap length (units-done (c .before .before .before .args .f) (c .before .before .before .args .lits .now) (c .before .loop .i)
+        (c .loop-test .left)),
+  ),
+  omega (arith, (c .before .before .before .pre .1)),
+)
 
 pub units-len-spec : {M : Type 1} → statement M
 units-len-spec =

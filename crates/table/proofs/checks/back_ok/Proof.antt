@@ -41,14 +41,17 @@ place-requires c κs = search needs
 mul-ok : tie.Need-mul-ok Inv-loop μ-loop
 mul-ok c =
     let l : (c .before .before .before .loop .i) < length (c .before .before .before .before .before .before .before .before .args .a .now) = omega arith in
-    let m = most-has _ _ _ (c .before .before .before .before .before .at-most .ensures) (c .before .before .before .before .if1 .left) (c .before .before .before .loop .i) l in
+    let m = most-has _ _ _ (c .before .before .before .before .before .at-most .ensures) (c .before .before .before .before .if1 .left)
+    (c .before .before .before .loop .i) l in
     let p = c .place .ensures in
     omega arith
 
 shared-slice-read-ok : tie.Need-shared-slice-read-ok Inv-loop μ-loop
 shared-slice-read-ok c =
-    let l : (c .before .before .before .before .loop .i) < length (c .before .before .before .before .before .before .before .before .before .args .a .now) = omega arith in
-    let m = most-has _ _ _ (c .before .before .before .before .before .before .at-most .ensures) (c .before .before .before .before .before .if1 .left) (c .before .before .before .before .loop .i) l in
+    let l : (c .before .before .before .before .loop .i) < length (c .before .before .before .before .before .before .before .before .before .args .a .now) =
+    omega arith in
+    let m = most-has _ _ _ (c .before .before .before .before .before .before .at-most .ensures) (c .before .before .before .before .before .if1 .left)
+    (c .before .before .before .before .loop .i) l in
     let p = c .before .place .ensures in
     omega arith
 
@@ -62,12 +65,17 @@ loop-less : tie.Need-loop-less Inv-loop μ-loop
 loop-less c = search needs
 
 loop-again : tie.Need-loop-again Inv-loop μ-loop
-loop-again c =
-    (omega arith, back-step (c .before .before .before .before .before .before .before .before .before .args .a .now) (c .before .before .before .before .before .before .before .before .before .args .b .now) _ _ _ _ (c .before .before .before .before .loop .inv .1) refl (c .before .place .ensures))
+loop-again c = (
+  omega arith,
+  back-step (c .before .before .before .before .before .before .before .before .before .args .a .now)
+      (c .before .before .before .before .before .before .before .before .before .args .b .now) _ _ _ _ (c .before .before .before .before .loop .inv .1) refl
+      (c .before .place .ensures),
+)
 
 returns-2 : tie.Need-returns-2 Inv-loop μ-loop
 returns-2 c =
-    back-end _ _ _ _ _ (c .before .before .before .before .before .before .pre .0) (c .before .before .before .before .before .before .pre .1 .0) (c .before .loop .inv .1) (omega arith)
+    back-end _ _ _ _ _ (c .before .before .before .before .before .before .pre .0) (c .before .before .before .before .before .before .pre .1 .0)
+    (c .before .loop .inv .1) (omega arith)
 
 pub back-ok-spec : {M : Type 1} → statement M
 back-ok-spec =

@@ -37,8 +37,12 @@ loop-less c = search needs
 
 loop-again : tie.Need-loop-again Inv-loop μ-loop
 loop-again c =
-    let o = c .one-if .ensures .1 in
-    (omega arith, omega arith, filled-step (c .before .before .before .before .before .args .xs .now) _ _ _ (c .before .before .before .loop .inv .2) (c .one-if .ensures .0))
+    let o = c .one-if .ensures .1 in (
+      omega arith,
+      omega arith,
+      filled-step (c .before .before .before .before .before .args .xs .now) _ _ _ (c .before .before .before .loop .inv .2)
+          (c .one-if .ensures .0),
+    )
 
 returns : tie.Need-returns Inv-loop μ-loop
 returns c = filled-end _ _ _ _ (c .before .before .before .pre .0) (c .before .before .before .pre .1) (c .before .loop .inv .2) (omega arith)

@@ -44,12 +44,19 @@ loop-less : tie.Need-loop-less Inv-loop μ-loop
 loop-less c = search needs
 
 loop-again : tie.Need-loop-again Inv-loop μ-loop
-loop-again c =
-    (omega arith, row-step (c .before .before .before .before .before .before .before .before .before .args .records .now) (c .before .before .before .before .before .before .before .before .before .args .ug .now) (c .before .before .before .before .before .before .before .before .before .args .sg .now) _ _ _ ((c .before .before .before .before .before .loop .inv .1)) (c .row-ok .ensures) (omega arith))
+loop-again c = (
+  omega arith,
+  row-step (c .before .before .before .before .before .before .before .before .before .args .records .now)
+      (c .before .before .before .before .before .before .before .before .before .args .ug .now)
+      (c .before .before .before .before .before .before .before .before .before .args .sg .now) _ _ _
+      ((c .before .before .before .before .before .loop .inv .1)) (c .row-ok .ensures) (omega arith),
+)
 
 returns : tie.Need-returns Inv-loop μ-loop
 returns c =
-    rows-end _ _ _ _ _ _ ((c .before .before .before .before .before .pre .0)) ((c .before .before .before .before .before .pre .1 .1 .1 .0)) ((c .before .before .before .before .before .pre .1 .1 .1 .1 .0)) ((c .before .before .before .before .before .pre .1 .1 .1 .1 .1)) ((c .before .loop .inv .1)) (omega arith)
+    rows-end _ _ _ _ _ _ ((c .before .before .before .before .before .pre .0)) ((c .before .before .before .before .before .pre .1 .1 .1 .0))
+    ((c .before .before .before .before .before .pre .1 .1 .1 .1 .0)) ((c .before .before .before .before .before .pre .1 .1 .1 .1 .1))
+    ((c .before .loop .inv .1)) (omega arith)
 
 pub rows-ok-spec : {M : Type 1} → statement M
 rows-ok-spec =
