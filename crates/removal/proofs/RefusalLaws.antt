@@ -16,7 +16,7 @@ use Rattle.scope.specs.Remove.{removeHeld, remove, removeRefusal}
 use Rattle.scope.proofs.SoundLaws.{sound-of}
 use Rattle.table.specs.Found.{foundGlobal}
 use Rattle.table.specs.declared.FoundGlobal.the-variants.{At, Nothing}
-use Rattle.deletion.proofs.DeletionLaws.{record-read}
+use Rattle.changes.proofs.DeletionLaws.{record-read}
 use Rattle.removal.specs.Counting.{removalNotes}
 use Rattle.removal.specs.Asks.{Holding}
 use Rattle.removal.proofs.CountingLaws.{removal-notes}

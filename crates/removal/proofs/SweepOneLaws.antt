@@ -14,9 +14,9 @@ use Rattle.scope.specs.Remove.{removeHeld, learn, sweepHeld, sweepOne}
 use Rattle.scope.proofs.ResultLaws.{choose-then, choose-else}
 use Rattle.table.specs.Found.{foundGlobal}
 use Rattle.table.specs.declared.FoundGlobal.the-variants.{At, Nothing}
-use Rattle.deletion.specs.Leaving.{Leaves, Room}
-use Rattle.deletion.proofs.LeavingLaws.{leaves-stay}
-use Rattle.deletion.proofs.DeletionLaws.{record-read}
+use Rattle.changes.specs.Leaves.{Leaves, Room}
+use Rattle.changes.proofs.LeavesLaws.{leaves-stay}
+use Rattle.changes.proofs.DeletionLaws.{record-read}
 use Rattle.removal.specs.Counting.{removalNotes, learnt, isLoose, sweptNotes, notesAt}
 use Rattle.removal.specs.Asks.{Holding}
 use Rattle.removal.proofs.RefusalLaws.{found-at, found-nothing}

@@ -14,7 +14,7 @@ put-note-requires : tie.Need-put-note-requires
 put-note-requires c κs = (remove-room _ _ _ _ _ (c .before .before .before .before .before .before .before .before .before .before .before .before .before .before .before .pre .1), omega arith)
 
 delete-global-if-unused-requires : tie.Need-delete-global-if-unused-requires
-delete-global-if-unused-requires c κs = remove-asks _ _ _ _ _ _ (c .before .before .before .before .before .before .before .before .before .before .before .before .remove .ensures) _ _ _ (c .before .before .before .before .before .before .before .before .before .before .before .before .before .before .before .before .before .before .before .before .before .before .pre .0) (c .before .before .before .before .before .before .before .before .before .before .before .before .before .before .before .before .before .before .before .before .before .before .pre .1) (c .before .before .before .before .before .before .put-note .kept .0)
+delete-global-if-unused-requires c κs = remove-asks _ _ _ _ _ _ (c .before .before .before .before .before .before .before .before .before .before .before .remove .ensures) _ _ _ (c .before .before .before .before .before .before .before .before .before .before .before .before .before .before .before .before .before .before .before .before .before .pre .0) (c .before .before .before .before .before .before .before .before .before .before .before .before .before .before .before .before .before .before .before .before .before .pre .1) (c .before .before .before .before .before .put-note .kept .0)
 
 same-length : tie.Need-same-length
 same-length c = search needs
@@ -29,7 +29,7 @@ same-length-4 : tie.Need-same-length-4
 same-length-4 c = search needs
 
 returns : tie.Need-returns
-returns c = remove-leaves _ _ _ _ _ _ (c .before .before .before .before .before .before .before .before .before .before .before .before .before .before .before .before .before .remove .ensures) _ _ _ _ _ _ _ (c .before .before .before .before .before .before .before .before .before .before .before .put-note .ensures) (c .before .before .before .before .delete-global-if-unused .ensures) (omega arith)
+returns c = remove-leaves _ _ _ _ _ _ (c .before .before .before .before .before .before .before .before .before .before .before .before .before .before .before .before .remove .ensures) _ _ _ _ _ _ _ (c .before .before .before .before .before .before .before .before .before .before .put-note .ensures) ((c .before .before .before .before .delete-global-if-unused .ensures) _ _ _) (omega arith)
 
 pub remove-held-spec : {M : Type 1} → statement M
 remove-held-spec =
