@@ -4,7 +4,7 @@ use crate::counts::counts_out;
 use granting::Granted;
 use scope::Counts;
 ghost use mathlib.Core.List.{[], _∷_};
-ghost use Rattle.granting.specs.Grants.{granted};
+ghost use Rattle.granting.specs.Answers.{granted};
 ghost use Rattle.answers.specs.Surface.{countsOf, plain, Told};
 
 #[repr(C)]

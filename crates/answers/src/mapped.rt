@@ -4,7 +4,7 @@ use crate::counts::counts_out;
 use naming::UserMapped;
 use scope::Counts;
 ghost use mathlib.Core.List.{[], _∷_};
-ghost use Rattle.naming.specs.Maps.{userMapped};
+ghost use Rattle.naming.specs.Answers.{userMapped};
 ghost use Rattle.answers.specs.Surface.{countsOf, plain, Told};
 
 #[repr(C)]

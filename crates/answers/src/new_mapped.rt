@@ -4,7 +4,7 @@ use crate::counts::counts_out;
 use naming::NewUser;
 use scope::Counts;
 ghost use mathlib.Core.List.{[], _∷_};
-ghost use Rattle.naming.specs.Maps.{newUserMapped};
+ghost use Rattle.naming.specs.Answers.{newUserMapped};
 ghost use Rattle.answers.specs.Surface.{countsOf, plain, Told};
 
 #[repr(C)]

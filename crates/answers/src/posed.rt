@@ -4,7 +4,7 @@ use crate::counts::counts_out;
 use posing::PosedLits;
 use scope::Counts;
 ghost use mathlib.Core.List.{[], _∷_};
-ghost use Rattle.posing.specs.Poses.{posed};
+ghost use Rattle.posing.specs.Answers.{posed};
 ghost use Rattle.answers.specs.Surface.{countsOf, plain, Told};
 
 // How many literals, or users, were filled.

@@ -20,26 +20,29 @@ use Rattle.scope.specs.Grant.{grantOne, grant, grantRefusal, grantOf}
 use Rattle.scope.specs.Contract.{Said, Does}
 use Rattle.scope.proofs.SoundLaws.{sound-of}
 use Rattle.scope.proofs.GrantLaws.{next-solver-below, grant-free, grant-has, toGrant, grant-count}
-use Rattle.inner.specs.Cursor.{Passed}
-use Rattle.inner.specs.Leaves.{Leaves}
-use Rattle.inner.proofs.CursorLaws.{passed-least}
-use Rattle.inner.proofs.LeavesLaws.{leaves-stay, does-refused, does-noting, no-refusal}
+use Rattle.scope.proofs.ResultLaws.{past}
+use Rattle.changes.specs.Cursor.{AllMapped}
+use Rattle.changes.specs.Leaves.{Leaves}
+use Rattle.changes.proofs.CursorLaws.{cursor-least}
+use Rattle.changes.proofs.LeavesLaws.{leaves-stay}
+use Rattle.changes.proofs.CallLaws.{call-refused, call-accepted, call-noted}
 use Rattle.granting.specs.declared.Granted.{Granted}
 use Rattle.granting.specs.declared.Granted.the-variants.{Done, Refused}
-use Rattle.granting.specs.Grants.{GrantAsks, granted}
+use Rattle.granting.specs.Asks.{GrantAsks}
+use Rattle.granting.specs.Answers.{granted}
 
 -- ---- what a fresh grant asks
 
 -- A global without solver index: a solver index is free, and there is room for a note.
-pub record Fresh (t : Table) (g at room : ℕ) : Type 0 where
+pub record IndexFree (t : Table) (g at room : ℕ) : Type 0 where
   pub sound : Sound t
   pub below : g < t .counts .capacity
   pub free : leastFree (t .globalFromSolver) (t .counts .solver) < t .counts .capacity
   pub words : at + 3 ≤ room
 
-pub fresh-of : (t : Table) (g at room : ℕ) → GrantAsks t g at room → getD (t .solverFromGlobal) g 0 ≡ 0 → Fresh t g at room
+pub index-free : (t : Table) (g at room : ℕ) → GrantAsks t g at room → getD (t .solverFromGlobal) g 0 ≡ 0 → IndexFree t g at room
 unfolding grantOne nextSolver
-fresh-of t g at room h e =
+index-free t g at room h e =
     let s = sound-of t (h .sound) in
     let z = s .sizes in
     let f = next-solver-below t g s (h .below) e in
@@ -51,7 +54,7 @@ abbrev pub NextAsks : Table → ℕ → ℕ → ℕ → ℕ → Type 0
 NextAsks t g from at room =
     let s = leastFree (t .globalFromSolver) (t .counts .solver) in
     (t .counts .solver ≤ length (t .globalFromSolver))
-    × ((Passed (λ i. eqb (getD (t .globalFromSolver) i 0) 0) (t .counts .solver) from)
+    × ((AllMapped (t .globalFromSolver) (t .counts .solver) from)
     × ((g < length (t .solverFromGlobal))
     × ((g < t .counts .capacity)
     × ((s < length (t .globalFromSolver))
@@ -59,7 +62,7 @@ NextAsks t g from at room =
     × ((s < t .counts .capacity)
     × (at + 3 ≤ room)))))))
 
-pub next-asks : (t : Table) (g from at room : ℕ) → Fresh t g at room → Passed (λ i. eqb (getD (t .globalFromSolver) i 0) 0) (t .counts .solver) from → NextAsks t g from at room
+pub next-asks : (t : Table) (g from at room : ℕ) → IndexFree t g at room → AllMapped (t .globalFromSolver) (t .counts .solver) from → NextAsks t g from at room
 next-asks t g from at room f p =
     let z = f .sound .sizes in
     let a = f .below in
@@ -80,70 +83,87 @@ NextLeft t g unit at solver c from next sg gs a notes noted =
     × ((a ≡ set (t .assignment) s unit)
     × (noted ≡ sets notes at (1 ∷ g ∷ (s + 1) ∷ []))))))))
 
-next-leaves : (t : Table) (g unit at : ℕ) (solver : Solver) (c : Counts) (from next : ℕ) (sg gs a notes noted : List ℕ)
-    → unit ≡ unitOf (recordOf t g)
+next-leaves : (t : Table) (g at : ℕ) (solver : Solver) (c : Counts) (from next : ℕ) (sg gs a notes noted : List ℕ)
+    → g < length (t .records)
     → getD (t .solverFromGlobal) g 0 ≡ 0
-    → NextLeft t g unit at solver c from next sg gs a notes noted
-    → Leaves (grant g t) at (solver .0) next (tableOf c (t .globalFromUser) (t .userFromGlobal) sg gs a (t .records)) notes noted
+    → NextLeft t g (unitOf (getD (t .records) g 0)) at solver c from next sg gs a notes noted
+    → (solver .0 ≡ grant g t .value) × Leaves (grant g t) at next (tableOf c (t .globalFromUser) (t .userFromGlobal) sg gs a (t .records)) notes noted
 unfolding grantOne nextSolver giveSolver notesWords
-next-leaves t g unit at solver c from next sg gs a notes noted u e h =
-    rw (grant-free t g e)
-    (record {
-      value = h .0;
-      table = λ i. tableOf (h .1 .0 i) (t .globalFromUser) (t .userFromGlobal) (h .1 .1 .1 .1 .0 i) (h .1 .1 .1 .1 .1 .0 i)
-          ((h .1 .1 .1 .1 .1 .1 .0 ∙ ap (λ (v : ℕ). set (t .assignment) (leastFree (t .globalFromSolver) (t .counts .solver)) v) u) i) (t .records);
-      noted = h .1 .1 .1 .1 .1 .1 .1;
-      moved = let x = h .1 .1 .1 .0 in omega arith;
-    })
+next-leaves t g at solver c from next sg gs a notes noted l e h =
+    let s = leastFree (t .globalFromSolver) (t .counts .solver) in
+    let u = ap unitOf (getD-default (t .records) g 0 47 l) in
+    rw (grant-free t g e) (
+      h .0,
+      record {
+        table = λ i. tableOf (h .1 .0 i) (t .globalFromUser) (t .userFromGlobal) (h .1 .1 .1 .1 .0 i) (h .1 .1 .1 .1 .1 .0 i)
+            ((h .1 .1 .1 .1 .1 .1 .0 ∙ ap (λ (v : ℕ). set (t .assignment) s v) u) i) (t .records);
+        noted = h .1 .1 .1 .1 .1 .1 .1;
+        moved = let x = h .1 .1 .1 .0 in omega arith;
+      },
+    )
 
 -- the cursor goes to the index granted, below which all are taken
 next-passed : (t : Table) (g unit at : ℕ) (solver : Solver) (c : Counts) (from next : ℕ) (sg gs a notes noted : List ℕ)
     → NextLeft t g unit at solver c from next sg gs a notes noted
-    → Passed (λ i. eqb (getD gs i 0) 0) (c .solver) from
+    → AllMapped gs (c .solver) from
 unfolding leastFree
 next-passed t g unit at solver c from next sg gs a notes noted h =
     let s = leastFree (t .globalFromSolver) (t .counts .solver) in
     let m : c .solver ≡ max (t .counts .solver) (s + 1) = ap (λ (d : Counts). d .solver) (h .1 .0) in
-    passed-least (λ i. eqb (getD (t .globalFromSolver) i 0) 0) (λ i. eqb (getD gs i 0) 0) (t .counts .solver) (c .solver) from (h .1 .1 .0) (omega arith)
+    cursor-least (λ i. eqb (getD (t .globalFromSolver) i 0) 0) (λ i. eqb (getD gs i 0) 0) (t .counts .solver) (c .solver) from (h .1 .1 .0) (omega arith)
     (λ k l n. rw (h .1 .1 .1 .1 .1 .0, getD-set-other (t .globalFromSolver) s k (g + 1) 0 (λ q. omega (arith, h .1 .1 .0))) n)
 
 -- the index held
-pub kept-leaves : (t : Table) (g at s : ℕ) (notes : List ℕ) → getD (t .solverFromGlobal) g 0 ≡ s + 1 → Leaves (grant g t) at s at t notes notes
-kept-leaves t g at s notes e = rw (grant-has t g s e) (leaves-stay s at t notes)
+kept-leaves : (t : Table) (g at s : ℕ) (notes : List ℕ) → getD (t .solverFromGlobal) g 0 ≡ s + 1
+    → (s ≡ grant g t .value) × Leaves (grant g t) at at t notes notes
+kept-leaves t g at s notes e = rw (grant-has t g s e) (refl, leaves-stay t at notes)
+
+-- both, whatever the maps of users are
+module _ (c : Counts) (sg gs a records : List ℕ) (g at : ℕ) where
+  pub next-done : (solver : Solver) (d : Counts) (from next : ℕ) (sg2 gs2 a2 notes noted : List ℕ) → g < length records → getD sg g 0 ≡ 0
+      → NextLeft (tableOf c [] [] sg gs a records) g (unitOf (getD records g 0)) at solver d from next sg2 gs2 a2 notes noted
+      → ((gu ug : List ℕ) → solver .0 ≡ grant g (tableOf c gu ug sg gs a records) .value)
+      × (((gu ug : List ℕ) → Leaves (grant g (tableOf c gu ug sg gs a records)) at next (tableOf d gu ug sg2 gs2 a2 records) notes noted)
+      × AllMapped gs2 (d .solver) from)
+  next-done solver d from next sg2 gs2 a2 notes noted l e h = (
+    λ gu ug. next-leaves (tableOf c gu ug sg gs a records) g at solver d from next sg2 gs2 a2 notes noted l e h .0,
+    (
+      λ gu ug. next-leaves (tableOf c gu ug sg gs a records) g at solver d from next sg2 gs2 a2 notes noted l e h .1,
+      next-passed (tableOf c [] [] sg gs a records) g _ at solver d from next sg2 gs2 a2 notes noted h,
+    ),
+  )
+
+  pub kept-done : (s from : ℕ) (notes : List ℕ) → getD sg g 0 ≡ s + 1 → AllMapped gs (c .solver) from
+      → ((gu ug : List ℕ) → s ≡ grant g (tableOf c gu ug sg gs a records) .value)
+      × (((gu ug : List ℕ) → Leaves (grant g (tableOf c gu ug sg gs a records)) at at (tableOf c gu ug sg gs a records) notes notes)
+      × AllMapped gs (c .solver) from)
+  kept-done s from notes e m = (
+    λ gu ug. kept-leaves (tableOf c gu ug sg gs a records) g at s notes e .0,
+    (λ gu ug. kept-leaves (tableOf c gu ug sg gs a records) g at s notes e .1, m),
+  )
 
 pub reads-below : (t : Table) (g at room : ℕ) → GrantAsks t g at room → g < length (t .records)
 reads-below t g at room h = let z = sound-of t (h .sound) .sizes in let b = h .below in omega arith
 
-unit-is : (t : Table) (g at room : ℕ) → GrantAsks t g at room → unitOf (getD (t .records) g 0) ≡ unitOf (recordOf t g)
-unit-is t g at room h = ap unitOf (getD-default (t .records) g 0 47 (reads-below t g at room h))
-
-pub next-done : (t : Table) (g at room : ℕ) (solver : Solver) (c : Counts) (from next : ℕ) (sg gs a notes noted : List ℕ)
-    → GrantAsks t g at room
-    → getD (t .solverFromGlobal) g 0 ≡ 0
-    → NextLeft t g (unitOf (getD (t .records) g 0)) at solver c from next sg gs a notes noted
-    → Leaves (grant g t) at (solver .0) next (tableOf c (t .globalFromUser) (t .userFromGlobal) sg gs a (t .records)) notes noted × Passed (λ i. eqb (getD gs i 0) 0) (c .solver) from
-next-done t g at room solver c from next sg gs a notes noted h e n =
-    (next-leaves t g _ at solver c from next sg gs a notes noted (unit-is t g at room h) e n, next-passed t g _ at solver c from next sg gs a notes noted n)
-
 -- ---- refusals
 
-short-is : (t : Table) (g room : ℕ) → short room (grant g t .notes) ≡ eqb (getD (t .solverFromGlobal) g 0) 0 && ltb room 3
+grant-short : (t : Table) (g room : ℕ) → short room (grant g t .notes) ≡ eqb (getD (t .solverFromGlobal) g 0) 0 && ltb room 3
 unfolding toGrant word
-short-is t g room = ap (λ (n : ℕ). ltb room (3 * n)) (grant-count t g) ∙ go (getD (t .solverFromGlobal) g 0)
+grant-short t g room = ap (λ (n : ℕ). ltb room (3 * n)) (grant-count t g) ∙ go (getD (t .solverFromGlobal) g 0)
   where
     go : (w : ℕ) → ltb room (3 * word 1 (λ s. 0) w) ≡ eqb w 0 && ltb room 3
     go zero = refl
     go (suc s) = rw (ne-eqb (suc s) 0 (λ z. omega arith), le-ltb room 0 (omega arith))
 
 module _ (t : Table) (g room : ℕ) where
-  pub refuse-1 : soundb t ≡ false → 1 ≡ grantRefusal t g room
+  pub grant-1 : soundb t ≡ false → 1 ≡ grantRefusal t g room
   unfolding grantRefusal
-  refuse-1 n = rw n
+  grant-1 n = rw n
 
   module _ (y : soundb t ≡ true) where
-    pub refuse-3 : t .counts .global ≤ g → 3 ≡ grantRefusal t g room
+    pub grant-3 : t .counts .global ≤ g → 3 ≡ grantRefusal t g room
     unfolding grantRefusal
-    refuse-3 l = rw (y, le-leb (t .counts .global) g l)
+    grant-3 l = rw (y, le-leb (t .counts .global) g l)
 
     module _ (l : g < t .counts .global) where
       pub below-records : g < length (t .records)
@@ -155,27 +175,27 @@ module _ (t : Table) (g room : ℕ) where
       deleted-is : leb 36 (getD (t .records) g 0) ≡ isDeleted (recordOf t g)
       deleted-is = ap isDeleted (getD-default (t .records) g 0 47 below-records)
 
-      pub refuse-6 : 36 ≤ getD (t .records) g 0 → 6 ≡ grantRefusal t g room
+      pub grant-6 : 36 ≤ getD (t .records) g 0 → 6 ≡ grantRefusal t g room
       unfolding grantRefusal
-      refuse-6 d = rw (y, lt-leb (t .counts .global) g l, ← deleted-is, le-leb 36 (getD (t .records) g 0) d)
+      grant-6 d = rw (y, lt-leb (t .counts .global) g l, ← deleted-is, le-leb 36 (getD (t .records) g 0) d)
 
       module _ (d : getD (t .records) g 0 < 36) where
-        pub refuse-2 : eqb (getD (t .solverFromGlobal) g 0) 0 && ltb room 3 ≡ true → 2 ≡ grantRefusal t g room
+        pub grant-2 : eqb (getD (t .solverFromGlobal) g 0) 0 && ltb room 3 ≡ true → 2 ≡ grantRefusal t g room
         unfolding grantRefusal
-        refuse-2 e = rw (y, lt-leb (t .counts .global) g l, ← deleted-is, lt-leb 36 (getD (t .records) g 0) d, short-is t g room, e)
+        grant-2 e = rw (y, lt-leb (t .counts .global) g l, ← deleted-is, lt-leb 36 (getD (t .records) g 0) d, grant-short t g room, e)
 
-        pub refuse-0 : eqb (getD (t .solverFromGlobal) g 0) 0 && ltb room 3 ≡ false → 0 ≡ grantRefusal t g room
+        pub grant-0 : eqb (getD (t .solverFromGlobal) g 0) 0 && ltb room 3 ≡ false → 0 ≡ grantRefusal t g room
         unfolding grantRefusal
-        refuse-0 e = rw (y, lt-leb (t .counts .global) g l, ← deleted-is, lt-leb 36 (getD (t .records) g 0) d, short-is t g room, e)
+        grant-0 e = rw (y, lt-leb (t .counts .global) g l, ← deleted-is, lt-leb 36 (getD (t .records) g 0) d, grant-short t g room, e)
 
--- no refusal is what the inner grant asks
-pub asks-of : (t : Table) (g n room : ℕ) → n ≡ grantRefusal t g room → n ≡ 0 → GrantAsks t g 0 room
+-- no refusal is what the grant inside asks
+pub grant-asks : (t : Table) (g n room : ℕ) → n ≡ grantRefusal t g room → n ≡ 0 → GrantAsks t g 0 room
 unfolding grantRefusal
-asks-of t g n room q e =
-    let a = no-refusal (not (soundb t)) 1 _ (λ z. omega arith) (sym q ∙ e) in
-    let b = no-refusal (leb (t .counts .global) g) 3 _ (λ z. omega arith) (a .1) in
-    let d = no-refusal (isDeleted (recordOf t g)) 6 _ (λ z. omega arith) (b .1) in
-    let f = no-refusal (short room (grant g t .notes)) 2 0 (λ z. omega arith) (d .1) in
+grant-asks t g n room q e =
+    let a = past (not (soundb t)) 1 _ (omega arith) (sym q ∙ e) in
+    let b = past (leb (t .counts .global) g) 3 _ (omega arith) (a .1) in
+    let d = past (isDeleted (recordOf t g)) 6 _ (omega arith) (b .1) in
+    let f = past (short room (grant g t .notes)) 2 0 (omega arith) (d .1) in
     record {
       sound = not-false (soundb t) (a .0);
       below = leb-false (t .counts .global) g (b .0);
@@ -183,29 +203,29 @@ asks-of t g n room q e =
       words = let w = ltb-false room (3 * length (grant g t .notes)) (f .0) in omega arith;
     }
 
-notes-few : (t : Table) (g : ℕ) → length (grant g t .notes) ≤ 1
+-- its notes are one at most
+pub grant-few : (t : Table) (g : ℕ) → length (grant g t .notes) < 2 ^ 32
 unfolding toGrant word
-notes-few t g = let e = grant-count t g in let x = go (getD (t .solverFromGlobal) g 0) in omega arith
+grant-few t g = let e = grant-count t g in let x = go (getD (t .solverFromGlobal) g 0) in omega arith
   where
     go : (w : ℕ) → word {A = ℕ} 1 (λ s. 0) w ≤ 1
     go zero = omega arith
     go (suc s) = omega arith
 
--- the count of notes fits a word
-pub count-small : (t : Table) (g v at : ℕ) (left : Table) (words words' : List ℕ) → Leaves (grant g t) 0 v at left words words' → at / 3 < 2 ^ 32
-count-small t g v at left words words' h = let x = notes-few t g in let y = h .moved in omega arith
-
 -- ---- the call
 
-pub grant-refused : (t : Table) (g n : ℕ) (words : List ℕ) → n ≡ grantRefusal t g (length words) → (n ≡ 0 → ⊥) → Does (grantOf t g (length words)) (granted (Refused n) (t .counts)) t words words
+pub grant-refused : (t : Table) (g n : ℕ) (words : List ℕ) → n ≡ grantRefusal t g (length words) → (n ≡ 0 → ⊥)
+    → Does (grantOf t g (length words)) (granted (Refused n) (t .counts)) t words words
 unfolding grantOf
-grant-refused t g n words q e = rw (← q) (does-refused n t _ words e)
+grant-refused t g n words q e = call-refused (grantRefusal t g (length words)) n t _ words q e
 
 pub grant-done : (t : Table) (g n at : ℕ) (s : Solver) (left : Table) (words words' : List ℕ) → n ≡ grantRefusal t g (length words) → n ≡ 0
-    → Leaves (grant g t) 0 (s .0) at left words words'
+    → s .0 ≡ grant g t .value → Leaves (grant g t) 0 at left words words'
     → Does (grantOf t g (length words)) (granted (Done s (left .counts) (at / 3)) (t .counts)) left words words'
 unfolding grantOf
-grant-done t g n at s left words words' q e h = rw (← q) (does-noting (λ s. s ∷ []) n t (grant g t) (s .0) at left words words' e h)
+grant-done t g n at s left words words' q e v h =
+    call-accepted (grantRefusal t g (length words)) n t _ _ left words words' q e
+    (call-noted (λ s. s ∷ []) (s .0 ∷ []) (grant g t) at (left .counts) left words words' h (ap (λ (i : ℕ). i ∷ []) v))
 
 -- The number and the values tell the answer.
 pub granted-one : (x y : Granted) (c : Counts) → granted x c ≡ granted y c → x ≡ y

@@ -1,5 +1,5 @@
 // Grant. How the contracts read: crates/scope/specs/Contract.antt.
-use inner::least_free;
+use changes::least_free;
 use scope::Counts;
 use scope::Global;
 use scope::Note;
@@ -9,21 +9,20 @@ use table::is_sound;
 use table::put_note;
 use table::solver_of;
 ghost use mathlib.Core.Path.{_≡_};
-ghost use mathlib.Core.Bool.{true};
-ghost use mathlib.Core.List.{_∷_, []};
-ghost use Prim.Native.Nat.{_+_, _≤_, _<_};
-ghost use lib.Dec.{eqb};
-ghost use lib.ListN.{length, getD, set};
+ghost use mathlib.Core.List.{List, _∷_, []};
+ghost use Prim.Native.Nat.{ℕ, _+_, _≤_, _<_};
+ghost use lib.ListN.{length, set};
 ghost use Rattle.base.specs.Lent.{old, new, Fills};
-ghost use Rattle.scope.specs.Contract.{given, before, after, lent, Meets};
-ghost use Rattle.scope.specs.Table.{coverSolver, leastFree};
+ghost use Rattle.scope.specs.Contract.{before, lent, Meets};
+ghost use Rattle.scope.specs.Table.{tableOf, coverSolver, leastFree};
 ghost use Rattle.scope.specs.Grant.{grant, grantRefusal, grantOf};
-ghost use Rattle.inner.specs.Cursor.{Passed};
-ghost use Rattle.inner.specs.Leaves.{Leaves};
-ghost use Rattle.granting.specs.Grants.{GrantAsks, granted};
+ghost use Rattle.changes.specs.Cursor.{AllMapped};
+ghost use Rattle.changes.specs.Leaves.{Leaves};
+ghost use Rattle.granting.specs.Answers.{granted};
+ghost use Rattle.granting.specs.Asks.{IndexAsks};
 
 // A global's solver index, with the counts, the cursor of free solver indices and the place in the notes after it.
-pub struct Held {
+pub struct Indexed {
     pub counts: Counts,
     pub solver: Solver,
     pub from: u32,
@@ -47,9 +46,9 @@ fn grant_next(
     from: u32,
     at: usize,
     notes: &mut [u32],
-) -> Held
+) -> Indexed
     requires { ⌜ c .solver ≤ length (now gs) ⌝ }
-    requires { ⌜ Passed (λ i. eqb (getD (now gs) i 0) 0) (c .solver) from ⌝ }
+    requires { ⌜ AllMapped (now gs) (c .solver) from ⌝ }
     requires { ⌜ global .0 < length (now sg) ⌝ }
     requires { ⌜ global .0 < c .capacity ⌝ }
     requires { let s = leastFree (now gs) (c .solver) in
@@ -72,7 +71,7 @@ fn grant_next(
     assignment[s as usize] = unit;
     put_note(notes, at, Note::SolverGranted(global, solver));
     let counts = c.grant(sg, gs, global, solver);
-    Held {
+    Indexed {
         counts,
         solver,
         from: s,
@@ -80,11 +79,10 @@ fn grant_next(
     }
 }
 
-// The solver index of an undeleted global of a sound table: the one held, else the least free one, searched from the cursor on.
+// The solver index of an undeleted global of a sound table: the one held, else the least free one, searched from the cursor on. The maps of
+// users, gu and ug, are not lent and may be any.
 pub fn grant_index(
     c: Counts,
-    gu: &[u32],
-    ug: &[u32],
     sg: &mut [u32],
     gs: &mut [u32],
     assignment: &mut [u32],
@@ -93,18 +91,19 @@ pub fn grant_index(
     from: u32,
     at: usize,
     notes: &mut [u32],
-) -> Held
-    requires { ⌜ GrantAsks (given c gu ug sg gs assignment records) (global .0) at (length (now notes)) ⌝ }
-    requires { ⌜ Passed (λ i. eqb (getD (now gs) i 0) 0) (c .solver) from ⌝ }
-    ensures { λ r. ⌜ Leaves (grant (global .0) (before c gu ug sg gs assignment records)) at (r .solver .0) (r .at)
-        (after (r .counts) gu ug sg gs assignment records) (old notes) (new notes) ⌝ }
-    ensures { λ r. ⌜ Passed (λ i. eqb (getD (new gs) i 0) 0) (r .counts .solver) (r .from) ⌝ }
+) -> Indexed
+    requires { ⌜ IndexAsks c (now sg) (now gs) (now assignment) (now records) (global .0) at (length (now notes)) ⌝ }
+    requires { ⌜ AllMapped (now gs) (c .solver) from ⌝ }
+    ensures { λ r. ⌜ ((gu ug : List ℕ) → r .solver .0 ≡ grant (global .0) (tableOf c gu ug (old sg) (old gs) (old assignment) (old records)) .value) ⌝ }
+    ensures { λ r. ⌜ ((gu ug : List ℕ) → Leaves (grant (global .0) (tableOf c gu ug (old sg) (old gs) (old assignment) (old records))) at (r .at)
+        (tableOf (r .counts) gu ug (new sg) (new gs) (new assignment) (old records)) (old notes) (new notes)) ⌝ }
+    ensures { λ r. ⌜ AllMapped (new gs) (r .counts .solver) (r .from) ⌝ }
 {
     let FoundSolver::At(solver) = solver_of(sg, global) else {
         let unit = records[global.0 as usize] / 3 % 3;
         return grant_next(c, sg, gs, assignment, global, unit, from, at, notes);
     };
-    Held {
+    Indexed {
         counts: c,
         solver,
         from,
@@ -143,7 +142,7 @@ fn grant_refusal(
 }
 
 // Grant (01, `solver_from_global`; refusals 1, 3, 6, 2): the index held, else the least unmapped solver index.
-// Definition: crates/scope/specs/Grant.antt, `grantOf`; its answer: specs/Grants.antt, `granted`.
+// Definition: crates/scope/specs/Grant.antt, `grantOf`; its answer: specs/Answers.antt, `granted`.
 pub fn solver_from_global(
     c: Counts,
     gu: &[u32],
@@ -162,7 +161,7 @@ pub fn solver_from_global(
     if n != 0 {
         return Granted::Refused(n);
     }
-    let h = grant_index(c, gu, ug, sg, gs, assignment, records, global, 0, 0, notes);
+    let h = grant_index(c, sg, gs, assignment, records, global, 0, 0, notes);
     let solver = h.solver;
     let counts = h.counts;
     Granted::Done(solver, counts, (h.at / 3) as u32)

@@ -21,6 +21,8 @@ use Rattle.scope.specs.Models.{globalModel, userModel, modelRefusal, modelOf}
 use Rattle.model.specs.declared.Modelled.{Modelled}
 use Rattle.model.specs.declared.Modelled.the-variants.{Done, Refused}
 use Rattle.model.specs.Answers.{modelled}
+use Rattle.model.specs.Values.{Readable, OfSound, readTable}
+use Rattle.model.proofs.ValueLaws.{readable, globals-are, users-are}
 use Rattle.model.proofs.RowLaws.{globals-count}
 
 -- the number and the values tell the answer
@@ -40,23 +42,29 @@ pub refusal-2-globals : (t : Table) (a b : ℕ) → soundb t ≡ true → a < t 
 unfolding modelRefusal
 refusal-2-globals t a b h l = rw (h, globals-count t, lt-ltb a (t .counts .global) l)
 
-pub refusal-2-users : (t : Table) (a b : ℕ) → soundb t ≡ true → t .counts .global ≤ a → b < length (userModel t) → 2 ≡ modelRefusal t a b
-unfolding modelRefusal
-refusal-2-users t a b h l k = rw (h, globals-count t, le-ltb a (t .counts .global) l, lt-ltb b (length (userModel t)) k)
+-- the users counted, by the lists that are read
+users-told : (t : Table) (k : ℕ) → k ≡ length (userModel (readTable (t .counts) (t .globalFromUser) (t .solverFromGlobal) (t .assignment) (t .records))) → k ≡ length (userModel t)
+users-told t k e = e ∙ ap length (users-are t)
 
-pub refusal-0 : (t : Table) (a b : ℕ) → soundb t ≡ true → t .counts .global ≤ a → length (userModel t) ≤ b → 0 ≡ modelRefusal t a b
-unfolding modelRefusal
-refusal-0 t a b h l k = rw (h, globals-count t, le-ltb a (t .counts .global) l, le-ltb b (length (userModel t)) k)
+module _ (t : Table) (a b k : ℕ) (h : soundb t ≡ true) (l : t .counts .global ≤ a)
+    (e : k ≡ length (userModel (readTable (t .counts) (t .globalFromUser) (t .solverFromGlobal) (t .assignment) (t .records)))) where
+  pub refusal-2-users : b < k → 2 ≡ modelRefusal t a b
+  unfolding modelRefusal
+  refusal-2-users m = rw (h, globals-count t, le-ltb a (t .counts .global) l, ← users-told t k e, lt-ltb b k m)
+
+  pub refusal-0 : k ≤ b → 0 ≡ modelRefusal t a b
+  unfolding modelRefusal
+  refusal-0 m = rw (h, globals-count t, le-ltb a (t .counts .global) l, ← users-told t k e, le-ltb b k m)
 
 -- where none applies
-pub record Clear (t : Table) (a b : ℕ) : Type 0 where
+pub record ModelAsks (t : Table) (a b : ℕ) : Type 0 where
   pub sound : soundb t ≡ true
   pub globals : t .counts .global ≤ a
   pub users : length (userModel t) ≤ b
 
-pub clear : (t : Table) (a b n : ℕ) → n ≡ modelRefusal t a b → n ≡ 0 → Clear t a b
+pub model-asks : (t : Table) (a b n : ℕ) → n ≡ modelRefusal t a b → n ≡ 0 → ModelAsks t a b
 unfolding modelRefusal
-clear t a b n e z =
+model-asks t a b n e z =
     let p = past (not (soundb t)) 1 (pick (ltb a (length (globalModel t)) || ltb b (length (userModel t))) 2 0) (omega arith) (sym e ∙ z) in
     let x = ltb a (length (globalModel t)) in
     let y = ltb b (length (userModel t)) in
@@ -65,6 +73,19 @@ clear t a b n e z =
     let g = globals-count t in
     record { sound = not-false (soundb t) (p .0); globals = omega arith; users = ltb-false b (length (userModel t)) (or-right x y (q .0)) }
 
+-- what the two functions inside ask
+module _ (t : Table) where
+  pub of-sound : soundb t ≡ true → OfSound (t .counts) (t .globalFromUser) (t .solverFromGlobal) (t .assignment) (t .records)
+  of-sound h = record { ug = t .userFromGlobal; gs = t .globalFromSolver; sound = h }
+
+  module _ (a b n : ℕ) (e : n ≡ modelRefusal t a b) (z : n ≡ 0) where
+    pub globals-asks : ((g : ℕ) → g < t .counts .global → Readable (t .solverFromGlobal) (t .assignment) (t .records) g) × (t .counts .global ≤ a)
+    globals-asks = let k = model-asks t a b n e z in (readable t (k .sound), k .globals)
+
+    pub users-asks : OfSound (t .counts) (t .globalFromUser) (t .solverFromGlobal) (t .assignment) (t .records)
+        × (length (userModel (readTable (t .counts) (t .globalFromUser) (t .solverFromGlobal) (t .assignment) (t .records))) ≤ b)
+    users-asks = let k = model-asks t a b n e z in let l = k .users in (of-sound (k .sound), rw (users-are t) l)
+
 -- ---- the call
 
 model-refused : (t : Table) (a b n : ℕ) → n ≡ modelRefusal t a b → (n ≡ 0 → ⊥) → modelOf t a b ≡ refusal n t
@@ -72,8 +93,8 @@ unfolding modelOf
 model-refused t a b n e h = unless-some n (modelRefusal t a b) t _ e h
 
 -- what an accepted call comes to
-abbrev filled : Table → Outcome
-filled t =
+abbrev modelDone : Table → Outcome
+modelDone t =
     record {
       answer = accepted (length (globalModel t) ∷ length (userModel t) ∷ []);
       table = t;
@@ -83,20 +104,20 @@ filled t =
       bytes = [];
     }
 
-model-done : (t : Table) (a b n : ℕ) → n ≡ modelRefusal t a b → n ≡ 0 → modelOf t a b ≡ filled t
+model-done : (t : Table) (a b n : ℕ) → n ≡ modelRefusal t a b → n ≡ 0 → modelOf t a b ≡ modelDone t
 unfolding modelOf unless
 model-done t a b n e z = rw (← e, z)
 
 -- what a call says of its answer and the table, and of the two lent slices
-pub record Told (t : Table) (a b : List ℕ) (said : Said) (left : Table) (x y : List ℕ) : Type 0 where
+pub record ModelTold (t : Table) (a b : List ℕ) (said : Said) (left : Table) (x y : List ℕ) : Type 0 where
   pub does : Does (modelOf t (length a) (length b)) said left [] []
   pub globals : x ≡ sets a 0 (modelOf t (length a) (length b) .words)
   pub users : y ≡ sets b 0 (modelOf t (length a) (length b) .more)
 
-told-by : (t : Table) (a b : List ℕ) (o : Outcome) → modelOf t (length a) (length b) ≡ o → o .notes ≡ [] → (said : Said) (left : Table) (x y : List ℕ)
-    → said .answer ≡ o .answer → left ≡ o .table → x ≡ sets a 0 (o .words) → y ≡ sets b 0 (o .more) → Told t a b said left x y
+model-told-by : (t : Table) (a b : List ℕ) (o : Outcome) → modelOf t (length a) (length b) ≡ o → o .notes ≡ [] → (said : Said) (left : Table) (x y : List ℕ)
+    → said .answer ≡ o .answer → left ≡ o .table → x ≡ sets a 0 (o .words) → y ≡ sets b 0 (o .more) → ModelTold t a b said left x y
 unfolding notesWords
-told-by t a b o e z said left x y p q r s =
+model-told-by t a b o e z said left x y p q r s =
     record {
       does = record {
         answer = p ∙ sym (ap (λ (w : Outcome). w .answer) e);
@@ -107,12 +128,14 @@ told-by t a b o e z said left x y p q r s =
       users = s ∙ sym (ap (λ (w : Outcome). sets b 0 (w .more)) e);
     }
 
-pub told-refused : (t : Table) (a b : List ℕ) (n : ℕ) → n ≡ modelRefusal t (length a) (length b) → (n ≡ 0 → ⊥) → Told t a b (modelled (Refused n) (t .counts)) t a b
-told-refused t a b n e h = told-by t a b (refusal n t) (model-refused t (length a) (length b) n e h) refl _ _ _ _ refl refl refl refl
+pub model-told-refused : (t : Table) (a b : List ℕ) (n : ℕ) → n ≡ modelRefusal t (length a) (length b) → (n ≡ 0 → ⊥) → ModelTold t a b (modelled (Refused n) (t .counts)) t a b
+model-told-refused t a b n e h = model-told-by t a b (refusal n t) (model-refused t (length a) (length b) n e h) refl _ _ _ _ refl refl refl refl
 
-pub told-done : (t : Table) (a b : List ℕ) (n k : ℕ) (x y : List ℕ) → n ≡ modelRefusal t (length a) (length b) → n ≡ 0
-    → x ≡ sets a 0 (globalModel t) → k ≡ length (userModel t) → y ≡ sets b 0 (userModel t)
-    → Told t a b (modelled (Done (t .counts .global) k) (t .counts)) t x y
-told-done t a b n k x y e z p q r =
-    told-by t a b (filled t) (model-done t (length a) (length b) n e z) refl _ _ _ _
-    (rw (globals-count t, q)) refl p r
+pub model-told-done : (t : Table) (a b : List ℕ) (n k : ℕ) (x y : List ℕ) → n ≡ modelRefusal t (length a) (length b) → n ≡ 0
+    → x ≡ sets a 0 (globalModel (readTable (t .counts) [] (t .solverFromGlobal) (t .assignment) (t .records)))
+    → k ≡ length (userModel (readTable (t .counts) (t .globalFromUser) (t .solverFromGlobal) (t .assignment) (t .records)))
+    → y ≡ sets b 0 (userModel (readTable (t .counts) (t .globalFromUser) (t .solverFromGlobal) (t .assignment) (t .records)))
+    → ModelTold t a b (modelled (Done (t .counts .global) k) (t .counts)) t x y
+model-told-done t a b n k x y e z p q r =
+    model-told-by t a b (modelDone t) (model-done t (length a) (length b) n e z) refl _ _ _ _
+    (rw (globals-count t, users-told t k q)) refl (p ∙ ap (sets a 0) (globals-are t)) (r ∙ ap (sets b 0) (users-are t))

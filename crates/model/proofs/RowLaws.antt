@@ -16,7 +16,7 @@ use Rattle.base.proofs.SetsLaws.{store-next}
 use Rattle.scope.specs.Literals.{codeOf}
 use Rattle.scope.specs.Table.{Table, word}
 use Rattle.scope.specs.Models.{globalValue, rowOf, globalModel, userLiteral, userModel}
-use Rattle.model.specs.Values.{userValue}
+use Rattle.model.specs.Values.{valueOf, userValue}
 
 -- ---- any row
 
@@ -41,7 +41,6 @@ unfolding rowOf
 row-small f h zero = omega arith
 row-small f h (suc n) = let x = row-small f h n in let y = h n in omega (arith, length-append (rowOf n f) (f n))
 
--- one more store behind those of a row
 -- stores change no length
 stored-length : (l m xs : List ℕ) → m ≡ sets l 0 xs → length m ≡ length l
 stored-length l m xs e = ap length e ∙ length-sets l 0 xs
@@ -91,11 +90,15 @@ userRow t u = word [] (λ g. userLiteral u (globalValue t g)) (getD (t .globalFr
 abbrev pub usersTo : Table → ℕ → List ℕ
 usersTo t i = rowOf i (userRow t)
 
-row-literal : (t : Table) (u : ℕ) → userRow t u ≡ userLiteral u (userValue t u)
-unfolding userValue word userLiteral
+-- the value of user u
+abbrev pub userAt : Table → ℕ → ℕ
+userAt t u = userValue (t .globalFromUser) (t .solverFromGlobal) (t .assignment) (t .records) u
+
+row-literal : (t : Table) (u : ℕ) → userRow t u ≡ userLiteral u (userAt t u)
+unfolding userValue valueOf globalValue word userLiteral
 row-literal t u = go (getD (t .globalFromUser) u 0)
   where
-    go : (w : ℕ) → word [] (λ g. userLiteral u (globalValue t g)) w ≡ userLiteral u (word 0 (globalValue t) w)
+    go : (w : ℕ) → word [] (λ g. userLiteral u (globalValue t g)) w ≡ userLiteral u (word 0 (valueOf (t .solverFromGlobal) (t .assignment) (t .records)) w)
     go zero = refl
     go (suc g) = refl
 
@@ -110,65 +113,65 @@ literal-small u v = go (eqb v 0)
 pub users-start : (t : Table) → usersTo t 0 ≡ []
 users-start t = row-zero (userRow t)
 
-pub users-none : (t : Table) (u v : ℕ) → v ≡ userValue t u → v ≡ 0 → usersTo t (u + 1) ≡ usersTo t u
+pub users-none : (t : Table) (u v : ℕ) → v ≡ userAt t u → v ≡ 0 → usersTo t (u + 1) ≡ usersTo t u
 unfolding userLiteral
 users-none t u v e z =
-    row-suc (userRow t) u ∙ ap (λ (l : List ℕ). usersTo t u ++ l) (row-literal t u ∙ rw (eq-eqb (userValue t u) 0 (sym e ∙ z))) ∙ append-nil (usersTo t u)
+    row-suc (userRow t) u ∙ ap (λ (l : List ℕ). usersTo t u ++ l) (row-literal t u ∙ rw (eq-eqb (userAt t u) 0 (sym e ∙ z))) ∙ append-nil (usersTo t u)
 
-pub users-some : (t : Table) (u v : ℕ) → v ≡ userValue t u → (v ≡ 0 → ⊥) → usersTo t (u + 1) ≡ usersTo t u ++ codeOf u (2 - v) ∷ []
+pub users-some : (t : Table) (u v : ℕ) → v ≡ userAt t u → (v ≡ 0 → ⊥) → usersTo t (u + 1) ≡ usersTo t u ++ codeOf u (2 - v) ∷ []
 unfolding userLiteral
 users-some t u v e n =
     row-suc (userRow t) u
-    ∙ ap (λ (l : List ℕ). usersTo t u ++ l) (row-literal t u ∙ rw (ne-eqb (userValue t u) 0 (λ z. n (e ∙ z)), e))
+    ∙ ap (λ (l : List ℕ). usersTo t u ++ l) (row-literal t u ∙ rw (ne-eqb (userAt t u) 0 (λ z. n (e ∙ z)), e))
 
 -- a user with a value is one literal more
-pub count-some : (t : Table) (u v k : ℕ) → v ≡ userValue t u → (v ≡ 0 → ⊥) → k ≡ length (usersTo t u) → k + 1 ≡ length (usersTo t (u + 1))
-count-some t u v k e n q = let x = ap length (users-some t u v e n) in omega (arith, length-append (usersTo t u) (codeOf u (2 - v) ∷ []))
+pub users-count-some : (t : Table) (u v k : ℕ) → v ≡ userAt t u → (v ≡ 0 → ⊥) → k ≡ length (usersTo t u) → k + 1 ≡ length (usersTo t (u + 1))
+users-count-some t u v k e n q = let x = ap length (users-some t u v e n) in omega (arith, length-append (usersTo t u) (codeOf u (2 - v) ∷ []))
 
-pub count-none : (t : Table) (u v k : ℕ) → v ≡ userValue t u → v ≡ 0 → k ≡ length (usersTo t u) → k ≡ length (usersTo t (u + 1))
-count-none t u v k e z q = q ∙ sym (ap length (users-none t u v e z))
+pub users-count-none : (t : Table) (u v k : ℕ) → v ≡ userAt t u → v ≡ 0 → k ≡ length (usersTo t u) → k ≡ length (usersTo t (u + 1))
+users-count-none t u v k e z q = q ∙ sym (ap length (users-none t u v e z))
 
-pub count-end : (t : Table) (u k : ℕ) → k ≡ length (usersTo t u) → u ≤ t .counts .user → t .counts .user ≤ u → k ≡ length (userModel t)
+pub users-count-end : (t : Table) (u k : ℕ) → k ≡ length (usersTo t u) → u ≤ t .counts .user → t .counts .user ≤ u → k ≡ length (userModel t)
 unfolding userModel
-count-end t u k q a b = q ∙ ap (λ (i : ℕ). length (usersTo t i)) (omega arith)
+users-count-end t u k q a b = q ∙ ap (λ (i : ℕ). length (usersTo t i)) (omega arith)
 
 -- no more literals than users
-count-small : (t : Table) (u : ℕ) → length (usersTo t u) ≤ u
-count-small t u = row-small (userRow t) (λ i. subst (λ (l : List ℕ). length l ≤ 1) (sym (row-literal t i)) (literal-small i (userValue t i))) u
+users-count-small : (t : Table) (u : ℕ) → length (usersTo t u) ≤ u
+users-count-small t u = row-small (userRow t) (λ i. subst (λ (l : List ℕ). length l ≤ 1) (sym (row-literal t i)) (literal-small i (userAt t i))) u
 
-pub count-bound : (t : Table) (u k : ℕ) → k ≡ length (usersTo t u) → k ≤ u
-count-bound t u k e = let x = count-small t u in omega arith
+pub users-count-bound : (t : Table) (u k : ℕ) → k ≡ length (usersTo t u) → k ≤ u
+users-count-bound t u k e = let x = users-count-small t u in omega arith
 
 -- so there is room for it
-pub count-room : (t : Table) (u v k : ℕ) → u < t .counts .user → v ≡ userValue t u → (v ≡ 0 → ⊥) → k ≡ length (usersTo t u) → k < length (userModel t)
+pub users-count-room : (t : Table) (u v k : ℕ) → u < t .counts .user → v ≡ userAt t u → (v ≡ 0 → ⊥) → k ≡ length (usersTo t u) → k < length (userModel t)
 unfolding userModel
-count-room t u v k l e z q =
-    let x = count-some t u v k e z q in
+users-count-room t u v k l e z q =
+    let x = users-count-some t u v k e z q in
     let y = row-grows (userRow t) (u + 1) (t .counts .user) (omega arith) in
     omega arith
 
 -- ---- the literals in the lent slice
 
-pub fill-start : (t : Table) (l : List ℕ) → l ≡ sets l 0 (usersTo t 0)
-fill-start t l = rw (users-start t)
+pub users-fill-start : (t : Table) (l : List ℕ) → l ≡ sets l 0 (usersTo t 0)
+users-fill-start t l = rw (users-start t)
 
-fill-code : (t : Table) (l m : List ℕ) (u v k : ℕ) → m ≡ sets l 0 (usersTo t u) → k ≡ length (usersTo t u) → v ≡ userValue t u → (v ≡ 0 → ⊥)
+users-fill-code : (t : Table) (l m : List ℕ) (u v k : ℕ) → m ≡ sets l 0 (usersTo t u) → k ≡ length (usersTo t u) → v ≡ userAt t u → (v ≡ 0 → ⊥)
     → set m k (codeOf u (2 - v)) ≡ sets l 0 (usersTo t (u + 1))
-fill-code t l m u v k e q p n = rw (e, users-some t u v p n) (store-next l _ (usersTo t u) 0 k (codeOf u (2 - v)) refl (omega arith))
+users-fill-code t l m u v k e q p n = rw (e, users-some t u v p n) (store-next l _ (usersTo t u) 0 k (codeOf u (2 - v)) refl (omega arith))
 
-pub fill-some : (t : Table) (l m : List ℕ) (u v k w : ℕ) → m ≡ sets l 0 (usersTo t u) → k ≡ length (usersTo t u) → v ≡ userValue t u → (v ≡ 0 → ⊥)
+pub users-fill-some : (t : Table) (l m : List ℕ) (u v k w : ℕ) → m ≡ sets l 0 (usersTo t u) → k ≡ length (usersTo t u) → v ≡ userAt t u → (v ≡ 0 → ⊥)
     → w ≡ codeOf u (2 - v) → set m k w ≡ sets l 0 (usersTo t (u + 1))
-fill-some t l m u v k w e q p n h = ap (λ (x : ℕ). set m k x) h ∙ fill-code t l m u v k e q p n
+users-fill-some t l m u v k w e q p n h = ap (λ (x : ℕ). set m k x) h ∙ users-fill-code t l m u v k e q p n
 
-pub fill-none : (t : Table) (l m : List ℕ) (u v : ℕ) → m ≡ sets l 0 (usersTo t u) → v ≡ userValue t u → v ≡ 0 → m ≡ sets l 0 (usersTo t (u + 1))
-fill-none t l m u v e p z = e ∙ sym (ap (sets l 0) (users-none t u v p z))
+pub users-fill-none : (t : Table) (l m : List ℕ) (u v : ℕ) → m ≡ sets l 0 (usersTo t u) → v ≡ userAt t u → v ≡ 0 → m ≡ sets l 0 (usersTo t (u + 1))
+users-fill-none t l m u v e p z = e ∙ sym (ap (sets l 0) (users-none t u v p z))
 
-pub fill-kept : (t : Table) (l m : List ℕ) (u : ℕ) → m ≡ sets l 0 (usersTo t u) → length m ≡ length l
-fill-kept t l m u e = stored-length l m (usersTo t u) e
+pub users-fill-kept : (t : Table) (l m : List ℕ) (u : ℕ) → m ≡ sets l 0 (usersTo t u) → length m ≡ length l
+users-fill-kept t l m u e = stored-length l m (usersTo t u) e
 
-pub fill-there : (t : Table) (l m : List ℕ) (u k : ℕ) → k < length (userModel t) → length (userModel t) ≤ length l → m ≡ sets l 0 (usersTo t u) → k < length m
-fill-there t l m u k a b e = stored-there l m (usersTo t u) k (length (userModel t)) a b e
+pub users-fill-there : (t : Table) (l m : List ℕ) (u k : ℕ) → k < length (userModel t) → length (userModel t) ≤ length l → m ≡ sets l 0 (usersTo t u) → k < length m
+users-fill-there t l m u k a b e = stored-there l m (usersTo t u) k (length (userModel t)) a b e
 
-pub fill-end : (t : Table) (l m : List ℕ) (u : ℕ) → m ≡ sets l 0 (usersTo t u) → u ≤ t .counts .user → t .counts .user ≤ u → m ≡ sets l 0 (userModel t)
+pub users-fill-end : (t : Table) (l m : List ℕ) (u : ℕ) → m ≡ sets l 0 (usersTo t u) → u ≤ t .counts .user → t .counts .user ≤ u → m ≡ sets l 0 (userModel t)
 unfolding userModel
-fill-end t l m u e a b = e ∙ ap (λ (k : ℕ). sets l 0 (usersTo t k)) (omega arith)
+users-fill-end t l m u e a b = e ∙ ap (λ (k : ℕ). sets l 0 (usersTo t k)) (omega arith)

@@ -3,7 +3,7 @@ use Prim.Native.Nat.{ℕ, zero, suc, _+_, _-_, _/_, _%_, _≤_, _<_}
 use mathlib.Core.Path.{_≡_, refl, sym, ap, _∙_, subst}
 use mathlib.Core.Bool.{Bool, true, false}
 use mathlib.Core.Logic.{⊎-elim}
-use mathlib.Core.List.{List}
+use mathlib.Core.List.{List, []}
 use native.Mathlib.Omega.{arith}
 use lib.Dec.{eqb, leb}
 use lib.ListN.{length, getD}
@@ -11,79 +11,95 @@ use borrow.Author.Tests.{le-leb, lt-leb, eq-eqb, ne-eqb}
 use Rattle.base.specs.Choice.{pick}
 use Rattle.base.proofs.Truth.{split}
 use Rattle.base.proofs.MemberLaws.{getD-default}
-use Rattle.scope.specs.Table.{Table, word, unitOf, isDeleted, recordOf}
+use Rattle.scope.specs.declared.Counts.{Counts}
+use Rattle.scope.specs.Table.{Table, tableOf, unitOf}
 use Rattle.scope.specs.Sound.{soundb}
-use Rattle.scope.specs.Models.{globalValue}
+use Rattle.scope.specs.Models.{globalValue, globalModel, userModel}
 use Rattle.scope.proofs.SoundLaws.{sound-of}
 use Rattle.scope.proofs.PairLaws.{below-mark, pair-flip}
 use Rattle.scope.proofs.ResultLaws.{word-none, word-some}
-use Rattle.model.specs.Values.{userValue}
+use Rattle.model.specs.Values.{valueOf, userValue, Readable, readTable, OfSound}
+
+-- ---- the parts over lists are those of the table
+
+pub value-is : (t : Table) (g : ℕ) → valueOf (t .solverFromGlobal) (t .assignment) (t .records) g ≡ globalValue t g
+unfolding valueOf globalValue
+value-is t g = refl
+
+pub globals-are : (t : Table) → globalModel (readTable (t .counts) [] (t .solverFromGlobal) (t .assignment) (t .records)) ≡ globalModel t
+unfolding globalModel globalValue
+globals-are t = refl
+
+pub users-are : (t : Table) → userModel (readTable (t .counts) (t .globalFromUser) (t .solverFromGlobal) (t .assignment) (t .records)) ≡ userModel t
+unfolding userModel globalValue
+users-are t = refl
+
+-- ---- the words that are read are there
 
 module _ (t : Table) (h : soundb t ≡ true) where
-  -- ---- the words that are read are there
-
-  pub global-there : (g : ℕ) → g < t .counts .global → (g < length (t .records)) × (g < length (t .solverFromGlobal))
-  global-there g l = let z = sound-of t h .sizes in (omega arith, omega arith)
-
-  pub user-there : (u : ℕ) → u < t .counts .user → u < length (t .globalFromUser)
-  user-there u l = let z = sound-of t h .sizes in omega arith
-
-  pub user-mark : t .counts .user ≤ 4096
-  user-mark = let z = sound-of t h .sizes in omega arith
-
-  pub held-there : (g : ℕ) → (getD (t .solverFromGlobal) g 0 ≡ 0 → ⊥) → getD (t .solverFromGlobal) g 0 - 1 < length (t .assignment)
-  held-there g n =
+  pub readable : (g : ℕ) → g < t .counts .global → Readable (t .solverFromGlobal) (t .assignment) (t .records) g
+  readable g l =
       let z = sound-of t h .sizes in
       let p = sound-of t h .solver in
       let w = getD (t .solverFromGlobal) g 0 in
-      let k = below-mark (w - 1) g p (p .inverse (w - 1) g .1 (omega arith)) in
-      omega arith
+      record {
+        words = omega arith;
+        solver = omega arith;
+        held = λ n. let k = below-mark (w - 1) g p (p .inverse (w - 1) g .1 (omega arith)) in omega arith;
+        small = sound-of t h .values .small;
+      }
 
-  pub mapped-there : (u : ℕ) → (getD (t .globalFromUser) u 0 ≡ 0 → ⊥) → getD (t .globalFromUser) u 0 - 1 < t .counts .global
-  mapped-there u n =
+  mapped-readable : (u g : ℕ) → getD (t .globalFromUser) u 0 ≡ g + 1 → Readable (t .solverFromGlobal) (t .assignment) (t .records) g
+  mapped-readable u g e =
       let p = sound-of t h .user in
-      let w = getD (t .globalFromUser) u 0 in
-      below-mark (w - 1) u (pair-flip p) (p .inverse u (w - 1) .0 (omega arith))
+      readable g (below-mark g u (pair-flip p) (p .inverse u g .0 e))
 
-  -- ---- the value of a global
+  user-there : (u : ℕ) → u < t .counts .user → u < length (t .globalFromUser)
+  user-there u l = let z = sound-of t h .sizes in omega arith
 
-  pub value-deleted : (g : ℕ) → g < t .counts .global → 36 ≤ getD (t .records) g 0 → 0 ≡ globalValue t g
-  unfolding globalValue
-  value-deleted g l d =
-      let e = getD-default (t .records) g 47 0 (global-there g l .0) in
-      rw (e, le-leb 36 (getD (t .records) g 0) d)
+  mark-small : t .counts .user ≤ 4096
+  mark-small = let z = sound-of t h .sizes in omega arith
 
-  pub value-held : (g : ℕ) → g < t .counts .global → getD (t .records) g 0 < 36 → (getD (t .solverFromGlobal) g 0 ≡ 0 → ⊥)
-      → getD (t .assignment) (getD (t .solverFromGlobal) g 0 - 1) 0 ≡ globalValue t g
-  unfolding globalValue
-  value-held g l d n =
-      let e = getD-default (t .records) g 47 0 (global-there g l .0) in
-      rw (e, lt-leb 36 (getD (t .records) g 0) d, word-some _ (λ s. getD (t .assignment) s 0) (getD (t .solverFromGlobal) g 0) (getD (t .solverFromGlobal) g 0 - 1) (omega arith))
+module _ (c : Counts) (gu sg a records : List ℕ) (h : OfSound c gu sg a records) where
+  pub user-asks : (u : ℕ) → u < c .user → (u < length gu) × ((g : ℕ) → getD gu u 0 ≡ g + 1 → Readable sg a records g)
+  user-asks u l =
+      let t = tableOf c gu (h .ug) sg (h .gs) a records in
+      (user-there t (h .sound) u l, mapped-readable t (h .sound) u)
 
-  value-unit : (g : ℕ) → g < t .counts .global → getD (t .records) g 0 < 36 → getD (t .solverFromGlobal) g 0 ≡ 0
-      → pick (eqb (unitOf (getD (t .records) g 0)) 0) 1 (unitOf (getD (t .records) g 0)) ≡ globalValue t g
-  unfolding globalValue
-  value-unit g l d n =
-      let e = getD-default (t .records) g 47 0 (global-there g l .0) in
-      rw (e, lt-leb 36 (getD (t .records) g 0) d, word-none _ (λ s. getD (t .assignment) s 0) (getD (t .solverFromGlobal) g 0) n)
+  pub user-mark : c .user ≤ 4096
+  user-mark = mark-small (tableOf c gu (h .ug) sg (h .gs) a records) (h .sound)
 
-  pub value-false : (g : ℕ) → g < t .counts .global → getD (t .records) g 0 < 36 → getD (t .solverFromGlobal) g 0 ≡ 0
-      → unitOf (getD (t .records) g 0) ≡ 0 → 1 ≡ globalValue t g
-  value-false g l d n e = sym (rw (eq-eqb (unitOf (getD (t .records) g 0)) 0 e)) ∙ value-unit g l d n
+-- ---- the value of a global
 
-  pub value-own : (g : ℕ) → g < t .counts .global → getD (t .records) g 0 < 36 → getD (t .solverFromGlobal) g 0 ≡ 0
-      → (unitOf (getD (t .records) g 0) ≡ 0 → ⊥) → unitOf (getD (t .records) g 0) ≡ globalValue t g
-  value-own g l d n e = sym (rw (ne-eqb (unitOf (getD (t .records) g 0)) 0 e)) ∙ value-unit g l d n
+module _ (sg a records : List ℕ) (g : ℕ) (h : Readable sg a records g) where
+  pub value-deleted : 36 ≤ getD records g 0 → 0 ≡ valueOf sg a records g
+  unfolding valueOf
+  value-deleted d = rw (getD-default records g 47 0 (h .words), le-leb 36 (getD records g 0) d)
 
-  pub value-small : (s : ℕ) → getD (t .assignment) s 0 ≤ 2
-  value-small s = sound-of t h .values .small s
+  module _ (d : getD records g 0 < 36) where
+    pub value-held : (getD sg g 0 ≡ 0 → ⊥) → getD a (getD sg g 0 - 1) 0 ≡ valueOf sg a records g
+    unfolding valueOf
+    value-held n =
+        rw (getD-default records g 47 0 (h .words), lt-leb 36 (getD records g 0) d, word-some _ (λ s. getD a s 0) (getD sg g 0) (getD sg g 0 - 1) (omega arith))
+
+    module _ (n : getD sg g 0 ≡ 0) where
+      value-unit : pick (eqb (unitOf (getD records g 0)) 0) 1 (unitOf (getD records g 0)) ≡ valueOf sg a records g
+      unfolding valueOf
+      value-unit = rw (getD-default records g 47 0 (h .words), lt-leb 36 (getD records g 0) d, word-none _ (λ s. getD a s 0) (getD sg g 0) n)
+
+      pub value-false : unitOf (getD records g 0) ≡ 0 → 1 ≡ valueOf sg a records g
+      value-false e = sym (rw (eq-eqb (unitOf (getD records g 0)) 0 e)) ∙ value-unit
+
+      pub value-own : (unitOf (getD records g 0) ≡ 0 → ⊥) → unitOf (getD records g 0) ≡ valueOf sg a records g
+      value-own e = sym (rw (ne-eqb (unitOf (getD records g 0)) 0 e)) ∙ value-unit
 
 -- ---- the value of a user
 
-pub user-unmapped : (t : Table) (u : ℕ) → getD (t .globalFromUser) u 0 ≡ 0 → 0 ≡ userValue t u
-unfolding userValue
-user-unmapped t u e = sym (word-none 0 (globalValue t) (getD (t .globalFromUser) u 0) e)
+module _ (gu sg a records : List ℕ) (u : ℕ) where
+  pub user-unmapped : getD gu u 0 ≡ 0 → 0 ≡ userValue gu sg a records u
+  unfolding userValue
+  user-unmapped e = sym (word-none 0 (valueOf sg a records) (getD gu u 0) e)
 
-pub user-mapped : (t : Table) (u : ℕ) → (getD (t .globalFromUser) u 0 ≡ 0 → ⊥) → globalValue t (getD (t .globalFromUser) u 0 - 1) ≡ userValue t u
-unfolding userValue
-user-mapped t u n = sym (word-some 0 (globalValue t) (getD (t .globalFromUser) u 0) (getD (t .globalFromUser) u 0 - 1) (omega arith))
+  pub user-mapped : (getD gu u 0 ≡ 0 → ⊥) → valueOf sg a records (getD gu u 0 - 1) ≡ userValue gu sg a records u
+  unfolding userValue
+  user-mapped n = sym (word-some 0 (valueOf sg a records) (getD gu u 0) (getD gu u 0 - 1) (omega arith))

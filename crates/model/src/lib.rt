@@ -4,31 +4,19 @@ use scope::Global;
 use scope::User;
 use table::is_sound;
 ghost use mathlib.Core.Path.{_≡_};
-ghost use mathlib.Core.Bool.{true};
-ghost use Prim.Native.Nat.{_≤_, _<_};
+ghost use mathlib.Core.List.{[]};
+ghost use Prim.Native.Nat.{ℕ, _+_, _≤_, _<_};
 ghost use lib.ListN.{length, getD};
 ghost use Rattle.base.specs.Lent.{old, new, Fills};
-ghost use Rattle.scope.specs.Table.{word};
-ghost use Rattle.scope.specs.Sound.{soundb};
-ghost use Rattle.scope.specs.Contract.{given, before, quiet, Meets};
-ghost use Rattle.scope.specs.Models.{globalValue, globalModel, userModel, modelRefusal, modelOf};
-ghost use Rattle.model.specs.Values.{userValue};
+ghost use Rattle.scope.specs.Contract.{before, quiet, Meets};
+ghost use Rattle.scope.specs.Models.{globalModel, userModel, modelRefusal, modelOf};
+ghost use Rattle.model.specs.Values.{valueOf, userValue, Readable, readTable, OfSound};
 ghost use Rattle.model.specs.Answers.{modelled};
 
-// The value of a global below the watermark of a sound table, coded like the assignment.
-fn global_value(
-    c: Counts,
-    gu: &[u32],
-    ug: &[u32],
-    sg: &[u32],
-    gs: &[u32],
-    assignment: &[u32],
-    records: &[u32],
-    global: Global,
-) -> u32
-    requires { ⌜ soundb (given c gu ug sg gs assignment records) ≡ true ⌝ }
-    requires { ⌜ global .0 < c .global ⌝ }
-    ensures { λ r. ⌜ r ≡ globalValue (before c gu ug sg gs assignment records) (global .0) ⌝ }
+// The value of a global, coded like the assignment.
+fn global_value(sg: &[u32], assignment: &[u32], records: &[u32], global: Global) -> u32
+    requires { ⌜ Readable (now sg) (now assignment) (now records) (global .0) ⌝ }
+    ensures { λ r. ⌜ r ≡ valueOf (old sg) (old assignment) (old records) (global .0) ⌝ }
     ensures { λ r. ⌜ r ≤ 2 ⌝ }
 {
     let g = global.0 as usize;
@@ -45,46 +33,29 @@ fn global_value(
     if unit == 0 { 1 } else { unit }
 }
 
-// The value of a user below the watermark of a sound table: none if it is not mapped.
-fn user_value(
-    c: Counts,
-    gu: &[u32],
-    ug: &[u32],
-    sg: &[u32],
-    gs: &[u32],
-    assignment: &[u32],
-    records: &[u32],
-    user: User,
-) -> u32
-    requires { ⌜ soundb (given c gu ug sg gs assignment records) ≡ true ⌝ }
-    requires { ⌜ user .0 < c .user ⌝ }
-    ensures { λ r. ⌜ r ≡ userValue (before c gu ug sg gs assignment records) (user .0) ⌝ }
+// The value of a user: none if it is not mapped.
+fn user_value(gu: &[u32], sg: &[u32], assignment: &[u32], records: &[u32], user: User) -> u32
+    requires { ⌜ user .0 < length (now gu) ⌝ }
+    requires { ⌜ ((g : ℕ) → getD (now gu) (user .0) 0 ≡ g + 1 → Readable (now sg) (now assignment) (now records) g) ⌝ }
+    ensures { λ r. ⌜ r ≡ userValue (old gu) (old sg) (old assignment) (old records) (user .0) ⌝ }
     ensures { λ r. ⌜ r ≤ 2 ⌝ }
 {
     let w = gu[user.0 as usize];
     if w == 0 {
         return 0;
     }
-    global_value(c, gu, ug, sg, gs, assignment, records, Global(w - 1))
+    global_value(sg, assignment, records, Global(w - 1))
 }
 
 // How many users have a value.
-fn count_users(
-    c: Counts,
-    gu: &[u32],
-    ug: &[u32],
-    sg: &[u32],
-    gs: &[u32],
-    assignment: &[u32],
-    records: &[u32],
-) -> u32
-    requires { ⌜ soundb (given c gu ug sg gs assignment records) ≡ true ⌝ }
-    ensures { λ r. ⌜ r ≡ length (userModel (before c gu ug sg gs assignment records)) ⌝ }
+fn count_users(c: Counts, gu: &[u32], sg: &[u32], assignment: &[u32], records: &[u32]) -> u32
+    requires { ⌜ OfSound c (now gu) (now sg) (now assignment) (now records) ⌝ }
+    ensures { λ r. ⌜ r ≡ length (userModel (readTable c (old gu) (old sg) (old assignment) (old records))) ⌝ }
 {
     let mut k: u32 = 0;
     let mut u: u32 = 0;
     while u < c.user {
-        let v = user_value(c, gu, ug, sg, gs, assignment, records, User(u));
+        let v = user_value(gu, sg, assignment, records, User(u));
         if v != 0 {
             k += 1;
         }
@@ -96,21 +67,18 @@ fn count_users(
 // One word for each global below the watermark, on a sound table.
 fn reconstruct_global_model(
     c: Counts,
-    gu: &[u32],
-    ug: &[u32],
     sg: &[u32],
-    gs: &[u32],
     assignment: &[u32],
     records: &[u32],
     globals: &mut [u32],
 )
-    requires { ⌜ soundb (given c gu ug sg gs assignment records) ≡ true ⌝ }
+    requires { ⌜ ((g : ℕ) → g < c .global → Readable (now sg) (now assignment) (now records) g) ⌝ }
     requires { ⌜ c .global ≤ length (now globals) ⌝ }
-    ensures { λ _. ⌜ Fills globals 0 (globalModel (before c gu ug sg gs assignment records)) ⌝ }
+    ensures { λ _. ⌜ Fills globals 0 (globalModel (readTable c [] (old sg) (old assignment) (old records))) ⌝ }
 {
     let mut g: u32 = 0;
     while g < c.global {
-        globals[g as usize] = global_value(c, gu, ug, sg, gs, assignment, records, Global(g));
+        globals[g as usize] = global_value(sg, assignment, records, Global(g));
         g += 1;
     }
 }
@@ -119,22 +87,20 @@ fn reconstruct_global_model(
 fn fill_users(
     c: Counts,
     gu: &[u32],
-    ug: &[u32],
     sg: &[u32],
-    gs: &[u32],
     assignment: &[u32],
     records: &[u32],
     users: &mut [u32],
 ) -> u32
-    requires { ⌜ soundb (given c gu ug sg gs assignment records) ≡ true ⌝ }
-    requires { ⌜ length (userModel (given c gu ug sg gs assignment records)) ≤ length (now users) ⌝ }
-    ensures { λ r. ⌜ r ≡ length (userModel (before c gu ug sg gs assignment records)) ⌝ }
-    ensures { λ _. ⌜ Fills users 0 (userModel (before c gu ug sg gs assignment records)) ⌝ }
+    requires { ⌜ OfSound c (now gu) (now sg) (now assignment) (now records) ⌝ }
+    requires { ⌜ length (userModel (readTable c (now gu) (now sg) (now assignment) (now records))) ≤ length (now users) ⌝ }
+    ensures { λ r. ⌜ r ≡ length (userModel (readTable c (old gu) (old sg) (old assignment) (old records))) ⌝ }
+    ensures { λ _. ⌜ Fills users 0 (userModel (readTable c (old gu) (old sg) (old assignment) (old records))) ⌝ }
 {
     let mut k: u32 = 0;
     let mut u: u32 = 0;
     while u < c.user {
-        let v = user_value(c, gu, ug, sg, gs, assignment, records, User(u));
+        let v = user_value(gu, sg, assignment, records, User(u));
         if v != 0 {
             users[k as usize] = 2 * u + (2 - v);
             k += 1;
@@ -164,7 +130,7 @@ fn model_refusal(
     if globals < c.global as usize {
         return 2;
     }
-    let k = count_users(c, gu, ug, sg, gs, assignment, records);
+    let k = count_users(c, gu, sg, assignment, records);
     if users < k as usize {
         return 2;
     }
@@ -211,7 +177,7 @@ pub fn model(
     if n != 0 {
         return Modelled::Refused(n);
     }
-    reconstruct_global_model(c, gu, ug, sg, gs, assignment, records, globals);
-    let k = fill_users(c, gu, ug, sg, gs, assignment, records, users);
+    reconstruct_global_model(c, sg, assignment, records, globals);
+    let k = fill_users(c, gu, sg, assignment, records, users);
     Modelled::Done(c.global, k)
 }

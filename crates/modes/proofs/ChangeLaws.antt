@@ -18,10 +18,12 @@ use Rattle.scope.specs.Modes.{deleteIfUnused, show, hide, change}
 use Rattle.scope.proofs.PairLaws.{below-mark}
 use Rattle.scope.proofs.MoveLaws.{undeleted-below}
 use Rattle.scope.proofs.ModeLaws.{next-user-below}
-use Rattle.deletion.specs.Leaving.{Leaves, Room, Live}
-use Rattle.deletion.proofs.LeavingLaws.{leaves-then}
-use Rattle.deletion.proofs.DeletionLaws.{record-read}
-use Rattle.modes.specs.Asks.{AllMapped, There, Shows, Hides, Changes}
+use Rattle.changes.specs.Cursor.{AllMapped}
+use Rattle.changes.specs.Leaves.{Leaves, Room}
+use Rattle.changes.specs.Live.{Live}
+use Rattle.changes.proofs.LeavesLaws.{leaves-then}
+use Rattle.changes.proofs.DeletionLaws.{record-read, delete-any}
+use Rattle.modes.specs.Asks.{There, Shows, Hides}
 use Rattle.modes.proofs.NotesLaws.{there-live}
 
 -- the record with another mode, as the code reads it
@@ -32,8 +34,8 @@ module _ (t : Table) (g : ℕ) (h : There t g) where
   pub base-fits : getD (t .records) g 0 / 3 * 3 < 2 ^ 32
   base-fits = let e = record-read t g (there-live t g h .words) in let u = h .undeleted in omega arith
 
-  mode-read : (m : ℕ) → set (t .records) g (getD (t .records) g 0 / 3 * 3 + m) ≡ set (t .records) g (withMode (recordOf t g) m)
-  mode-read m = ap (λ (r : ℕ). set (t .records) g (withMode r m)) (record-read t g (there-live t g h .words))
+mode-read : (t : Table) (g m : ℕ) → g < length (t .records) → set (t .records) g (getD (t .records) g 0 / 3 * 3 + m) ≡ set (t .records) g (withMode (recordOf t g) m)
+mode-read t g m l = ap (λ (r : ℕ). set (t .records) g (withMode r m)) (record-read t g l)
 
 -- the last word of C fits
 pub yes-fits : (yes : Bool) → pick yes 1 0 < 2 ^ 32
@@ -42,62 +44,55 @@ yes-fits false = omega arith
 
 -- ---- C
 
-module _ (t : Table) (g m : ℕ) where
-  pub change-room : (at room : ℕ) → Room (change g m t) at room → at + 3 ≤ room
-  unfolding change
-  change-room at room r = let a = r .words in omega arith
-
-  pub change-leaves : Changes t g m → (at : ℕ) (words words2 : List ℕ) → words2 ≡ sets words at (3 ∷ g ∷ pick (eqb m 0) 1 0 ∷ [])
-      → Leaves (change g m t) at (at + 3)
-      (tableOf (t .counts) (t .globalFromUser) (t .userFromGlobal) (t .solverFromGlobal) (t .globalFromSolver) (t .assignment) (set (t .records) g (getD (t .records) g 0 / 3 * 3 + m))) words words2
-  unfolding change putRecord notesWords
-  change-leaves h at words words2 q = record {
-    table = ap (λ (l : List ℕ). tableOf (t .counts) (t .globalFromUser) (t .userFromGlobal) (t .solverFromGlobal) (t .globalFromSolver) (t .assignment) l) (mode-read t g (h .there) m);
-    noted = q;
-    moved = omega arith;
-  }
+pub change-leaves : (t : Table) (g m : ℕ) (records words words2 : List ℕ) → g < length (t .records)
+    → records ≡ set (t .records) g (withMode (getD (t .records) g 0) m) → words2 ≡ sets words 0 (3 ∷ g ∷ pick (eqb m 0) 1 0 ∷ [])
+    → Leaves (change g m t) 0 3 (tableOf (t .counts) (t .globalFromUser) (t .userFromGlobal) (t .solverFromGlobal) (t .globalFromSolver) (t .assignment) records) words words2
+unfolding change putRecord notesWords
+change-leaves t g m records words words2 l p q = record {
+  table = ap (λ (r : List ℕ). tableOf (t .counts) (t .globalFromUser) (t .userFromGlobal) (t .solverFromGlobal) (t .globalFromSolver) (t .assignment) r)
+      (p ∙ mode-read t g m l);
+  noted = q;
+  moved = omega arith;
+}
 
 -- ---- C and U
 
-module _ (t : Table) (g m : ℕ) where
-  pub show-room : (at room : ℕ) → Room (show g m t) at room → at + 6 ≤ room
-  unfolding show
-  show-room at room r = let a = r .words in omega arith
+module _ (t : Table) (g m from : ℕ) (h : Shows t g m from) where
+  pub show-next : (t .counts .user ≤ length (t .globalFromUser)) × AllMapped (t .globalFromUser) (t .counts .user) from
+  show-next = let z = h .there .sound .sizes in (omega arith, h .mapped)
 
-  pub show-next : (from : ℕ) → Shows t g m from → (t .counts .user ≤ length (t .globalFromUser)) × AllMapped (t .globalFromUser) (t .counts .user) from
-  show-next from h = let z = h .there .sound .sizes in (omega arith, h .mapped)
+  -- user indices never run out first
+  pub show-fits : (u : ℕ) → u ≡ leastFree (t .globalFromUser) (t .counts .user)
+      → (u < length (t .globalFromUser)) × ((g < length (t .userFromGlobal)) × ((u < t .counts .capacity) × (g < t .counts .capacity)))
+  unfolding nextUser
+  show-fits u e =
+      let w = h .there in
+      let z = w .sound .sizes in
+      let l = undeleted-below t g (w .sound) (w .undeleted) in
+      let k = next-user-below t g (w .sound) (w .undeleted) (h .hidden) in
+      omega arith
 
-  module _ (from : ℕ) (h : Shows t g m from) (u : ℕ) (e : u ≡ leastFree (t .globalFromUser) (t .counts .user)) where
-    pub show-user : u ≡ nextUser t
-    unfolding nextUser
-    show-user = e
+module _ (t : Table) (g m : ℕ) (l : g < length (t .records)) (u : ℕ) (e : u ≡ leastFree (t .globalFromUser) (t .counts .user))
+    (d : Counts) (gu ug : List ℕ) (p : (d ≡ coverUser (t .counts) u g) × ((gu ≡ set (t .globalFromUser) u (g + 1)) × (ug ≡ set (t .userFromGlobal) g (u + 1)))) where
+  shown-is : tableOf d gu ug (t .solverFromGlobal) (t .globalFromSolver) (t .assignment) (set (t .records) g (getD (t .records) g 0 / 3 * 3 + m)) ≡ giveUser g u (withMode (recordOf t g) m) t
+  unfolding giveUser
+  shown-is = λ i. tableOf (p .0 i) (p .1 .0 i) (p .1 .1 i) (t .solverFromGlobal) (t .globalFromSolver) (t .assignment) (mode-read t g m l i)
 
-    -- user indices never run out first
-    pub show-asks : (u < length (t .globalFromUser)) × ((g < length (t .userFromGlobal)) × ((u < t .counts .capacity) × (g < t .counts .capacity)))
-    show-asks =
-        let w = h .there in
-        let z = w .sound .sizes in
-        let l = undeleted-below t g (w .sound) (w .undeleted) in
-        let k = next-user-below t g (w .sound) (w .undeleted) (h .hidden) in
-        let i = show-user in
-        omega arith
+  next-user-is : u ≡ nextUser t
+  unfolding nextUser
+  next-user-is = e
 
-    module _ (d : Counts) (gu ug : List ℕ) (p : (d ≡ coverUser (t .counts) u g) × ((gu ≡ set (t .globalFromUser) u (g + 1)) × (ug ≡ set (t .userFromGlobal) g (u + 1)))) where
-      shown-is : tableOf d gu ug (t .solverFromGlobal) (t .globalFromSolver) (t .assignment) (set (t .records) g (getD (t .records) g 0 / 3 * 3 + m)) ≡ giveUser g u (withMode (recordOf t g) m) t
-      unfolding giveUser
-      shown-is = λ i. tableOf (p .0 i) (p .1 .0 i) (p .1 .1 i) (t .solverFromGlobal) (t .globalFromSolver) (t .assignment) (mode-read t g (h .there) m i)
-
-      pub show-leaves : (at : ℕ) (words words2 words3 : List ℕ) → words2 ≡ sets words at (3 ∷ g ∷ pick (eqb m 0) 1 0 ∷ []) → words3 ≡ sets words2 (at + 3) (0 ∷ g ∷ (u + 1) ∷ [])
-          → Leaves (show g m t) at (at + 6) (tableOf d gu ug (t .solverFromGlobal) (t .globalFromSolver) (t .assignment) (set (t .records) g (getD (t .records) g 0 / 3 * 3 + m))) words words3
-      unfolding show notesWords
-      show-leaves at words words2 words3 q r = record {
-        table = shown-is ∙ ap (λ (v : ℕ). giveUser g v (withMode (recordOf t g) m) t) show-user;
-        noted = r
-            ∙ ap (λ (l : List ℕ). sets l (at + 3) (0 ∷ g ∷ (u + 1) ∷ [])) q
-            ∙ sym (sets-append (3 ∷ g ∷ pick (eqb m 0) 1 0 ∷ []) (0 ∷ g ∷ (u + 1) ∷ []) words at)
-            ∙ ap (λ (v : ℕ). sets words at (3 ∷ g ∷ pick (eqb m 0) 1 0 ∷ 0 ∷ g ∷ (v + 1) ∷ [])) show-user;
-        moved = omega arith;
-      }
+  pub show-leaves : (at : ℕ) (words words2 words3 : List ℕ) → words2 ≡ sets words at (3 ∷ g ∷ pick (eqb m 0) 1 0 ∷ []) → words3 ≡ sets words2 (at + 3) (0 ∷ g ∷ (u + 1) ∷ [])
+      → Leaves (show g m t) at (at + 6) (tableOf d gu ug (t .solverFromGlobal) (t .globalFromSolver) (t .assignment) (set (t .records) g (getD (t .records) g 0 / 3 * 3 + m))) words words3
+  unfolding show notesWords
+  show-leaves at words words2 words3 q r = record {
+    table = shown-is ∙ ap (λ (v : ℕ). giveUser g v (withMode (recordOf t g) m) t) next-user-is;
+    noted = r
+        ∙ ap (λ (l : List ℕ). sets l (at + 3) (0 ∷ g ∷ (u + 1) ∷ [])) q
+        ∙ sym (sets-append (3 ∷ g ∷ pick (eqb m 0) 1 0 ∷ []) (0 ∷ g ∷ (u + 1) ∷ []) words at)
+        ∙ ap (λ (v : ℕ). sets words at (3 ∷ g ∷ pick (eqb m 0) 1 0 ∷ 0 ∷ g ∷ (v + 1) ∷ [])) next-user-is;
+    moved = omega arith;
+  }
 
 -- ---- U(g,-), and D if unused
 
@@ -130,7 +125,7 @@ module _ (t : Table) (g : ℕ) where
 
       mid-is : mid ≡ takeUser g (getD (t .userFromGlobal) g 0 - 1) (withMode (recordOf t g) 2) t
       unfolding mid takeUser
-      mid-is = λ i. tableOf (p .0 i) (p .1 .0 i) (p .1 .1 i) (t .solverFromGlobal) (t .globalFromSolver) (t .assignment) (mode-read t g (h .there) 2 i)
+      mid-is = λ i. tableOf (p .0 i) (p .1 .0 i) (p .1 .1 i) (t .solverFromGlobal) (t .globalFromSolver) (t .assignment) (mode-read t g 2 (there-live t g (h .there) .words) i)
 
       withdrawn-leaves : (at : ℕ) (words words2 : List ℕ) → words2 ≡ sets words at (0 ∷ g ∷ 0 ∷ []) → Leaves (withdrawn g t) at (at + 3) mid words words2
       unfolding notesWords
@@ -142,8 +137,7 @@ module _ (t : Table) (g : ℕ) where
       unfolding hide mid
       hide-leaves at next left words words2 words3 q k = leaves-then (deleteIfUnused g) (withdrawn-leaves at words words2 q) k
 
-      live : Live mid g
-      unfolding mid
+      live : Live ug (t .solverFromGlobal) (set (t .records) g (getD (t .records) g 0 / 3 * 3 + 2)) g
       live =
           let l = there-live t g (h .there) in
           let x : length ug ≡ length (t .userFromGlobal) = ap length (p .1 .1) ∙ length-set (t .userFromGlobal) g 0 in
@@ -154,7 +148,11 @@ module _ (t : Table) (g : ℕ) where
           record { user = omega arith; solver = l .solver; words = omega arith; small = l .small; undeleted = omega arith }
 
       pub hide-delete : (at room room2 : ℕ) → Room (hide g t) at room → room2 ≡ room
-          → Live (tableOf d gu ug (t .solverFromGlobal) (t .globalFromSolver) (t .assignment) (set (t .records) g (getD (t .records) g 0 / 3 * 3 + 2))) g
-          × Room (deleteIfUnused g (tableOf d gu ug (t .solverFromGlobal) (t .globalFromSolver) (t .assignment) (set (t .records) g (getD (t .records) g 0 / 3 * 3 + 2)))) (at + 3) room2
+          → Live ug (t .solverFromGlobal) (set (t .records) g (getD (t .records) g 0 / 3 * 3 + 2)) g
+          × ((gu2 gs a : List ℕ) → Room (deleteIfUnused g (tableOf d gu2 ug (t .solverFromGlobal) gs a (set (t .records) g (getD (t .records) g 0 / 3 * 3 + 2)))) (at + 3) room2)
       unfolding hide mid
-      hide-delete at room room2 r q = (live, subst (λ (u : Table). Room (deleteIfUnused g u) (at + 3) room2) (sym mid-is) (let a = r .words in record { words = omega arith }))
+      hide-delete at room room2 r q = (
+        live,
+        delete-any g mid (at + 3) room2
+            (subst (λ (u : Table). Room (deleteIfUnused g u) (at + 3) room2) (sym mid-is) (let a = r .words in record { words = omega arith })),
+      )

@@ -10,7 +10,7 @@ use borrow.Author.Tests.{ne-eqb}
 use Rattle.base.proofs.Truth.{same}
 use Rattle.scope.specs.Table.{leastFree}
 use Rattle.scope.proofs.PairLaws.{free-before}
-use Rattle.modes.specs.Asks.{AllMapped}
+use Rattle.changes.specs.Cursor.{AllMapped}
 
 pub mapped-more : (xs : List ℕ) (mark u v : ℕ) → u ≡ leastFree xs mark → u < length xs → AllMapped (set xs u (v + 1)) (max mark (u + 1)) (u + 1)
 mapped-more xs mark u v e l =

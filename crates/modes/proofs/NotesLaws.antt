@@ -2,20 +2,19 @@
 use Prim.Native.Nat.{ℕ, suc, _+_, _%_, _-_, _≤_}
 use mathlib.Core.Path.{_≡_, refl, ap, _∙_}
 use mathlib.Core.Bool.{Bool, true, false, _&&_}
-use mathlib.Core.List.{List, [], _∷_}
+use mathlib.Core.List.{[]}
 use native.Mathlib.Omega.{arith}
 use lib.Dec.{eqb}
 use lib.ListN.{length, getD}
 use lib.Seq.{getD-set-same}
 use borrow.Author.Tests.{eq-eqb, ne-eqb}
 use Rattle.base.specs.Choice.{pick}
-use Rattle.scope.specs.Table.{Table, modeOf, isolatedOf, recordOf, withMode, takeUser, dropGlobal}
-use Rattle.scope.specs.Notes.{deletes}
+use Rattle.scope.specs.Table.{Table, modeOf, isolatedOf, recordOf, withMode, takeUser}
 use Rattle.scope.specs.Outcome.{stay, choose}
-use Rattle.scope.specs.Modes.{isUnused, deleteIfUnused, show, hide, change, setMode}
+use Rattle.scope.specs.Modes.{isUnused, show, hide, change, setMode}
 use Rattle.scope.proofs.MoveLaws.{undeleted-below}
-use Rattle.deletion.specs.Leaving.{Live}
-use Rattle.deletion.proofs.DeletionLaws.{cleared}
+use Rattle.changes.specs.Live.{Live}
+use Rattle.changes.proofs.DeletionLaws.{cleared, delete-notes}
 use Rattle.modes.specs.Asks.{There}
 use Rattle.modes.specs.Counting.{modeNotes}
 
@@ -43,9 +42,9 @@ module _ (solver w m : ℕ) where
     unfolding modeNotes
     notes-change k e = rw (ne-eqb _ _ n, ne-eqb _ _ k, ne-eqb _ _ e)
 
-pub notes-few : (solver w m : ℕ) → modeNotes solver w m ≤ 2
+pub mode-notes-few : (solver w m : ℕ) → modeNotes solver w m ≤ 2
 unfolding modeNotes
-notes-few solver w m = go (eqb (w % 3) m) (eqb m 2) (eqb solver 0 && eqb (isolatedOf w) 1) (eqb (w % 3) 2)
+mode-notes-few solver w m = go (eqb (w % 3) m) (eqb m 2) (eqb solver 0 && eqb (isolatedOf w) 1) (eqb (w % 3) 2)
   where
     go : (a b d e : Bool) → pick a 0 (pick b (pick d 2 1) (pick e 2 1)) ≤ 2
     go true b d e = omega arith
@@ -56,7 +55,7 @@ notes-few solver w m = go (eqb (w % 3) m) (eqb m 2) (eqb solver 0 && eqb (isolat
 
 -- ---- a global that is there
 
-pub there-live : (t : Table) (g : ℕ) → There t g → Live t g
+pub there-live : (t : Table) (g : ℕ) → There t g → Live (t .userFromGlobal) (t .solverFromGlobal) (t .records) g
 there-live t g h =
     let z = h .sound .sizes in
     let l = undeleted-below t g (h .sound) (h .undeleted) in
@@ -73,19 +72,10 @@ module _ (t : Table) (g : ℕ) (h : There t g) where
       let e : isolatedOf (withMode (recordOf t g) 2) ≡ isolatedOf (recordOf t g) = omega arith in
       rw (cleared (t .userFromGlobal) g, r, e)
 
-  -- D or none
-  delete-notes : (u : Table) → length (deleteIfUnused g u .notes) ≡ pick (isUnused u g) 1 0
-  unfolding deleteIfUnused choose
-  delete-notes u = go (isUnused u g)
-    where
-      go : (b : Bool) → length (choose {A = List ℕ} b (record { value = []; table = dropGlobal g u; notes = deletes g ∷ [] }) (stay [] u) .notes) ≡ pick b 1 0
-      go true = refl
-      go false = refl
-
   hide-notes : length (hide g t .notes) ≡ pick (eqb (getD (t .solverFromGlobal) g 0) 0 && eqb (isolatedOf (recordOf t g)) 1) 2 1
   unfolding hide
   hide-notes =
-      ap suc (delete-notes (takeUser g (getD (t .userFromGlobal) g 0 - 1) (withMode (recordOf t g) 2) t))
+      ap suc (delete-notes g (takeUser g (getD (t .userFromGlobal) g 0 - 1) (withMode (recordOf t g) 2) t))
       ∙ ap (λ (b : Bool). suc (pick b 1 0)) (unused-without (getD (t .userFromGlobal) g 0 - 1))
       ∙ go (eqb (getD (t .solverFromGlobal) g 0) 0 && eqb (isolatedOf (recordOf t g)) 1)
     where

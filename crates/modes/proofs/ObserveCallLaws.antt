@@ -21,13 +21,15 @@ use Rattle.scope.specs.Contract.{Does}
 use Rattle.scope.proofs.SoundLaws.{sound-of}
 use Rattle.scope.proofs.ResultLaws.{past}
 use Rattle.scope.proofs.ModeLaws.{Observed as Seen, observe-passed}
-use Rattle.deletion.specs.Leaving.{Leaves, Room}
-use Rattle.deletion.proofs.LeavingLaws.{leaves-length, turns-none, turns-more, turns-room}
-use Rattle.deletion.proofs.CallLaws.{call-refused, call-accepted, refused-words, accepted-words}
-use Rattle.modes.specs.Asks.{AllMapped, Filled, Observes, ObservesAll}
+use Rattle.changes.specs.Cursor.{AllMapped}
+use Rattle.changes.specs.Leaves.{Leaves, Room}
+use Rattle.changes.proofs.CursorLaws.{cursor-start}
+use Rattle.changes.proofs.LeavesLaws.{leaves-length, notes-told, notes-fit, SameSizes, same-sizes}
+use Rattle.changes.proofs.TurnLaws.{turns-none, turns-more, turns-room}
+use Rattle.changes.proofs.CallLaws.{call-refused, call-accepted, refused-words, accepted-words}
+use Rattle.modes.specs.Asks.{Filled, Observes, ObservesAll}
 use Rattle.modes.specs.declared.Observed.the-variants.{Done, Refused}
 use Rattle.modes.specs.Answers.{observed}
-use Rattle.inner.proofs.CursorLaws.{passed-none}
 use Rattle.modes.proofs.HiddenLaws.{fine, hiddenAt}
 use Rattle.modes.proofs.ObserveLaws.{observe-count, filled-none, filled-more, values-up, values-more}
 
@@ -48,8 +50,8 @@ module _ (t : Table) (outs room : ℕ) where
     observe-7 b e q = rw (y, sym e ∙ q)
 
     module _ (b : Bool) (e : b ≡ allBelow (t .counts .global) (fine (t .records))) (q : b ≡ true) (n : ℕ) (k : n ≡ count (t .counts .global) (hiddenAt (t .records))) where
-      short-is : (ltb outs (length (observe t .value)) || ltb room (3 * length (observe t .notes))) ≡ (ltb outs n || ltb room (6 * n))
-      short-is =
+      observe-short : (ltb outs (length (observe t .value)) || ltb room (3 * length (observe t .notes))) ≡ (ltb outs n || ltb room (6 * n))
+      observe-short =
           let x = observe-count t (sound-of t y) in
           let v : length (observe t .value) ≡ n = omega arith in
           let w : 3 * length (observe t .notes) ≡ 6 * n = omega arith in
@@ -57,11 +59,11 @@ module _ (t : Table) (outs room : ℕ) where
 
       pub observe-2 : ltb outs n || ltb room (6 * n) ≡ true → 2 ≡ observeRefusal t outs room
       unfolding observeRefusal
-      observe-2 r = rw (y, sym e ∙ q, short-is, r)
+      observe-2 r = rw (y, sym e ∙ q, observe-short, r)
 
       pub observe-0 : ltb outs n || ltb room (6 * n) ≡ false → 0 ≡ observeRefusal t outs room
       unfolding observeRefusal
-      observe-0 r = rw (y, sym e ∙ q, short-is, r)
+      observe-0 r = rw (y, sym e ∙ q, observe-short, r)
 
 -- ---- the loop
 
@@ -73,15 +75,7 @@ pub record Observing (t : Table) (g from n at : ℕ) (left : Table) (users users
 
 pub observing-none : (t : Table) (users words : List ℕ) → Observing t 0 0 0 0 t users users words words
 observing-none t users words =
-    record { leaves = turns-none observeOne t words; filled = filled-none t users; mapped = passed-none _ _ }
-
--- the lengths are as they were
-pub record SameSizes (t left : Table) (users users2 words words2 : List ℕ) : Type 0 where
-  pub globalFromUser : length (left .globalFromUser) ≡ length (t .globalFromUser)
-  pub userFromGlobal : length (left .userFromGlobal) ≡ length (t .userFromGlobal)
-  pub records : length (left .records) ≡ length (t .records)
-  pub filled : length users2 ≡ length users
-  pub notes : length words2 ≡ length words
+    record { leaves = turns-none observeOne t words; filled = filled-none t users; mapped = cursor-start _ _ }
 
 module _ (t : Table) (g from n at : ℕ) (left : Table) (users users2 words words2 : List ℕ) (h : Observing t g from n at left users users2 words words2) where
   pub observing-more : (from2 n2 at2 : ℕ) (left2 : Table) (users3 words3 : List ℕ)
@@ -92,6 +86,9 @@ module _ (t : Table) (g from n at : ℕ) (left : Table) (users users2 words word
     filled = filled-more t g n n2 left users users2 users3 (h .leaves .table) (h .filled) (k .1 .0);
     mapped = k .1 .1;
   }
+
+  pub observing-users : length users2 ≡ length users
+  observing-users = ap length (h .filled .values) ∙ length-sets users 0 (each g observeOne t .value)
 
   module _ (outs room : ℕ) (a : ObservesAll t outs room) where
     pub observing-asks : outs ≡ length users → room ≡ length words → g < t .counts .global → Observes left g from n (length users2) × Room (observeOne g left) at (length words2)
@@ -113,24 +110,17 @@ module _ (t : Table) (g from n at : ℕ) (left : Table) (users users2 words word
             let u = values-up t (g + 1) (t .counts .global) (omega arith) in
             let v = values-more t g in
             let w = ap (λ (s : Table). length (observeOne g s .value)) (h .leaves .table) in
-            let x = ap length (h .filled .values) ∙ length-sets users 0 (each g observeOne t .value) in
+            let x = observing-users in
             let y = a .users in
             omega arith
 
-    pub observing-sizes : SameSizes t left users users2 words words2
+    pub observing-sizes : SameSizes t left words words2
     observing-sizes =
         let o = observe-passed t (a .sound) g in
-        let z = a .sound .sizes in
         let x = subst (λ (s : Table). Sizes s) (sym (h .leaves .table)) (o .sound .sizes) in
         let c = ap (λ (s : Table). s .counts .capacity) (h .leaves .table) in
         let k = o .same .capacity in
-        record {
-          globalFromUser = omega arith;
-          userFromGlobal = omega arith;
-          records = omega arith;
-          filled = ap length (h .filled .values) ∙ length-sets users 0 (each g observeOne t .value);
-          notes = leaves-length (each g observeOne t) 0 at left words words2 (h .leaves);
-        }
+        same-sizes t left words words2 (a .sound .sizes) x (omega arith) (leaves-length (each g observeOne t) 0 at left words words2 (h .leaves))
 
   pub observing-end : g ≡ t .counts .global → Leaves (observe t) 0 at left words words2 × Filled (observe t) 0 n users users2
   unfolding observe
@@ -166,18 +156,16 @@ module _ (t : Table) (outs room n : ℕ) (e : n ≡ observeRefusal t outs room) 
       let x = observe-count t s in
       let m = count-most (t .counts .global) (hiddenAt (t .records)) in
       let w = s .sizes in
-      let a = h .0 .moved in
       let b = h .1 .moved in
-      omega arith
+      (omega arith, notes-fit (h .0) (omega arith))
 
   pub observe-does : (k at : ℕ) (d : Counts) (left : Table) (users users2 words words2 : List ℕ) → Leaves (observe t) 0 at left words words2 × Filled (observe t) 0 k users users2
       → Does (observeOf t outs room) (observed (Done k d (at / 3)) d) left words words2 × (users2 ≡ sets users 0 (observeOf t outs room .words))
   unfolding observeOf
   observe-does k at d left users users2 words words2 h =
-      let a = h .0 .moved in
       let b = h .1 .moved in
       let p : k ≡ length (observe t .value) = omega arith in
-      let q : at / 3 ≡ length (observe t .notes) = omega arith in (
+      let q = notes-told (h .0) in (
         call-accepted (observeRefusal t outs room) n t _ _ left words words2 e z
             (record { answer = λ i. accepted (p i ∷ q i ∷ []); table = h .0 .table; noted = h .0 .noted }),
         h .1 .values ∙ ap (sets users 0) (sym (accepted-words (observeRefusal t outs room) n t _ e z)),

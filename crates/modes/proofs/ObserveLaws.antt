@@ -19,10 +19,12 @@ use Rattle.scope.specs.Map.{nextUser}
 use Rattle.scope.specs.Modes.{show, isHidden, observeOne, observe}
 use Rattle.scope.proofs.ResultLaws.{each-zero, each-value, each-notes, choose-then, choose-else}
 use Rattle.scope.proofs.ModeLaws.{hidden-of, next-user-below, observe-passed}
-use Rattle.deletion.specs.Leaving.{Leaves, Room}
-use Rattle.deletion.proofs.LeavingLaws.{leaves-stay}
-use Rattle.deletion.proofs.DeletionLaws.{record-read}
-use Rattle.modes.specs.Asks.{AllMapped, There, Shows, Filled, Observes}
+use Rattle.changes.specs.Cursor.{AllMapped}
+use Rattle.changes.specs.Leaves.{Leaves, Room}
+use Rattle.changes.specs.Solvers.{solversOf}
+use Rattle.changes.proofs.LeavesLaws.{leaves-stay}
+use Rattle.changes.proofs.DeletionLaws.{record-read}
+use Rattle.modes.specs.Asks.{There, ShowAsks, Filled, Observes}
 use Rattle.modes.proofs.CursorLaws.{mapped-more}
 use Rattle.modes.proofs.HiddenLaws.{one, hiddenAt, count-next}
 
@@ -125,42 +127,41 @@ module _ (t : Table) (g from n outs : ℕ) (h : Observes t g from n outs) where
       there : There t g
       there = record { sound = h .sound; undeleted = hidden-of (recordOf t g) (hidden-is ∙ q) .0 }
 
-      pub one-asks : (at room : ℕ) → Room (observeOne g t) at room → Shows t g 1 from × Room (show g 1 t) at room
-      one-asks at room r = (
-        record { there = there; hidden = hidden-of (recordOf t g) (hidden-is ∙ q) .1; mode = omega arith; mapped = h .mapped },
-        subst (λ (x : Result (List ℕ)). Room x at room) shows r,
-      )
+      pub one-asks : (at room : ℕ) → Room (observeOne g t) at room → ShowAsks (t .counts) (t .globalFromUser) (t .userFromGlobal) (t .records) g 1 from at room
+      unfolding show
+      one-asks at room r =
+          let w = subst (λ (x : Result (List ℕ)). Room x at room) shows r .words in
+          record {
+            solvers = solversOf t;
+            shows = record { there = there; hidden = hidden-of (recordOf t g) (hidden-is ∙ q) .1; mode = omega arith; mapped = h .mapped };
+            words = omega arith;
+          }
 
       -- there is a place for the user
       pub one-room : n < outs
       unfolding show
       one-room = let w = h .words in let x = ap (λ (y : Result (List ℕ)). length (y .value)) shows in omega arith
 
-      next-small : nextUser t < 4096
-      next-small =
-          let k = next-user-below t g (h .sound) (there .undeleted) (hidden-of (recordOf t g) (hidden-is ∙ q) .1) in
-          let z = h .sound .sizes in
-          omega arith
+      next-below : (u : ℕ) → u ≡ leastFree (t .globalFromUser) (t .counts .user) → u < t .counts .capacity
+      unfolding nextUser
+      next-below u p = let k = next-user-below t g (h .sound) (there .undeleted) (hidden-of (recordOf t g) (hidden-is ∙ q) .1) in omega arith
 
-      pub one-small : (u : ℕ) → u ≡ nextUser t → u < 4096
-      one-small u p = let l = next-small in omega arith
+      pub one-small : (u : ℕ) → u ≡ leastFree (t .globalFromUser) (t .counts .user) → u < 4096
+      one-small u p = let l = next-below u p in let z = h .sound .sizes in omega arith
 
-      after-mapped : (u : ℕ) (left : Table) → u ≡ nextUser t → left ≡ show g 1 t .table → AllMapped (left .globalFromUser) (left .counts .user) (u + 1)
+      after-mapped : (u : ℕ) (left : Table) → u ≡ leastFree (t .globalFromUser) (t .counts .user) → left ≡ show g 1 t .table → AllMapped (left .globalFromUser) (left .counts .user) (u + 1)
       unfolding show giveUser nextUser
       after-mapped u left p k =
+          let z = h .sound .sizes in
+          let l = next-below u p in
           subst (λ (s : Table). AllMapped (s .globalFromUser) (s .counts .user) (u + 1)) (sym k)
           (subst (λ (v : ℕ). AllMapped (set (t .globalFromUser) v (g + 1)) (max (t .counts .user) (v + 1)) (u + 1)) p
-          (mapped-more (t .globalFromUser) (t .counts .user) u g p (small u p)))
-        where
-          small : (u : ℕ) → u ≡ leastFree (t .globalFromUser) (t .counts .user) → u < length (t .globalFromUser)
-          small u p =
-              let k = next-user-below t g (h .sound) (there .undeleted) (hidden-of (recordOf t g) (hidden-is ∙ q) .1) in
-              let z = h .sound .sizes in
-              omega arith
+          (mapped-more (t .globalFromUser) (t .counts .user) u g p (omega arith)))
 
-      pub one-shows : (at next u from : ℕ) (left : Table) (words words2 users : List ℕ) → Leaves (show g 1 t) at next left words words2 → u ≡ nextUser t → from ≡ u + 1
+      pub one-shows : (at next u from : ℕ) (left : Table) (words words2 users : List ℕ) → Leaves (show g 1 t) at next left words words2
+          → u ≡ leastFree (t .globalFromUser) (t .counts .user) → from ≡ u + 1
           → Leaves (observeOne g t) at next left words words2 × (Filled (observeOne g t) n (n + 1) users (set users n u) × AllMapped (left .globalFromUser) (left .counts .user) from)
-      unfolding show
+      unfolding show nextUser
       one-shows at next u from left words words2 users k p e = (
         subst (λ (x : Result (List ℕ)). Leaves x at next left words words2) (sym shows) k,
         (

@@ -5,13 +5,15 @@ use mathlib.Core.Bool.{true, false, not}
 use mathlib.Core.List.{List, [], _∷_}
 use native.Mathlib.Omega.{arith}
 use lib.Dec.{eqb, ltb, leb}
-use lib.ListN.{length, getD}
+use lib.ListN.{length, getD, set}
+use lib.Seq.{sets}
 use borrow.Author.Tests.{eq-eqb, ne-eqb, lt-ltb, le-ltb, le-leb, lt-leb, leb-false, ltb-false, not-false}
 use Rattle.scope.specs.declared.Counts.{Counts}
 use Rattle.scope.specs.declared.User.{User}
 use Rattle.scope.specs.declared.SamplingMode.{SamplingMode}
 use Rattle.scope.specs.declared.SamplingMode.the-variants.{Sample, Witness, Hide}
-use Rattle.scope.specs.Table.{Table, modeOf, assumedOf, isDeleted, recordOf}
+use Rattle.base.specs.Choice.{pick}
+use Rattle.scope.specs.Table.{Table, tableOf, modeOf, assumedOf, isDeleted, recordOf, withMode, leastFree}
 use Rattle.scope.specs.Sound.{soundb}
 use Rattle.scope.specs.Outcome.{Result, stay, noting}
 use Rattle.scope.specs.Map.{nextUser}
@@ -19,16 +21,18 @@ use Rattle.scope.specs.Modes.{modeNumber, isUnused, deleteIfUnused, show, hide,
 use Rattle.scope.specs.Contract.{Said, Does}
 use Rattle.scope.proofs.SoundLaws.{sound-of}
 use Rattle.scope.proofs.ResultLaws.{past, by-choose, choose-then, choose-else}
-use Rattle.deletion.specs.Leaving.{Leaves, Room}
-use Rattle.deletion.proofs.LeavingLaws.{leaves-stay}
-use Rattle.deletion.proofs.CallLaws.{call-refused, call-accepted, call-noted}
-use Rattle.deletion.proofs.DeletionLaws.{record-read}
-use Rattle.inner.proofs.CursorLaws.{passed-none}
-use Rattle.modes.specs.Asks.{There, Shows, Hides, Changes, Sets}
+use Rattle.changes.specs.Leaves.{Leaves, Room}
+use Rattle.changes.specs.Solvers.{solversOf}
+use Rattle.changes.proofs.CursorLaws.{cursor-start}
+use Rattle.changes.proofs.LeavesLaws.{leaves-stay, notes-fit}
+use Rattle.changes.proofs.CallLaws.{call-refused, call-accepted, call-noted}
+use Rattle.changes.proofs.DeletionLaws.{record-read}
+use Rattle.modes.specs.Asks.{There, ShowAsks, Hides, Sets}
 use Rattle.modes.specs.Counting.{modeNotes}
 use Rattle.modes.specs.declared.ModeSet.the-variants.{Done, Shown, Refused}
 use Rattle.modes.specs.Answers.{modeSet}
-use Rattle.modes.proofs.NotesLaws.{there-live, mode-notes, notes-few}
+use Rattle.modes.proofs.NotesLaws.{there-live, mode-notes, mode-notes-few}
+use Rattle.modes.proofs.ChangeLaws.{change-leaves}
 
 -- ---- refusals
 
@@ -68,11 +72,11 @@ module _ (t : Table) (g : ℕ) (mode : SamplingMode) (room : ℕ) where
         set-7 a = let e = read in rw (y, lt-leb _ _ l, lt-leb 36 (recordOf t g) (omega arith), eq-eqb (assumedOf (recordOf t g)) 1 (omega arith))
 
         module _ (a : getD (t .records) g 0 / 18 % 2 ≡ 1 → ⊥) (m : ℕ) (e : m ≡ modeNumber mode) (n : ℕ) (q : n ≡ modeNotes (getD (t .solverFromGlobal) g 0) (getD (t .records) g 0) m) where
-          free : eqb (assumedOf (recordOf t g)) 1 ≡ false
-          free = let x = read in ne-eqb (assumedOf (recordOf t g)) 1 (λ z. a (omega arith))
+          unassumed : eqb (assumedOf (recordOf t g)) 1 ≡ false
+          unassumed = let x = read in ne-eqb (assumedOf (recordOf t g)) 1 (λ z. a (omega arith))
 
-          counted : length (setMode g (modeNumber mode) t .notes) ≡ n
-          counted =
+          notes-are : length (setMode g (modeNumber mode) t .notes) ≡ n
+          notes-are =
               mode-notes t g set-there (modeNumber mode)
               ∙ ap (λ (r : ℕ). modeNotes (getD (t .solverFromGlobal) g 0) r (modeNumber mode)) (sym read)
               ∙ ap (modeNotes (getD (t .solverFromGlobal) g 0) (getD (t .records) g 0)) (sym e)
@@ -80,11 +84,11 @@ module _ (t : Table) (g : ℕ) (mode : SamplingMode) (room : ℕ) where
 
           pub set-2 : room < 3 * n → 2 ≡ setModeRefusal t g mode room
           unfolding setModeRefusal
-          set-2 w = let x = read in rw (y, lt-leb _ _ l, lt-leb 36 (recordOf t g) (omega arith), free, counted, lt-ltb _ _ w)
+          set-2 w = let x = read in rw (y, lt-leb _ _ l, lt-leb 36 (recordOf t g) (omega arith), unassumed, notes-are, lt-ltb _ _ w)
 
           pub set-0 : 3 * n ≤ room → 0 ≡ setModeRefusal t g mode room
           unfolding setModeRefusal
-          set-0 w = let x = read in rw (y, lt-leb _ _ l, lt-leb 36 (recordOf t g) (omega arith), free, counted, le-ltb _ _ w)
+          set-0 w = let x = read in rw (y, lt-leb _ _ l, lt-leb 36 (recordOf t g) (omega arith), unassumed, notes-are, le-ltb _ _ w)
 
 -- ---- the call
 
@@ -129,11 +133,10 @@ module _ (t : Table) (g m room : ℕ) (h : Sets t g m room) where
   -- notes fit
   pub set-fits : (x : Result (List ℕ)) → setMode g m t ≡ x → (next : ℕ) (left : Table) (words words2 : List ℕ) → Leaves x 0 next left words words2 → next / 3 < 2 ^ 32
   set-fits x e next left words words2 k =
-      let a = k .moved in
       let b = ap (λ (r : Result (List ℕ)). length (r .notes)) e in
       let d = mode-notes t g (h .there) m in
-      let f = notes-few (getD (t .solverFromGlobal) g 0) (recordOf t g) m in
-      omega arith
+      let f = mode-notes-few (getD (t .solverFromGlobal) g 0) (recordOf t g) m in
+      notes-fit k (omega arith)
 
   room-of : (x : Result (List ℕ)) → setMode g m t ≡ x → Room x 0 room
   room-of x e = subst (λ (r : Result (List ℕ)). Room r 0 room) e (let w = h .words in record { words = omega arith })
@@ -171,15 +174,19 @@ module _ (t : Table) (g m room : ℕ) (h : Sets t g m room) where
         unfolding setMode
         show-is = choose-else _ _ _ other ∙ choose-else _ _ _ (ne-eqb _ _ k) ∙ choose-then _ _ _ (eq-eqb _ _ (sym old-mode ∙ e))
 
-        pub show-asks : Shows t g m 0 × Room (show g m t) 0 room
-        show-asks = (
-          record { there = h .there; hidden = sym old-mode ∙ e; mode = let l = h .mode in omega arith; mapped = passed-none _ _ },
-          room-of (show g m t) show-is,
-        )
-
-        pub show-does : (next : ℕ) (u : User) (d : Counts) (left : Table) (words words2 : List ℕ) → Leaves (show g m t) 0 next left words words2 → u .0 ≡ nextUser t
-            → Does (noting (λ us. us) (setMode g m t)) (modeSet (Shown u d (next / 3)) d) left words words2
+        pub show-asks : ShowAsks (t .counts) (t .globalFromUser) (t .userFromGlobal) (t .records) g m 0 0 room
         unfolding show
+        show-asks =
+            let r = room-of (show g m t) show-is .words in
+            record {
+              solvers = solversOf t;
+              shows = record { there = h .there; hidden = sym old-mode ∙ e; mode = let l = h .mode in omega arith; mapped = cursor-start _ _ };
+              words = omega arith;
+            }
+
+        pub show-does : (next : ℕ) (u : User) (d : Counts) (left : Table) (words words2 : List ℕ) → Leaves (show g m t) 0 next left words words2 → u .0 ≡ leastFree (t .globalFromUser) (t .counts .user)
+            → Does (noting (λ us. us) (setMode g m t)) (modeSet (Shown u d (next / 3)) d) left words words2
+        unfolding show nextUser
         show-does next u d left words words2 w q =
             subst (λ (r : Result (List ℕ)). Does (noting (λ us. us) r) (modeSet (Shown u d (next / 3)) d) left words words2) (sym show-is)
             (call-noted (λ us. us) (u .0 ∷ []) (show g m t) next d left words words2 w (ap (λ (v : ℕ). v ∷ []) q))
@@ -189,10 +196,18 @@ module _ (t : Table) (g m room : ℕ) (h : Sets t g m room) where
         unfolding setMode
         change-is = choose-else _ _ _ other ∙ choose-else _ _ _ (ne-eqb _ _ k) ∙ choose-else _ _ _ (ne-eqb _ _ (λ z. e (old-mode ∙ z)))
 
-        pub change-asks : Changes t g m × Room (change g m t) 0 room
-        change-asks = (record { there = h .there; mode = let l = h .mode in omega arith }, room-of (change g m t) change-is)
-
-        pub change-does : (next : ℕ) (d : Counts) (left : Table) (words words2 : List ℕ) → Leaves (change g m t) 0 next left words words2
-            → Does (noting (λ us. us) (setMode g m t)) (modeSet (Done d (next / 3)) d) left words words2
+        pub change-asks : (g < length (t .records)) × ((getD (t .records) g 0 < 36) × ((m < 3) × (3 ≤ room)))
         unfolding change
-        change-does = plain-does (change g m t) change-is refl
+        change-asks =
+            let r = room-of (change g m t) change-is .words in
+            let l = there-live t g (h .there) in
+            let q = record-read t g (l .words) in
+            let u = l .undeleted in
+            (l .words, (omega arith, (h .mode, omega arith)))
+
+        pub change-does : (records words words2 : List ℕ) → records ≡ set (t .records) g (withMode (getD (t .records) g 0) m) → words2 ≡ sets words 0 (3 ∷ g ∷ pick (eqb m 0) 1 0 ∷ [])
+            → Does (noting (λ us. us) (setMode g m t)) (modeSet (Done (t .counts) 1) (t .counts))
+            (tableOf (t .counts) (t .globalFromUser) (t .userFromGlobal) (t .solverFromGlobal) (t .globalFromSolver) (t .assignment) records) words words2
+        unfolding change
+        change-does records words words2 p q =
+            plain-does (change g m t) change-is refl 3 (t .counts) _ words words2 (change-leaves t g m records words words2 (there-live t g (h .there) .words) p q)

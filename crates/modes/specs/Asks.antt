@@ -3,18 +3,15 @@ use Prim.Native.Nat.{ℕ, _+_, _*_, _≤_, _<_}
 use mathlib.Core.Path.{_≡_}
 use mathlib.Core.List.{List}
 use mathlib.Core.Logic.{_≢_}
-use lib.Dec.{eqb}
-use lib.ListN.{length, getD}
+use lib.ListN.{length}
 use lib.Seq.{sets}
+use Rattle.scope.specs.declared.Counts.{Counts}
 use Rattle.scope.specs.Table.{Table, modeOf, recordOf}
 use Rattle.scope.specs.Sound.{Sound}
 use Rattle.scope.specs.Outcome.{Result}
 use Rattle.scope.specs.Modes.{setMode, observeOne, observe}
-use Rattle.inner.specs.Cursor.{Passed}
-
--- Below the place `from`, which is at most the watermark, every index is mapped.
-abbrev pub AllMapped : List ℕ → ℕ → ℕ → Type 0
-AllMapped xs mark from = Passed (λ i. eqb (getD xs i 0) 0) mark from
+use Rattle.changes.specs.Cursor.{AllMapped}
+use Rattle.changes.specs.Solvers.{Solvers, tableWith}
 
 -- A sound table with an undeleted global.
 pub record There (t : Table) (g : ℕ) : Type 0 where
@@ -28,14 +25,16 @@ pub record Shows (t : Table) (g m from : ℕ) : Type 0 where
   pub mode : m < 2
   pub mapped : AllMapped (t .globalFromUser) (t .counts .user) from
 
+-- The same of the lists that are lent, with some lists of solver indices, and there is room for two notes from `at` on.
+pub record ShowAsks (c : Counts) (gu ug records : List ℕ) (g m from at room : ℕ) : Type 0 where
+  pub solvers : Solvers
+  pub shows : Shows (tableWith c gu ug records solvers) g m from
+  pub words : at + 6 ≤ room
+
 -- The global is not hidden.
 pub record Hides (t : Table) (g : ℕ) : Type 0 where
   pub there : There t g
   pub shown : modeOf (recordOf t g) ≢ 2
-
-pub record Changes (t : Table) (g m : ℕ) : Type 0 where
-  pub there : There t g
-  pub mode : m < 2
 
 -- The mode is one of the three, and there is room for the notes.
 pub record Sets (t : Table) (g m room : ℕ) : Type 0 where

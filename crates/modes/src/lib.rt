@@ -1,7 +1,7 @@
-// Set mode and Observe. How the contracts read: crates/scope/specs/Contract.antt, and inside a call crates/deletion/specs/Leaving.antt.
-use deletion::Passed;
-use deletion::delete_global_if_unused;
-use inner::least_free;
+// Set mode and Observe. How the contracts read: crates/scope/specs/Contract.antt, and inside a call crates/changes/specs/Leaves.antt.
+use changes::Passed;
+use changes::delete_global_if_unused;
+use changes::least_free;
 use scope::Counts;
 use scope::Global;
 use scope::Note;
@@ -11,19 +11,21 @@ use table::is_sound;
 use table::put_note;
 ghost use mathlib.Core.Path.{_≡_};
 ghost use mathlib.Core.Bool.{_&&_, not};
-ghost use Prim.Native.Nat.{_+_, _*_, _≤_, _<_};
+ghost use mathlib.Core.List.{_∷_, []};
+ghost use Prim.Native.Nat.{_≤_, _<_};
 ghost use lib.Dec.{eqb};
-ghost use lib.ListN.{length, getD};
+ghost use lib.ListN.{length, getD, set};
 ghost use Rattle.base.specs.Choice.{pick};
 ghost use Rattle.base.specs.Bounded.{allBelow, count};
 ghost use Rattle.base.specs.Lent.{old, new, Fills};
 ghost use Rattle.scope.specs.Contract.{given, before, after, lent, Does, Meets};
-ghost use Rattle.scope.specs.Table.{assumedOf};
+ghost use Rattle.scope.specs.Table.{assumedOf, withMode, leastFree};
 ghost use Rattle.scope.specs.Outcome.{noting};
-ghost use Rattle.scope.specs.Map.{nextUser};
-ghost use Rattle.scope.specs.Modes.{modeNumber, show, hide, change, setMode, setModeRefusal, setModeOf, isHidden, observeOne, observe, observeRefusal, observeOf};
-ghost use Rattle.deletion.specs.Leaving.{Leaves, Room};
-ghost use Rattle.modes.specs.Asks.{AllMapped, Shows, Changes, Hides, Sets, Filled, Observes, ObservesAll};
+ghost use Rattle.scope.specs.Modes.{modeNumber, show, hide, setMode, setModeRefusal, setModeOf, isHidden, observeOne, observe, observeRefusal, observeOf};
+ghost use Rattle.changes.specs.Cursor.{AllMapped};
+ghost use Rattle.changes.specs.Leaves.{Leaves, Room};
+ghost use Rattle.changes.specs.Solvers.{Solvers, tableWith};
+ghost use Rattle.modes.specs.Asks.{ShowAsks, Hides, Sets, Filled, Observes, ObservesAll};
 ghost use Rattle.modes.specs.Counting.{modeNotes};
 ghost use Rattle.modes.specs.Answers.{modeSet, observed};
 
@@ -41,7 +43,7 @@ pub enum Observed {
 }
 
 // The counts after a global was shown, its user, and the place after the notes.
-pub struct Granted {
+pub struct Revealed {
     pub counts: Counts,
     pub user: User,
     pub at: usize,
@@ -57,26 +59,22 @@ fn mode_number(mode: SamplingMode) -> u32
     }
 }
 
-// From Hide to mode m: C, then U with the least unmapped user index.
+// From Hide to mode m: C, then U with the least unmapped user index. The lists of solver indices are not lent and may be any.
 fn show(
     c: Counts,
     gu: &mut [u32],
     ug: &mut [u32],
-    sg: &[u32],
-    gs: &[u32],
-    assignment: &[u32],
     records: &mut [u32],
     global: Global,
     m: u32,
     from: u32,
     at: usize,
     notes: &mut [u32],
-) -> Granted
-    requires { ⌜ Shows (given c gu ug sg gs assignment records) (global .0) m from ⌝ }
-    requires { ⌜ Room (show (global .0) m (given c gu ug sg gs assignment records)) at (length (now notes)) ⌝ }
-    ensures { λ r. ⌜ Leaves (show (global .0) m (before c gu ug sg gs assignment records)) at (r .at)
-        (after (r .counts) gu ug sg gs assignment records) (old notes) (new notes) ⌝ }
-    ensures { λ r. ⌜ r .user .0 ≡ nextUser (before c gu ug sg gs assignment records) ⌝ }
+) -> Revealed
+    requires { ⌜ ShowAsks c (now gu) (now ug) (now records) (global .0) m from at (length (now notes)) ⌝ }
+    ensures { λ r. ⌜ ((x : Solvers) → Leaves (show (global .0) m (tableWith c (old gu) (old ug) (old records) x)) at (r .at)
+        (tableWith (r .counts) (new gu) (new ug) (new records) x) (old notes) (new notes)) ⌝ }
+    ensures { λ r. ⌜ r .user .0 ≡ leastFree (old gu) (c .user) ⌝ }
 {
     let g = global.0 as usize;
     let next = at + 3;
@@ -87,7 +85,7 @@ fn show(
     let counts = c.map(gu, ug, user, global);
     put_note(notes, at, Note::ModeChanged(global, m == 0));
     put_note(notes, next, Note::UserGranted(global, user));
-    Granted {
+    Revealed {
         counts,
         user,
         at: past,
@@ -119,48 +117,22 @@ fn hide(
     records[g] = w / 3 * 3 + 2;
     let counts = c.unmap(gu, ug, user, global);
     put_note(notes, at, Note::UserWithdrawn(global));
-    delete_global_if_unused(
-        counts,
-        gu,
-        ug,
-        sg,
-        gs,
-        assignment,
-        records,
-        global,
-        next,
-        notes,
-    )
+    delete_global_if_unused(counts, ug, sg, records, global, next, notes)
 }
 
 // Between Sample and Witness: C.
-fn change(
-    c: Counts,
-    gu: &[u32],
-    ug: &[u32],
-    sg: &[u32],
-    gs: &[u32],
-    assignment: &[u32],
-    records: &mut [u32],
-    global: Global,
-    m: u32,
-    at: usize,
-    notes: &mut [u32],
-) -> Passed
-    requires { ⌜ Changes (given c gu ug sg gs assignment records) (global .0) m ⌝ }
-    requires { ⌜ Room (change (global .0) m (given c gu ug sg gs assignment records)) at (length (now notes)) ⌝ }
-    ensures { λ r. ⌜ Leaves (change (global .0) m (before c gu ug sg gs assignment records)) at (r .at)
-        (after (r .counts) gu ug sg gs assignment records) (old notes) (new notes) ⌝ }
+fn change(records: &mut [u32], global: Global, m: u32, notes: &mut [u32])
+    requires { ⌜ global .0 < length (now records) ⌝ }
+    requires { ⌜ getD (now records) (global .0) 0 < 36 ⌝ }
+    requires { ⌜ m < 3 ⌝ }
+    requires { ⌜ 3 ≤ length (now notes) ⌝ }
+    ensures { λ _. ⌜ new records ≡ set (old records) (global .0) (withMode (getD (old records) (global .0) 0) m) ⌝ }
+    ensures { λ _. ⌜ Fills notes 0 (3 ∷ global .0 ∷ pick (eqb m 0) 1 0 ∷ []) ⌝ }
 {
     let g = global.0 as usize;
-    let next = at + 3;
     let w = records[g];
     records[g] = w / 3 * 3 + m;
-    put_note(notes, at, Note::ModeChanged(global, m == 0));
-    Passed {
-        counts: c,
-        at: next,
-    }
+    put_note(notes, 0, Note::ModeChanged(global, m == 0));
 }
 
 // How many notes a change to mode m makes, by the solver word and the record of the global.
@@ -245,27 +217,13 @@ fn set_mode(
         return ModeSet::Done(counts, (p.at / 3) as u32);
     }
     if was == 2 {
-        let p = show(
-            c,
-            gu,
-            ug,
-            sg,
-            gs,
-            assignment,
-            records,
-            global,
-            m,
-            0,
-            0,
-            notes,
-        );
+        let p = show(c, gu, ug, records, global, m, 0, 0, notes);
         let counts = p.counts;
         let user = p.user;
         return ModeSet::Shown(user, counts, (p.at / 3) as u32);
     }
-    let p = change(c, gu, ug, sg, gs, assignment, records, global, m, 0, notes);
-    let counts = p.counts;
-    ModeSet::Done(counts, (p.at / 3) as u32)
+    change(records, global, m, notes);
+    ModeSet::Done(c, 1)
 }
 
 // Set mode (01, `set_sampling_mode`; refusals 1, 3, 6, 7, 2): the global is sampled, a witness or hidden from now on.
@@ -416,20 +374,7 @@ fn observe_one(
         };
     }
     let next = filled + 1;
-    let p = show(
-        c,
-        gu,
-        ug,
-        sg,
-        gs,
-        assignment,
-        records,
-        global,
-        1,
-        from,
-        at,
-        notes,
-    );
+    let p = show(c, gu, ug, records, global, 1, from, at, notes);
     let counts = p.counts;
     let user = p.user;
     users[filled] = user.0;

@@ -20,13 +20,17 @@ use Rattle.scope.specs.Map.{mapUser, nextUser, newUser, toMap, unsampled, mapRe
 use Rattle.scope.specs.Contract.{Said, Does}
 use Rattle.scope.proofs.SoundLaws.{sound-of}
 use Rattle.scope.proofs.MapLaws.{map-user-count, mapped-global, next-user-to-map, next-user-within}
-use Rattle.inner.specs.Leaves.{Leaves}
-use Rattle.inner.proofs.LeavesLaws.{leaves-giving, does-refused, does-noting, no-refusal}
+use Rattle.scope.proofs.ResultLaws.{past}
+use Rattle.changes.specs.Leaves.{Leaves}
+use Rattle.changes.proofs.LeavesLaws.{leaves-giving}
+use Rattle.changes.proofs.CallLaws.{call-refused, call-accepted, call-noted}
 use Rattle.naming.specs.declared.UserMapped.{UserMapped}
 use Rattle.naming.specs.declared.UserMapped.the-variants as Map
 use Rattle.naming.specs.declared.NewUser.{NewUser}
 use Rattle.naming.specs.declared.NewUser.the-variants as New
-use Rattle.naming.specs.Maps.{alive, isUnsampled, Inside, MapAsks, userMapped, newUserMapped}
+use Rattle.naming.specs.Parts.{alive, isUnsampled, Inside}
+use Rattle.naming.specs.Asks.{MapAsks}
+use Rattle.naming.specs.Answers.{userMapped, newUserMapped}
 
 -- ---- the parts over lists are those of the table
 
@@ -42,8 +46,8 @@ unsampled-is : (t : Table) (u : ℕ) → isUnsampled (t .globalFromUser) (t .rec
 unfolding isUnsampled unsampled
 unsampled-is t u = refl
 
-pub inside : (t : Table) → soundb t ≡ true → Inside (t .globalFromUser) (length (t .records))
-inside t y = record { at = λ i. go i (getD (t .globalFromUser) i 0) refl }
+pub all-inside : (t : Table) → soundb t ≡ true → Inside (t .globalFromUser) (length (t .records))
+all-inside t y = record { at = λ i. go i (getD (t .globalFromUser) i 0) refl }
   where
     go : (i w : ℕ) → getD (t .globalFromUser) i 0 ≡ w → getD (t .globalFromUser) i 0 ≤ length (t .records)
     go i zero e = omega arith
@@ -81,16 +85,16 @@ to-map-most t u = go (getD (t .globalFromUser) u 0)
     go (suc g) = omega arith
 
 -- what the counting gave
-pub record Counted (t : Table) (u used n : ℕ) : Type 0 where
+pub record MapCounts (t : Table) (u used n : ℕ) : Type 0 where
   pub sizes : Sizes t
   pub used-is : used ≡ undeleted t
   pub n-is : n ≡ toMap t u
   pub used-most : used ≤ 4096
   pub n-most : n ≤ u + 1
 
-pub counted : (t : Table) (u used n : ℕ) → soundb t ≡ true → used ≡ count (length (t .records)) (alive (t .records))
-    → n ≡ word (u - t .counts .user + 1) (λ g. 0) (getD (t .globalFromUser) u 0) → Counted t u used n
-counted t u used n y e q =
+pub map-counts : (t : Table) (u used n : ℕ) → soundb t ≡ true → used ≡ count (length (t .records)) (alive (t .records))
+    → n ≡ word (u - t .counts .user + 1) (λ g. 0) (getD (t .globalFromUser) u 0) → MapCounts t u used n
+map-counts t u used n y e q =
     let z = sound-of t y .sizes in
     let b = to-map-is t u n q in
     let d = to-map-most t u in
@@ -115,7 +119,7 @@ module _ (t : Table) (u : ℕ) (sampling : Bool) (room : ℕ) where
           let s : sampling && unsampled t u ≡ true = rw (← unsampled-is t u, ← q) e in
           rw (y, lt-leb (t .counts .capacity) u l, s)
 
-      module _ (b : Bool) (q : b ≡ isUnsampled (t .globalFromUser) (t .records) u) (e : sampling && b ≡ false) (used n : ℕ) (k : Counted t u used n) where
+      module _ (b : Bool) (q : b ≡ isUnsampled (t .globalFromUser) (t .records) u) (e : sampling && b ≡ false) (used n : ℕ) (k : MapCounts t u used n) where
         sampled : sampling && unsampled t u ≡ false
         sampled = rw (← unsampled-is t u, ← q) e
 
@@ -149,11 +153,11 @@ module _ (t : Table) (u : ℕ) (sampling : Bool) (room : ℕ) where
 pub map-asks : (t : Table) (u : ℕ) (sampling : Bool) (n room : ℕ) → n ≡ mapRefusal t u sampling room → n ≡ 0 → MapAsks t u 0 room
 unfolding mapRefusal
 map-asks t u sampling n room q e =
-    let a = no-refusal (not (soundb t)) 1 _ (λ z. omega arith) (sym q ∙ e) in
-    let b = no-refusal (leb (t .counts .capacity) u) 3 _ (λ z. omega arith) (a .1) in
-    let c = no-refusal (sampling && unsampled t u) 4 _ (λ z. omega arith) (b .1) in
-    let d = no-refusal (ltb (t .counts .capacity) (undeleted t + toMap t u)) 5 _ (λ z. omega arith) (c .1) in
-    let f = no-refusal (short room (mapUser u t .notes)) 2 0 (λ z. omega arith) (d .1) in
+    let a = past (not (soundb t)) 1 _ (omega arith) (sym q ∙ e) in
+    let b = past (leb (t .counts .capacity) u) 3 _ (omega arith) (a .1) in
+    let c = past (sampling && unsampled t u) 4 _ (omega arith) (b .1) in
+    let d = past (ltb (t .counts .capacity) (undeleted t + toMap t u)) 5 _ (omega arith) (c .1) in
+    let f = past (short room (mapUser u t .notes)) 2 0 (omega arith) (d .1) in
     record {
       sound = not-false (soundb t) (a .0);
       within = leb-false (t .counts .capacity) u (b .0);
@@ -162,24 +166,26 @@ map-asks t u sampling n room q e =
     }
 
 -- the count of notes fits a word
-pub count-small : (t : Table) (u v at room : ℕ) (left : Table) (words words' : List ℕ) → MapAsks t u 0 room → Leaves (mapUser u t) 0 v at left words words' → at / 3 < 2 ^ 32
-count-small t u v at room left words words' h m =
+pub map-few : (t : Table) (u at room : ℕ) → MapAsks t u at room → length (mapUser u t .notes) < 2 ^ 32
+map-few t u at room h =
     let z = sound-of t (h .sound) .sizes in
     let x = map-user-count t u in
-    let y = m .moved in
     let r = h .enough in
     omega arith
 
 pub map-refused : (t : Table) (u : ℕ) (sampling : Bool) (n : ℕ) (words : List ℕ) → n ≡ mapRefusal t u sampling (length words) → (n ≡ 0 → ⊥)
     → Does (mapOf t u sampling (length words)) (userMapped (Map.Refused n) (t .counts)) t words words
 unfolding mapOf
-map-refused t u sampling n words q e = rw (← q) (does-refused n t _ words e)
+map-refused t u sampling n words q e = call-refused (mapRefusal t u sampling (length words)) n t _ words q e
 
-pub map-done : (t : Table) (u : ℕ) (sampling : Bool) (n at : ℕ) (g : Global) (left : Table) (words words' : List ℕ) → n ≡ mapRefusal t u sampling (length words) → n ≡ 0
-    → Leaves (mapUser u t) 0 (g .0) at left words words'
+pub map-done : (t : Table) (u : ℕ) (sampling : Bool) (n at : ℕ) (g : Global) (left : Table) (words words' : List ℕ)
+    → n ≡ mapRefusal t u sampling (length words) → n ≡ 0
+    → (g .0 ≡ mapUser u t .value) × Leaves (mapUser u t) 0 at left words words'
     → Does (mapOf t u sampling (length words)) (userMapped (Map.Done g (left .counts) (at / 3)) (t .counts)) left words words'
 unfolding mapOf
-map-done t u sampling n at g left words words' q e h = rw (← q) (does-noting (λ g. g ∷ []) n t (mapUser u t) (g .0) at left words words' e h)
+map-done t u sampling n at g left words words' q e h =
+    call-accepted (mapRefusal t u sampling (length words)) n t _ _ left words words' q e
+    (call-noted (λ g. g ∷ []) (g .0 ∷ []) (mapUser u t) at (left .counts) left words words' (h .1) (ap (λ (i : ℕ). i ∷ []) (h .0)))
 
 -- ---- New user
 
@@ -219,9 +225,9 @@ pub record NewAsks (t : Table) (room : ℕ) : Type 0 where
 pub new-asks : (t : Table) (n room : ℕ) → n ≡ newUserRefusal t room → n ≡ 0 → NewAsks t room
 unfolding newUserRefusal
 new-asks t n room q e =
-    let a = no-refusal (not (soundb t)) 1 _ (λ z. omega arith) (sym q ∙ e) in
-    let d = no-refusal (ltb (t .counts .capacity) (undeleted t + 1)) 5 _ (λ z. omega arith) (a .1) in
-    let f = no-refusal (short room (newUser t .notes)) 2 0 (λ z. omega arith) (d .1) in
+    let a = past (not (soundb t)) 1 _ (omega arith) (sym q ∙ e) in
+    let d = past (ltb (t .counts .capacity) (undeleted t + 1)) 5 _ (omega arith) (a .1) in
+    let f = past (short room (newUser t .notes)) 2 0 (omega arith) (d .1) in
     let y = not-false (soundb t) (a .0) in
     let p = sound-of t y in
     let z = p .sizes in
@@ -245,16 +251,19 @@ found-asks t u room h e = subst (λ (k : ℕ). MapAsks t k 0 room) (sym (next-is
 pub new-refused : (t : Table) (n : ℕ) (words : List ℕ) → n ≡ newUserRefusal t (length words) → (n ≡ 0 → ⊥)
     → Does (newUserOf t (length words)) (newUserMapped (New.Refused n) (t .counts)) t words words
 unfolding newUserOf
-new-refused t n words q e = rw (← q) (does-refused n t _ words e)
+new-refused t n words q e = call-refused (newUserRefusal t (length words)) n t _ words q e
 
 pub new-done : (t : Table) (u : User) (n at : ℕ) (g : Global) (left : Table) (words words' : List ℕ) → n ≡ newUserRefusal t (length words) → n ≡ 0
     → u .0 ≡ leastFree (t .globalFromUser) (t .counts .user)
-    → Leaves (mapUser (u .0) t) 0 (g .0) at left words words'
+    → (g .0 ≡ mapUser (u .0) t .value) × Leaves (mapUser (u .0) t) 0 at left words words'
     → Does (newUserOf t (length words)) (newUserMapped (New.Done u g (left .counts) (at / 3)) (t .counts)) left words words'
 unfolding newUserOf newUser
 new-done t u n at g left words words' q e f h =
-    let k = subst (λ (v : ℕ). Leaves (giving (λ g. v ∷ g ∷ []) (mapUser v t)) 0 (u .0 ∷ g .0 ∷ []) at left words words') (next-is t (u .0) f) (leaves-giving (λ g. u .0 ∷ g ∷ []) h) in
-    rw (← q) (does-noting (λ vs. vs) n t (newUser t) (u .0 ∷ g .0 ∷ []) at left words words' e k)
+    let i = next-is t (u .0) f in
+    let k = subst (λ (v : ℕ). Leaves (mapUser v t) 0 at left words words') i (h .1) in
+    let w = subst (λ (v : ℕ). g .0 ≡ mapUser v t .value) i (h .0) in
+    call-accepted (newUserRefusal t (length words)) n t _ _ left words words' q e
+    (call-noted (λ vs. vs) (u .0 ∷ g .0 ∷ []) (newUser t) at (left .counts) left words words' (leaves-giving k) (λ j. i j ∷ w j ∷ []))
 
 -- ---- the number and the values tell the answer
 

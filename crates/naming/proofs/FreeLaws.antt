@@ -15,9 +15,9 @@ use Rattle.base.proofs.CountLaws.{count-up, count-stay}
 use Rattle.base.proofs.MemberLaws.{getD-default}
 use Rattle.scope.specs.Table.{modeOf}
 use Rattle.scope.proofs.ResultLaws.{word-none, word-some}
-use Rattle.inner.specs.Cursor.{Passed}
-use Rattle.inner.proofs.CursorLaws.{passed-more, passed-found, passed-end, passed-least, passed-kept}
-use Rattle.naming.specs.Maps.{free, alive, freeFor, isUnsampled, Inside}
+use Rattle.changes.specs.Cursor.{NoneFree}
+use Rattle.changes.proofs.CursorLaws.{cursor-more, cursor-found, cursor-end, cursor-least, cursor-kept}
+use Rattle.naming.specs.Parts.{free, alive, freeFor, isUnsampled, Inside}
 
 -- ---- the least deleted global
 
@@ -25,14 +25,14 @@ pub free-is : (records : List ℕ) (g : ℕ) → g < length records → leb 36 (
 unfolding free
 free-is records g l = ap (leb 36) (getD-default records g 0 47 l)
 
-pub deleted-found : (records : List ℕ) (mark i : ℕ) → mark ≤ length records → i < mark → Passed (free records) mark i → 36 ≤ getD records i 0 → i ≡ least mark (free records)
-deleted-found records mark i m l h d = passed-found (free records) mark i h (sym (free-is records i (omega arith)) ∙ le-leb 36 _ d)
+pub deleted-found : (records : List ℕ) (mark i : ℕ) → mark ≤ length records → i < mark → NoneFree (free records) mark i → 36 ≤ getD records i 0 → i ≡ least mark (free records)
+deleted-found records mark i m l h d = cursor-found (free records) mark i h (sym (free-is records i (omega arith)) ∙ le-leb 36 _ d)
 
-pub deleted-more : (records : List ℕ) (mark i : ℕ) → mark ≤ length records → i < mark → Passed (free records) mark i → getD records i 0 < 36 → Passed (free records) mark (i + 1)
-deleted-more records mark i m l h d = passed-more (free records) mark i l h (sym (free-is records i (omega arith)) ∙ lt-leb 36 _ d)
+pub deleted-more : (records : List ℕ) (mark i : ℕ) → mark ≤ length records → i < mark → NoneFree (free records) mark i → getD records i 0 < 36 → NoneFree (free records) mark (i + 1)
+deleted-more records mark i m l h d = cursor-more (free records) mark i l h (sym (free-is records i (omega arith)) ∙ lt-leb 36 _ d)
 
-pub deleted-end : (records : List ℕ) (mark i : ℕ) → Passed (free records) mark i → mark ≤ i → i ≡ least mark (free records)
-deleted-end records mark i h l = passed-end (free records) mark i h l
+pub deleted-end : (records : List ℕ) (mark i : ℕ) → NoneFree (free records) mark i → mark ≤ i → i ≡ least mark (free records)
+deleted-end records mark i h l = cursor-end (free records) mark i h l
 
 -- ---- the global taken
 
@@ -45,14 +45,14 @@ unfolding freeFor
 for-least records mark u g l e q = rw (← free-is records u l, e) q
 
 -- the cursor goes to the least deleted global
-pub for-passed : (records : List ℕ) (mark g : ℕ) → g ≡ least mark (free records) → Passed (free records) mark g
-for-passed records mark g e = passed-least (free records) (free records) mark mark g e (omega arith) (λ k l n. n)
+pub for-passed : (records : List ℕ) (mark g : ℕ) → g ≡ least mark (free records) → NoneFree (free records) mark g
+for-passed records mark g e = cursor-least (free records) (free records) mark mark g e (omega arith) (λ k l n. n)
 
 -- and is one after a global is taken
-pub taken-passed : (records : List ℕ) (mark mark′ g from : ℕ) → g < length records → mark ≤ mark′ → Passed (free records) mark from → Passed (free (set records g 9)) mark′ from
+pub taken-passed : (records : List ℕ) (mark mark′ g from : ℕ) → g < length records → mark ≤ mark′ → NoneFree (free records) mark from → NoneFree (free (set records g 9)) mark′ from
 unfolding free
 taken-passed records mark mark′ g from b m h =
-    passed-kept (free records) (free (set records g 9)) mark mark′ from h m
+    cursor-kept (free records) (free (set records g 9)) mark mark′ from h m
     (λ k l n. ⊎-elim
     (λ (e : k ≡ g). rw (e, getD-set-same records g 9 47 b))
     (λ (e : k ≡ g → ⊥). rw (getD-set-other records g k 9 47 e) n)

@@ -18,18 +18,21 @@ use Rattle.scope.specs.Map.{globalFor, mapOne, fillGap, mapUser}
 use Rattle.scope.proofs.SoundLaws.{sound-of, sound-to}
 use Rattle.scope.proofs.ResultLaws.{each-suc}
 use Rattle.scope.proofs.MapLaws.{Mappable, map-one-fresh, gapStep, Filled, GapRoom, fill-gap-filled, to-map-free, map-user-free, map-user-has, fill-gap-count}
-use Rattle.inner.specs.Cursor.{Passed}
-use Rattle.inner.specs.Leaves.{Leaves}
-use Rattle.inner.proofs.CursorLaws.{passed-none}
-use Rattle.inner.proofs.LeavesLaws.{leaves-stay, leaves-giving, leaves-then, leaves-joined, leaves-length}
-use Rattle.naming.specs.Maps.{free, freeFor, MapAsks, Solvers, tableWith, UpAsks, UpLeaves}
+use Rattle.changes.specs.Cursor.{NoneFree}
+use Rattle.changes.specs.Leaves.{Leaves}
+use Rattle.changes.specs.Solvers.{Solvers, tableWith, solversOf}
+use Rattle.changes.proofs.CursorLaws.{cursor-start}
+use Rattle.changes.proofs.LeavesLaws.{leaves-stay, leaves-giving, leaves-then, leaves-length, SameSizes, same-sizes}
+use Rattle.changes.proofs.TurnLaws.{turns-more}
+use Rattle.naming.specs.Parts.{free, freeFor}
+use Rattle.naming.specs.Asks.{MapAsks, UpAsks, UpLeaves}
 use Rattle.naming.proofs.FreeLaws.{taken-passed}
 
 -- The users from the watermark up to i are mapped, where i is at most u or the watermark.
 pub record Gap (t : Table) (u at i next : ℕ) (s : Table) (words words' : List ℕ) : Type 0 where
   pub low : t .counts .user ≤ i
   pub high : i ≤ max (t .counts .user) u
-  pub done : Leaves (fillGap (i - t .counts .user) t) at (fillGap (i - t .counts .user) t .value) next s words words'
+  pub done : Leaves (fillGap (i - t .counts .user) t) at next s words words'
 
 -- the same with any solver maps
 pub record GapWith (c : Counts) (gu ug records : List ℕ) (u at i next : ℕ) (c' : Counts) (gu' ug' records' words words' : List ℕ) : Type 0 where
@@ -40,7 +43,7 @@ pub gap-start : (t : Table) (u at : ℕ) (words : List ℕ) → Gap t u at (t .c
 unfolding fillGap each
 gap-start t u at words =
     let e : t .counts .user - t .counts .user ≡ 0 = omega arith in
-    record { low = omega arith; high = omega arith; done = rw e (leaves-stay [] at t words) }
+    record { low = omega arith; high = omega arith; done = rw e (leaves-stay t at words) }
 
 -- a user at or above the watermark has no global
 unmapped : (t : Table) (u : ℕ) → soundb t ≡ true → t .counts .user ≤ u → getD (t .globalFromUser) u 0 ≡ 0
@@ -59,36 +62,25 @@ gap-room t u at room i h l m =
     record { sound = p; within = omega arith; room = omega arith })
     (split u (t .counts .user))
 
-gap-filled : (t : Table) (u at room i next : ℕ) (s : Table) (words words' : List ℕ) → MapAsks t u at room → Gap t u at i next s words words' → Filled t (i - t .counts .user) s
-gap-filled t u at room i next s words words' h g =
+gap-fills : (t : Table) (u at room i next : ℕ) (s : Table) (words words' : List ℕ) → MapAsks t u at room → Gap t u at i next s words words' → Filled t (i - t .counts .user) s
+gap-fills t u at room i next s words words' h g =
     subst (λ (x : Table). Filled t (i - t .counts .user) x) (sym (g .done .table))
     (fill-gap-filled t (i - t .counts .user) (gap-room t u at room i h (g .low) (g .high)))
 
-pub user-small : (t : Table) (u at room : ℕ) → MapAsks t u at room → u < 4096
-user-small t u at room h = let z = sound-of t (h .sound) .sizes in let w = h .within in omega arith
-
 -- ---- the slices keep their lengths
-
-pub record SameSizes (t s : Table) (words words' : List ℕ) : Type 0 where
-  pub globalFromUser : length (s .globalFromUser) ≡ length (t .globalFromUser)
-  pub userFromGlobal : length (s .userFromGlobal) ≡ length (t .userFromGlobal)
-  pub records : length (s .records) ≡ length (t .records)
-  pub notes : length words' ≡ length words
 
 pub gap-sizes : (t : Table) (u at i next : ℕ) (s : Table) (words words' : List ℕ) → MapAsks t u at (length words) → Gap t u at i next s words words' → SameSizes t s words words'
 gap-sizes t u at i next s words words' h g =
-    let f = gap-filled t u at _ i next s words words' h g in
-    let a = sound-of t (h .sound) .sizes in
-    let b = f .sound .sizes in
+    let f = gap-fills t u at _ i next s words words' h g in
     let c = f .same .capacity in
-    record { globalFromUser = omega arith; userFromGlobal = omega arith; records = omega arith; notes = leaves-length _ _ _ _ _ _ _ (g .done) }
+    same-sizes t s words words' (sound-of t (h .sound) .sizes) (f .sound .sizes) (omega arith) (leaves-length _ _ _ _ _ _ (g .done))
 
 -- ---- one turn: the user i is at the watermark of s
 
 pub gap-asks : (t : Table) (u at i next : ℕ) (s : Table) (words words' : List ℕ) → MapAsks t u at (length words) → Gap t u at i next s words words' → i < u
     → MapAsks s i next (length words')
 gap-asks t u at i next s words words' h g l =
-    let f = gap-filled t u at _ i next s words words' h g in
+    let f = gap-fills t u at _ i next s words words' h g in
     let a = f .user in
     let b = f .same .capacity in
     let d = f .undeleted in
@@ -97,7 +89,7 @@ gap-asks t u at i next s words words' h g l =
     let q = to-map-free s i (f .sound .user .atail i (omega arith)) in
     let m = g .done .moved in
     let c = fill-gap-count (i - t .counts .user) t in
-    let n = leaves-length _ _ _ _ _ _ _ (g .done) in
+    let n = leaves-length _ _ _ _ _ _ (g .done) in
     let w = h .words in
     let r = h .enough in
     let v = h .within in
@@ -110,26 +102,24 @@ map-here s i e l =
     let q : i - s .counts .user ≡ 0 = omega arith in
     map-user-free s i e ∙ rw q refl
 
-pub gap-more : (t : Table) (u at i next g next2 : ℕ) (s s2 : Table) (words words1 words2 : List ℕ) → MapAsks t u at (length words) → Gap t u at i next s words words1 → i < u
-    → Leaves (mapUser i s) next g next2 s2 words1 words2
+pub gap-more : (t : Table) (u at i next next2 : ℕ) (s s2 : Table) (words words1 words2 : List ℕ) → MapAsks t u at (length words)
+    → Gap t u at i next s words words1 → i < u
+    → Leaves (mapUser i s) next next2 s2 words1 words2
     → Gap t u at (i + 1) next2 s2 words words2
 unfolding fillGap
-gap-more t u at i next g next2 s s2 words words1 words2 h p l m =
-    let f = gap-filled t u at _ i next s words words1 h p in
+gap-more t u at i next next2 s s2 words words1 words2 h p l m =
+    let f = gap-fills t u at _ i next s words words1 h p in
     let a = f .user in
     let k = p .low in
     let n = i - t .counts .user in
     let e : i + 1 - t .counts .user ≡ n + 1 = omega arith in
     let q : t .counts .user + n ≡ i = omega arith in
     let x = map-here s i (f .sound .user .atail i (omega arith)) (omega arith) in
-    let m1 = subst (λ (y : Result ℕ). Leaves y next g next2 s2 words1 words2) (x ∙ ap (λ (j : ℕ). mapOne j s) (sym q)) m in
-    let m2 = leaves-giving (λ v. v ∷ []) m1 in
-    let m3 = leaves-joined (each n (gapStep t) t) (gapStep t n) at _ next _ next2 s s2 words words1 words2 (p .done) m2 in
-    let m4 = subst (λ (y : Result (List ℕ)). Leaves y at (each n (gapStep t) t .value ++ (g ∷ [])) next2 s2 words words2) (sym (each-suc (gapStep t) t n)) m3 in
+    let m1 = subst (λ (y : Result ℕ). Leaves y next next2 s2 words1 words2) (x ∙ ap (λ (j : ℕ). mapOne j s) (sym q)) m in
     record {
       low = omega arith;
       high = omega arith;
-      done = rw e (record { value = refl; table = m4 .table; noted = m4 .noted; moved = m4 .moved });
+      done = rw e (turns-more n (gapStep t) t next next2 s s2 words words1 words2 (p .done) (leaves-giving m1));
     }
 
 -- ---- the user itself
@@ -145,19 +135,18 @@ gap-end t u at i next s words words' g l = let a = g .low in let b = g .high in 
 -- the user has a global: it had it before, and there was no gap
 pub gap-kept : (t : Table) (u at i next g : ℕ) (s : Table) (words words' : List ℕ) → MapAsks t u at (length words) → Gap t u at i next s words words' → u ≤ i
     → getD (s .globalFromUser) u 0 ≡ g + 1
-    → Leaves (mapUser u t) at g next s words words'
+    → (g ≡ mapUser u t .value) × Leaves (mapUser u t) at next s words words'
 unfolding fillGap each
 gap-kept t u at i next g s words words' h p l e = ⊎-elim
     (λ (k : u < t .counts .user).
     let a = p .low in
     let b = p .high in
     let q : i - t .counts .user ≡ 0 = omega arith in
-    let d : Leaves {A = List ℕ} (stay [] t) at [] next s words words' = subst (λ (n : ℕ). Leaves (fillGap n t) at (fillGap n t .value) next s words words') q (p .done) in
+    let d : Leaves {A = List ℕ} (stay [] t) at next s words words' = subst (λ (n : ℕ). Leaves (fillGap n t) at next s words words') q (p .done) in
     let o : getD (t .globalFromUser) u 0 ≡ g + 1 = subst (λ (x : Table). getD (x .globalFromUser) u 0 ≡ g + 1) (d .table) e in
-    subst (λ (x : Result ℕ). Leaves x at g next s words words') (sym (map-user-has t u g o))
-    (record { value = refl; table = d .table; noted = d .noted; moved = d .moved }))
+    subst (λ (x : Result ℕ). (g ≡ x .value) × Leaves x at next s words words') (sym (map-user-has t u g o)) (refl, leaves-giving d))
     (λ (k : t .counts .user ≤ u).
-    let f = gap-filled t u at _ i next s words words' h p in
+    let f = gap-fills t u at _ i next s words words' h p in
     let a = f .user in
     let b = gap-end t u at i next s words words' p l in
     let z = f .sound .user .atail u (omega arith) in
@@ -169,7 +158,7 @@ abbrev pub OneAsks : Table → ℕ → ℕ → ℕ → ℕ → Type 0
 OneAsks s u from at room =
     let g = freeFor (s .records) (s .counts .global) u in
     (s .counts .global ≤ length (s .records))
-    × ((Passed (free (s .records)) (s .counts .global) from)
+    × ((NoneFree (free (s .records)) (s .counts .global) from)
     × ((u < length (s .globalFromUser))
     × ((u < length (s .records))
     × ((u < s .counts .capacity)
@@ -184,7 +173,7 @@ OneLeft s u at c global from next gu ug rc notes noted =
     let g = freeFor (s .records) (s .counts .global) u in
     (global .0 ≡ g)
     × ((c ≡ coverUser (s .counts) u g)
-    × ((Passed (free (s .records)) (s .counts .global) from)
+    × ((NoneFree (free (s .records)) (s .counts .global) from)
     × ((next ≡ at + 3)
     × ((gu ≡ set (s .globalFromUser) u (g + 1))
     × ((ug ≡ set (s .userFromGlobal) g (u + 1))
@@ -192,21 +181,22 @@ OneLeft s u at c global from next gu ug rc notes noted =
     × (noted ≡ sets notes at (0 ∷ g ∷ (u + 1) ∷ []))))))))
 
 one-leaves : (s : Table) (u at : ℕ) (c : Counts) (g : Global) (from next : ℕ) (gu ug rc notes noted : List ℕ) → OneLeft s u at c g from next gu ug rc notes noted
-    → Leaves (mapOne u s) at (g .0) next (tableOf c gu ug (s .solverFromGlobal) (s .globalFromSolver) (s .assignment) rc) notes noted
+    → (g .0 ≡ mapOne u s .value) × Leaves (mapOne u s) at next (tableOf c gu ug (s .solverFromGlobal) (s .globalFromSolver) (s .assignment) rc) notes noted
 unfolding mapOne giveUser notesWords globalFor freeFor free
-one-leaves s u at c g from next gu ug rc notes noted o =
-    record {
-      value = o .0;
-      table = λ i. tableOf (o .1 .0 i) (o .1 .1 .1 .1 .0 i) (o .1 .1 .1 .1 .1 .0 i) (s .solverFromGlobal) (s .globalFromSolver) (s .assignment) (o .1 .1 .1 .1 .1 .1 .0 i);
-      noted = o .1 .1 .1 .1 .1 .1 .1;
-      moved = let x = o .1 .1 .1 .0 in omega arith;
-    }
+one-leaves s u at c g from next gu ug rc notes noted o = (
+  o .0,
+  record {
+    table = λ i. tableOf (o .1 .0 i) (o .1 .1 .1 .1 .0 i) (o .1 .1 .1 .1 .1 .0 i) (s .solverFromGlobal) (s .globalFromSolver) (s .assignment) (o .1 .1 .1 .1 .1 .1 .0 i);
+    noted = o .1 .1 .1 .1 .1 .1 .1;
+    moved = let x = o .1 .1 .1 .0 in omega arith;
+  },
+)
 
 -- it had none before
 gap-new : (t : Table) (u at i next : ℕ) (s : Table) (words words' : List ℕ) → MapAsks t u at (length words) → Gap t u at i next s words words'
     → getD (s .globalFromUser) u 0 ≡ 0 → getD (t .globalFromUser) u 0 ≡ 0
 gap-new t u at i next s words words' h p e = ⊎-elim
-    (λ (k : u < t .counts .user). sym (gap-filled t u at _ i next s words words' h p .below u k) ∙ e)
+    (λ (k : u < t .counts .user). sym (gap-fills t u at _ i next s words words' h p .below u k) ∙ e)
     (λ (k : t .counts .user ≤ u). unmapped t u (h .sound) k)
     (split u (t .counts .user))
 
@@ -214,7 +204,7 @@ module _ (t : Table) (u at i next : ℕ) (s : Table) (words words' : List ℕ) (
     (e : getD (s .globalFromUser) u 0 ≡ 0) where
   gap-mappable : Mappable s u
   gap-mappable =
-      let f = gap-filled t u at _ i next s words words' h p in
+      let f = gap-fills t u at _ i next s words words' h p in
       let a = f .user in
       let b = f .same .capacity in
       let d = f .undeleted in
@@ -225,14 +215,14 @@ module _ (t : Table) (u at i next : ℕ) (s : Table) (words words' : List ℕ) (
       let r = h .enough in
       record { sound = f .sound; free = e; within = omega arith; mark = omega arith; room = omega arith }
 
-  pub last-asks : (from : ℕ) → Passed (free (s .records)) (s .counts .global) from → OneAsks s u from next (length words')
+  pub last-asks : (from : ℕ) → NoneFree (free (s .records)) (s .counts .global) from → OneAsks s u from next (length words')
   last-asks from k =
       let m = gap-mappable in
       let g = map-one-fresh s u m .within in
       let o = own-free s u in
       let z = m .sound .sizes in
       let w = m .within in
-      let n = leaves-length _ _ _ _ _ _ _ (p .done) in
+      let n = leaves-length _ _ _ _ _ _ (p .done) in
       let v = h .words in
       let q = p .done .moved in
       let c = fill-gap-count (i - t .counts .user) t in
@@ -242,19 +232,23 @@ module _ (t : Table) (u at i next : ℕ) (s : Table) (words words' : List ℕ) (
 
   -- what it leaves
   pub last-done : (c : Counts) (g : Global) (from next2 : ℕ) (gu ug rc words2 : List ℕ) → OneLeft s u next c g from next2 gu ug rc words' words2
-      → Leaves (mapUser u t) at (g .0) next2 (tableOf c gu ug (t .solverFromGlobal) (t .globalFromSolver) (t .assignment) rc) words words2
-      × Passed (free rc) (c .global) from
+      → ((g .0 ≡ mapUser u t .value) × Leaves (mapUser u t) at next2 (tableOf c gu ug (t .solverFromGlobal) (t .globalFromSolver) (t .assignment) rc) words words2)
+      × NoneFree (free rc) (c .global) from
   last-done c g from next2 gu ug rc words2 o =
       let d = gap-end t u at i next s words words' p l in
-      let f = gap-filled t u at _ i next s words words' h p .same in
-      let a = subst (λ (n : ℕ). Leaves (fillGap n t) at (fillGap n t .value) next s words words') d (p .done) in
+      let f = gap-fills t u at _ i next s words words' h p .same in
+      let a = subst (λ (n : ℕ). Leaves (fillGap n t) at next s words words') d (p .done) in
       let b = one-leaves s u next c g from next2 gu ug rc words' words2 o in
-      let k = leaves-then (fillGap (u - t .counts .user) t) (λ gs. mapOne u) at _ next (g .0) next2 s _ words words' words2 a b in
-      let m = subst (λ (x : Result ℕ). Leaves x at (g .0) next2 (tableOf c gu ug (s .solverFromGlobal) (s .globalFromSolver) (s .assignment) rc) words words2) (sym (map-user-free t u (gap-new t u at i next s words words' h p e))) k in
+      let v = b .0 ∙ ap (λ (x : Table). mapOne u x .value) (a .table) in
+      let m = subst (λ (x : Result ℕ). (g .0 ≡ x .value) × Leaves x at next2 (tableOf c gu ug (s .solverFromGlobal) (s .globalFromSolver) (s .assignment) rc) words words2)
+      (sym (map-user-free t u (gap-new t u at i next s words words' h p e))) (v, leaves-then (mapOne u) a (b .1)) in
       let q : c .global ≡ max (s .counts .global) (freeFor (s .records) (s .counts .global) u + 1) = ap (λ (d : Counts). d .global) (o .1 .0) in
-      let r = last-asks 0 (passed-none _ _) .1 .1 .1 .1 .1 .1 .0 in (
-        subst (λ (x : Table). Leaves (mapUser u t) at (g .0) next2 x words words2)
-            (λ j. tableOf c gu ug (f .solverFromGlobal j) (f .globalFromSolver j) (f .assignment j) rc) m,
+      let r = last-asks 0 (cursor-start _ _) .1 .1 .1 .1 .1 .1 .0 in (
+        (
+          m .0,
+          subst (λ (x : Table). Leaves (mapUser u t) at next2 x words words2)
+              (λ j. tableOf c gu ug (f .solverFromGlobal j) (f .globalFromSolver j) (f .assignment j) rc) (m .1),
+        ),
         rw (o .1 .1 .1 .1 .1 .1 .0) (taken-passed (s .records) (s .counts .global) (c .global) (freeFor (s .records) (s .counts .global) u) from r (omega arith) (o .1 .1 .0)),
       )
 
@@ -265,19 +259,19 @@ module _ (t : Table) (u at i next : ℕ) (s : Table) (words words' : List ℕ) (
       record {
         globalFromUser = ap length (o .1 .1 .1 .1 .0) ∙ length-set (s .globalFromUser) u _ ∙ z .globalFromUser;
         userFromGlobal = ap length (o .1 .1 .1 .1 .1 .0) ∙ length-set (s .userFromGlobal) _ (u + 1) ∙ z .userFromGlobal;
+        solverFromGlobal = refl;
+        globalFromSolver = refl;
+        assignment = refl;
         records = ap length (o .1 .1 .1 .1 .1 .1 .0) ∙ length-set (s .records) _ 9 ∙ z .records;
         notes = ap length (o .1 .1 .1 .1 .1 .1 .1) ∙ (simp length-sets) ∙ z .notes;
       }
 
 -- ---- on a whole table
 
-abbrev solversOf : Table → Solvers
-solversOf t = record { solverFromGlobal = t .solverFromGlobal; globalFromSolver = t .globalFromSolver; assignment = t .assignment }
-
 pub up-asks : (t : Table) (u at room : ℕ) → MapAsks t u at room → UpAsks (t .counts) (t .globalFromUser) (t .userFromGlobal) (t .records) u at room
 up-asks t u at room h = record { solvers = solversOf t; asks = h }
 
 pub up-leaves : (t : Table) (u at g next : ℕ) (c' : Counts) (gu' ug' records' words words' : List ℕ) → MapAsks t u at (length words)
     → UpLeaves (t .counts) (t .globalFromUser) (t .userFromGlobal) (t .records) u at g next c' gu' ug' records' words words'
-    → Leaves (mapUser u t) at g next (tableOf c' gu' ug' (t .solverFromGlobal) (t .globalFromSolver) (t .assignment) records') words words'
+    → (g ≡ mapUser u t .value) × Leaves (mapUser u t) at next (tableOf c' gu' ug' (t .solverFromGlobal) (t .globalFromSolver) (t .assignment) records') words words'
 up-leaves t u at g next c' gu' ug' records' words words' h l = l .with (solversOf t) h

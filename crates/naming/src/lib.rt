@@ -1,5 +1,5 @@
 // Map and New user. How the contracts read: crates/scope/specs/Contract.antt.
-use inner::least_free;
+use changes::least_free;
 use scope::Counts;
 use scope::Global;
 use scope::Note;
@@ -14,12 +14,13 @@ ghost use Prim.Native.Nat.{_+_, _-_, _≤_, _<_};
 ghost use lib.ListN.{length, getD, set};
 ghost use Rattle.base.specs.Bounded.{least, count};
 ghost use Rattle.base.specs.Lent.{old, new, Fills};
-ghost use Rattle.scope.specs.Contract.{given, before, after, lent, Meets};
+ghost use Rattle.scope.specs.Contract.{before, lent, Meets};
 ghost use Rattle.scope.specs.Table.{word, coverUser};
-ghost use Rattle.scope.specs.Map.{mapUser, mapRefusal, mapOf, newUserRefusal, newUserOf};
-ghost use Rattle.inner.specs.Cursor.{Passed};
-ghost use Rattle.inner.specs.Leaves.{Leaves};
-ghost use Rattle.naming.specs.Maps.{free, alive, freeFor, isUnsampled, Inside, MapAsks, UpAsks, UpLeaves, userMapped, newUserMapped};
+ghost use Rattle.scope.specs.Map.{mapRefusal, mapOf, newUserRefusal, newUserOf};
+ghost use Rattle.changes.specs.Cursor.{NoneFree};
+ghost use Rattle.naming.specs.Answers.{userMapped, newUserMapped};
+ghost use Rattle.naming.specs.Parts.{free, alive, freeFor, isUnsampled, Inside};
+ghost use Rattle.naming.specs.Asks.{UpAsks, UpLeaves};
 
 // A global and the cursor of free globals after its search.
 pub struct Taken {
@@ -50,7 +51,7 @@ pub enum NewUser {
 // The least deleted global below the mark, else the mark; below `from` there is none.
 fn least_deleted(records: &[u32], mark: u32, from: u32) -> u32
     requires { ⌜ mark ≤ length (now records) ⌝ }
-    requires { ⌜ Passed (free (now records)) mark from ⌝ }
+    requires { ⌜ NoneFree (free (now records)) mark from ⌝ }
     ensures { λ r. ⌜ r ≡ least mark (free (old records)) ⌝ }
 {
     let mut i = from;
@@ -67,9 +68,9 @@ fn least_deleted(records: &[u32], mark: u32, from: u32) -> u32
 fn global_for(records: &[u32], mark: u32, user: User, from: u32) -> Taken
     requires { ⌜ mark ≤ length (now records) ⌝ }
     requires { ⌜ user .0 < length (now records) ⌝ }
-    requires { ⌜ Passed (free (now records)) mark from ⌝ }
+    requires { ⌜ NoneFree (free (now records)) mark from ⌝ }
     ensures { λ r. ⌜ r .global .0 ≡ freeFor (old records) mark (user .0) ⌝ }
-    ensures { λ r. ⌜ Passed (free (old records)) mark (r .from) ⌝ }
+    ensures { λ r. ⌜ NoneFree (free (old records)) mark (r .from) ⌝ }
 {
     let u = user.0;
     if (u == mark) | (36 <= records[u as usize]) {
@@ -97,7 +98,7 @@ fn map_one(
     notes: &mut [u32],
 ) -> Mapped
     requires { ⌜ c .global ≤ length (now records) ⌝ }
-    requires { ⌜ Passed (free (now records)) (c .global) from ⌝ }
+    requires { ⌜ NoneFree (free (now records)) (c .global) from ⌝ }
     requires { ⌜ user .0 < length (now gu) ⌝ }
     requires { ⌜ user .0 < length (now records) ⌝ }
     requires { ⌜ user .0 < c .capacity ⌝ }
@@ -107,7 +108,7 @@ fn map_one(
     ensures { λ r. let g = freeFor (old records) (c .global) (user .0) in
         ⌜ r .global .0 ≡ g ⌝
         ∗ ⌜ r .counts ≡ coverUser c (user .0) g ⌝
-        ∗ ⌜ Passed (free (old records)) (c .global) (r .from) ⌝
+        ∗ ⌜ NoneFree (free (old records)) (c .global) (r .from) ⌝
         ∗ ⌜ r .at ≡ at + 3 ⌝ }
     ensures { λ _. let g = freeFor (old records) (c .global) (user .0) in
         ⌜ new gu ≡ set (old gu) (user .0) (g + 1) ⌝
@@ -129,9 +130,9 @@ fn map_one(
     }
 }
 
-// The global of a user: the one it has, else, after the gap below it, a free one, searched from the cursor on. The counts go through each
-// turn by value and come back new.
-fn map_up(
+// The global of a user of a sound table: the one it has, else, after the gap below it, a free one, searched from the cursor on. The counts
+// go through each turn by value and come back new. The solver maps and the assignment are not lent and may be any.
+pub fn map_up(
     c: Counts,
     gu: &mut [u32],
     ug: &mut [u32],
@@ -142,10 +143,10 @@ fn map_up(
     notes: &mut [u32],
 ) -> Mapped
     requires { ⌜ UpAsks c (now gu) (now ug) (now records) (user .0) at (length (now notes)) ⌝ }
-    requires { ⌜ Passed (free (now records)) (c .global) from ⌝ }
+    requires { ⌜ NoneFree (free (now records)) (c .global) from ⌝ }
     ensures { λ r. ⌜ UpLeaves c (old gu) (old ug) (old records) (user .0) at (r .global .0) (r .at)
         (r .counts) (new gu) (new ug) (new records) (old notes) (new notes) ⌝ }
-    ensures { λ r. ⌜ Passed (free (new records)) (r .counts .global) (r .from) ⌝ }
+    ensures { λ r. ⌜ NoneFree (free (new records)) (r .counts .global) (r .from) ⌝ }
 {
     let mut cur = c;
     let mut k = from;
@@ -168,29 +169,6 @@ fn map_up(
         from: k,
         at: next,
     }
-}
-
-// The same on a whole sound table.
-pub fn map_user(
-    c: Counts,
-    gu: &mut [u32],
-    ug: &mut [u32],
-    sg: &[u32],
-    gs: &[u32],
-    assignment: &[u32],
-    records: &mut [u32],
-    user: User,
-    from: u32,
-    at: usize,
-    notes: &mut [u32],
-) -> Mapped
-    requires { ⌜ MapAsks (given c gu ug sg gs assignment records) (user .0) at (length (now notes)) ⌝ }
-    requires { ⌜ Passed (free (now records)) (c .global) from ⌝ }
-    ensures { λ r. ⌜ Leaves (mapUser (user .0) (before c gu ug sg gs assignment records)) at (r .global .0) (r .at)
-        (after (r .counts) gu ug sg gs assignment records) (old notes) (new notes) ⌝ }
-    ensures { λ r. ⌜ Passed (free (new records)) (r .counts .global) (r .from) ⌝ }
-{
-    map_up(c, gu, ug, records, user, from, at, notes)
 }
 
 // How many globals are not deleted.
@@ -278,7 +256,7 @@ fn map_refusal(
 }
 
 // Map (01, `global_from_user`; refusals 1, 3, 4, 5, 2): the user's global, or a mapping, the gap below the user first.
-// Definition: crates/scope/specs/Map.antt, `mapOf`; its answer: specs/Maps.antt, `userMapped`.
+// Definition: crates/scope/specs/Map.antt, `mapOf`; its answer: specs/Answers.antt, `userMapped`.
 pub fn global_from_user(
     c: Counts,
     gu: &mut [u32],
@@ -309,7 +287,7 @@ pub fn global_from_user(
     if n != 0 {
         return UserMapped::Refused(n);
     }
-    let m = map_user(c, gu, ug, sg, gs, assignment, records, user, 0, 0, notes);
+    let m = map_up(c, gu, ug, records, user, 0, 0, notes);
     let global = m.global;
     let counts = m.counts;
     UserMapped::Done(global, counts, (m.at / 3) as u32)
@@ -341,7 +319,7 @@ fn new_user_refusal(
 }
 
 // New user (01, `new_user_var`; refusals 1, 5, 2): the least unmapped user is mapped.
-// Definition: crates/scope/specs/Map.antt, `newUserOf`; its answer: specs/Maps.antt, `newUserMapped`.
+// Definition: crates/scope/specs/Map.antt, `newUserOf`; its answer: specs/Answers.antt, `newUserMapped`.
 pub fn new_user_var(
     c: Counts,
     gu: &mut [u32],
@@ -360,7 +338,7 @@ pub fn new_user_var(
         return NewUser::Refused(n);
     }
     let user = User(least_free(gu, c.user, 0));
-    let m = map_user(c, gu, ug, sg, gs, assignment, records, user, 0, 0, notes);
+    let m = map_up(c, gu, ug, records, user, 0, 0, notes);
     let global = m.global;
     let counts = m.counts;
     NewUser::Done(user, global, counts, (m.at / 3) as u32)

@@ -13,12 +13,13 @@ use borrow.Author.Tests.{lt-ltb, le-ltb, le-leb, lt-leb, leb-false, ltb-false, e
 use Rattle.base.specs.Answer.{accepted, refused, numberOf, valuesOf}
 use Rattle.base.specs.Bounded.{count, anyOf}
 use Rattle.base.proofs.Truth.{split}
+use Rattle.base.proofs.BelowLaws.{and-not-left, and-not-right}
 use Rattle.base.proofs.MemberLaws.{any-none, any-intro, or-left, or-right, or-neither}
 use Rattle.scope.specs.declared.Counts.{Counts}
 use Rattle.scope.specs.Literals.{indexOf}
 use Rattle.scope.specs.Table.{Table, word, undeleted}
 use Rattle.scope.specs.Sound.{Sizes, soundb}
-use Rattle.scope.specs.Outcome.{Outcome, short, unless}
+use Rattle.scope.specs.Outcome.{short}
 use Rattle.scope.specs.Map.{unsampled}
 use Rattle.scope.specs.Pose.{pose, wanted, usersToMap, poseRefusal, poseOf}
 use Rattle.scope.specs.Contract.{Said, Does}
@@ -26,13 +27,17 @@ use Rattle.scope.proofs.SoundLaws.{sound-of}
 use Rattle.scope.proofs.MapLaws.{isUngranted}
 use Rattle.scope.proofs.PoseLaws.{isNamed, isPassed, usersToGrant, pose-room-of, pose-count}
 use Rattle.scope.proofs.WantedLaws.{count-either, count-range}
-use Rattle.inner.specs.Leaves.{Leaves}
-use Rattle.inner.proofs.LeavesLaws.{does-refused, no-refusal}
-use Rattle.naming.specs.Maps.{alive, isUnsampled}
+use Rattle.scope.proofs.ResultLaws.{past}
+use Rattle.changes.specs.Leaves.{Leaves}
+use Rattle.changes.proofs.LeavesLaws.{notes-told}
+use Rattle.changes.proofs.CallLaws.{call-refused, call-accepted, refused-words, accepted-words}
+use Rattle.naming.specs.Parts.{alive, isUnsampled}
 use Rattle.naming.proofs.CallLaws.{undeleted-is, used-small}
 use Rattle.posing.specs.declared.PosedLits.{PosedLits}
 use Rattle.posing.specs.declared.PosedLits.the-variants.{Done, Refused}
-use Rattle.posing.specs.Poses.{named, isLow, needsGrant, countNamed, Covers, Within, PoseAsks, posed}
+use Rattle.posing.specs.Answers.{posed}
+use Rattle.posing.specs.Parts.{named, isLow, needsGrant, countNamed, Covers, Within}
+use Rattle.posing.specs.Asks.{PoseAsks}
 use Rattle.posing.proofs.CountLaws.{named-most}
 use Rattle.base.proofs.CountLaws.{count-most}
 
@@ -52,12 +57,9 @@ unnamed : (lits : List ℕ) (n : ℕ) → Within lits n → (v : ℕ) → n ≤ 
 unfolding named
 unnamed lits n w v l = any-intro (λ c. eqb (indexOf c) v) lits 0 (λ i k. ne-eqb _ v (let x = w .at i k in λ e. omega arith))
 
-and-false : (a b : Bool) → a ≡ false → a && b ≡ false
-and-false a b e = rw e
-
 count-capped : (p : ℕ → Bool) (lits : List ℕ) (n : ℕ) → n ≤ 4096 → Within lits n → countNamed 4096 p lits ≡ count n (λ v. named lits v && p v)
 unfolding countNamed
-count-capped p lits n l w = count-up-to (λ v. named lits v && p v) n 4096 l (λ v k. and-false (named lits v) (p v) (unnamed lits n w v k))
+count-capped p lits n l w = count-up-to (λ v. named lits v && p v) n 4096 l (λ v k. and-not-left (named lits v) (p v) (unnamed lits n w v k))
 
 -- from the watermark up, a user is named or passed exactly below the watermark after
 covered : (mark : ℕ) (lits : List ℕ) (top : ℕ) → Covers mark lits (length lits) top → (v : ℕ) → mark ≤ v → isNamed lits v || isPassed lits v ≡ ltb v top
@@ -81,15 +83,15 @@ covered mark lits top c v m = ⊎-elim
     go l false e = let x = c .tight v m (below e) in absurd (omega arith)
 
 -- F free, N named, P passed, U from the watermark up, B below the watermark after
-by-mark : (F N P B : Bool) → (N || P ≡ B) → F ≡ true → F && (N || (true && P)) ≡ (N && (false && F)) || (true && B)
-by-mark F true P B e f = rw f e
-by-mark F false P B e f = rw f e
+wanted-above : (F N P B : Bool) → (N || P ≡ B) → F ≡ true → F && (N || (true && P)) ≡ (N && (false && F)) || (true && B)
+wanted-above F true P B e f = rw f e
+wanted-above F false P B e f = rw f e
 
-below-mark : (F N P B : Bool) → F && (N || (false && P)) ≡ (N && (true && F)) || (false && B)
-below-mark true true P B = refl
-below-mark true false P B = refl
-below-mark false true P B = refl
-below-mark false false P B = refl
+wanted-below : (F N P B : Bool) → F && (N || (false && P)) ≡ (N && (true && F)) || (false && B)
+wanted-below true true P B = refl
+wanted-below true false P B = refl
+wanted-below false true P B = refl
+wanted-below false false P B = refl
 
 module _ (t : Table) (lits : List ℕ) (y : soundb t ≡ true) (w : Within lits (t .counts .capacity)) where
   sizes : Sizes t
@@ -101,22 +103,18 @@ module _ (t : Table) (lits : List ℕ) (y : soundb t ≡ true) (w : Within lits 
   unfolding wanted named isLow
   wanted-is top c v = ⊎-elim
       (λ (l : v < t .counts .user).
-      rw (lt-leb (t .counts .user) v l, lt-ltb v (t .counts .user) l) (below-mark (eqb (getD (t .globalFromUser) v 0) 0) (isNamed lits v) (isPassed lits v) (ltb v top)))
+      rw (lt-leb (t .counts .user) v l, lt-ltb v (t .counts .user) l) (wanted-below (eqb (getD (t .globalFromUser) v 0) 0) (isNamed lits v) (isPassed lits v) (ltb v top)))
       (λ (l : t .counts .user ≤ v).
       rw (le-leb (t .counts .user) v l, le-ltb v (t .counts .user) l)
-      (by-mark (eqb (getD (t .globalFromUser) v 0) 0) (isNamed lits v) (isPassed lits v) (ltb v top) (covered (t .counts .user) lits top c v l) (eq-eqb _ 0 (sound-of t y .user .atail v l))))
+      (wanted-above (eqb (getD (t .globalFromUser) v 0) 0) (isNamed lits v) (isPassed lits v) (ltb v top) (covered (t .counts .user) lits top c v l) (eq-eqb _ 0 (sound-of t y .user .atail v l))))
       (split v (t .counts .user))
 
   low-apart : (top v : ℕ) → named lits v && isLow (t .globalFromUser) (t .counts .user) v ≡ true → leb (t .counts .user) v && ltb v top ≡ false
   unfolding isLow
   low-apart top v e = ⊎-elim
       (λ (l : v < t .counts .user). rw (lt-leb (t .counts .user) v l))
-      (λ (l : t .counts .user ≤ v). absurd (true≢false (sym e ∙ rw (le-ltb v (t .counts .user) l) (none (named lits v)))))
+      (λ (l : t .counts .user ≤ v). absurd (true≢false (sym e ∙ rw (le-ltb v (t .counts .user) l) (and-not-right (named lits v) false refl))))
       (split v (t .counts .user))
-    where
-      none : (b : Bool) → b && false ≡ false
-      none true = refl
-      none false = refl
 
   top-most : (top : ℕ) → Covers (t .counts .user) lits (length lits) top → top ≤ t .counts .capacity
   top-most top c = let z = sizes in c .tight (t .counts .capacity) (omega arith) (w .at)
@@ -141,7 +139,7 @@ module _ (t : Table) (lits : List ℕ) (y : soundb t ≡ true) (w : Within lits 
 
 -- ---- what the counting gave
 
-pub record Counted (t : Table) (lits : List ℕ) (used low top grants : ℕ) : Type 0 where
+pub record PoseCounts (t : Table) (lits : List ℕ) (used low top grants : ℕ) : Type 0 where
   pub used-is : used ≡ undeleted t
   pub users-is : low + (top - t .counts .user) ≡ usersToMap t lits
   pub grants-is : grants ≡ usersToGrant t lits
@@ -151,13 +149,13 @@ pub record Counted (t : Table) (lits : List ℕ) (used low top grants : ℕ) : T
   pub top-most : top ≤ 4096
   pub grants-most : grants ≤ 4096
 
-pub counted : (t : Table) (lits : List ℕ) (used low top grants : ℕ) → soundb t ≡ true → Within lits (t .counts .capacity)
+pub pose-counts : (t : Table) (lits : List ℕ) (used low top grants : ℕ) → soundb t ≡ true → Within lits (t .counts .capacity)
     → used ≡ count (length (t .records)) (alive (t .records))
     → (low ≡ countNamed 4096 (isLow (t .globalFromUser) (t .counts .user)) lits)
     × ((Covers (t .counts .user) lits (length lits) top)
     × (grants ≡ countNamed 4096 (needsGrant (t .globalFromUser) (t .solverFromGlobal)) lits))
-    → Counted t lits used low top grants
-counted t lits used low top grants y w e h =
+    → PoseCounts t lits used low top grants
+pose-counts t lits used low top grants y w e h =
     let z = sound-of t y .sizes in
     let a = named-most 4096 (isLow (t .globalFromUser) (t .counts .user)) lits in
     let b = named-most 4096 (needsGrant (t .globalFromUser) (t .solverFromGlobal)) lits in
@@ -186,37 +184,37 @@ unfolding isUnsampled unsampled
 unsampled-are t lits = refl
 
 module _ (t : Table) (lits : List ℕ) (sampling : Bool) (outs room : ℕ) where
-  pub refuse-1 : soundb t ≡ false → 1 ≡ poseRefusal t lits sampling outs room
+  pub pose-1 : soundb t ≡ false → 1 ≡ poseRefusal t lits sampling outs room
   unfolding poseRefusal
-  refuse-1 n = rw n
+  pose-1 n = rw n
 
   module _ (y : soundb t ≡ true) where
-    pub refuse-many : 8192 < length lits → 3 ≡ poseRefusal t lits sampling outs room
+    pub pose-many : 8192 < length lits → 3 ≡ poseRefusal t lits sampling outs room
     unfolding poseRefusal
-    refuse-many l = rw (y, lt-ltb 8192 (length lits) l)
+    pose-many l = rw (y, lt-ltb 8192 (length lits) l)
 
     module _ (l : length lits ≤ 8192) where
-      pub refuse-3 : (b : Bool) → b ≡ anyOf (λ c. leb (t .counts .capacity) (indexOf c)) lits → b ≡ true → 3 ≡ poseRefusal t lits sampling outs room
+      pub pose-3 : (b : Bool) → b ≡ anyOf (λ c. leb (t .counts .capacity) (indexOf c)) lits → b ≡ true → 3 ≡ poseRefusal t lits sampling outs room
       unfolding poseRefusal
-      refuse-3 b q e =
+      pose-3 b q e =
           let a : anyOf (λ c. leb (t .counts .capacity) (indexOf c)) lits ≡ true = sym q ∙ e in
           rw (y, le-ltb 8192 (length lits) l, a)
 
       module _ (a : anyOf (λ c. leb (t .counts .capacity) (indexOf c)) lits ≡ false) where
-        pub refuse-4 : (b : Bool) → b ≡ sampling && anyOf (λ c. isUnsampled (t .globalFromUser) (t .records) (indexOf c)) lits → b ≡ true → 4 ≡ poseRefusal t lits sampling outs room
+        pub pose-4 : (b : Bool) → b ≡ sampling && anyOf (λ c. isUnsampled (t .globalFromUser) (t .records) (indexOf c)) lits → b ≡ true → 4 ≡ poseRefusal t lits sampling outs room
         unfolding poseRefusal
-        refuse-4 b q e =
+        pose-4 b q e =
             let s : sampling && anyOf (λ c. unsampled t (indexOf c)) lits ≡ true = ap (λ (x : Bool). sampling && x) (sym (unsampled-are t lits)) ∙ sym q ∙ e in
             rw (y, le-ltb 8192 (length lits) l, a, s)
 
         module _ (b : Bool) (q : b ≡ sampling && anyOf (λ c. isUnsampled (t .globalFromUser) (t .records) (indexOf c)) lits) (e : b ≡ false)
-            (used low top grants : ℕ) (k : Counted t lits used low top grants) where
+            (used low top grants : ℕ) (k : PoseCounts t lits used low top grants) where
           sampled : sampling && anyOf (λ c. unsampled t (indexOf c)) lits ≡ false
           sampled = ap (λ (x : Bool). sampling && x) (sym (unsampled-are t lits)) ∙ sym q ∙ e
 
-          pub refuse-5 : t .counts .capacity < used + (low + (top - t .counts .user)) → 5 ≡ poseRefusal t lits sampling outs room
+          pub pose-5 : t .counts .capacity < used + (low + (top - t .counts .user)) → 5 ≡ poseRefusal t lits sampling outs room
           unfolding poseRefusal
-          refuse-5 h =
+          pose-5 h =
               let c = k .used-is in
               let d = k .users-is in
               let f : ltb (t .counts .capacity) (undeleted t + usersToMap t lits) ≡ true = lt-ltb _ _ (let x : t .counts .capacity < undeleted t + usersToMap t lits = omega arith in x) in
@@ -236,23 +234,23 @@ module _ (t : Table) (lits : List ℕ) (sampling : Bool) (outs room : ℕ) where
                 let g = k .grants-is in
                 omega arith
 
-            pub refuse-2 : ltb outs (length lits) || ltb room (3 * (low + (top - t .counts .user) + grants)) ≡ true → 2 ≡ poseRefusal t lits sampling outs room
+            pub pose-2 : ltb outs (length lits) || ltb room (3 * (low + (top - t .counts .user) + grants)) ≡ true → 2 ≡ poseRefusal t lits sampling outs room
             unfolding poseRefusal
-            refuse-2 r = rw (y, le-ltb 8192 (length lits) l, a, sampled, enough, words, r)
+            pose-2 r = rw (y, le-ltb 8192 (length lits) l, a, sampled, enough, words, r)
 
-            pub refuse-0 : ltb outs (length lits) || ltb room (3 * (low + (top - t .counts .user) + grants)) ≡ false → 0 ≡ poseRefusal t lits sampling outs room
+            pub pose-0 : ltb outs (length lits) || ltb room (3 * (low + (top - t .counts .user) + grants)) ≡ false → 0 ≡ poseRefusal t lits sampling outs room
             unfolding poseRefusal
-            refuse-0 r = rw (y, le-ltb 8192 (length lits) l, a, sampled, enough, words, r)
+            pose-0 r = rw (y, le-ltb 8192 (length lits) l, a, sampled, enough, words, r)
 
 -- no refusal is what the inner steps ask
-pub asks-of : (t : Table) (lits : List ℕ) (sampling : Bool) (n outs room : ℕ) → n ≡ poseRefusal t lits sampling outs room → n ≡ 0 → PoseAsks t lits outs room
+pub pose-asks : (t : Table) (lits : List ℕ) (sampling : Bool) (n outs room : ℕ) → n ≡ poseRefusal t lits sampling outs room → n ≡ 0 → PoseAsks t lits outs room
 unfolding poseRefusal
-asks-of t lits sampling n outs room q e =
-    let a = no-refusal (not (soundb t)) 1 _ (λ z. omega arith) (sym q ∙ e) in
-    let b = no-refusal (ltb 8192 (length lits) || anyOf (λ c. leb (t .counts .capacity) (indexOf c)) lits) 3 _ (λ z. omega arith) (a .1) in
-    let c = no-refusal (sampling && anyOf (λ c. unsampled t (indexOf c)) lits) 4 _ (λ z. omega arith) (b .1) in
-    let d = no-refusal (ltb (t .counts .capacity) (undeleted t + usersToMap t lits)) 5 _ (λ z. omega arith) (c .1) in
-    let f = no-refusal (ltb outs (length lits) || short room (pose lits t .notes)) 2 0 (λ z. omega arith) (d .1) in
+pose-asks t lits sampling n outs room q e =
+    let a = past (not (soundb t)) 1 _ (omega arith) (sym q ∙ e) in
+    let b = past (ltb 8192 (length lits) || anyOf (λ c. leb (t .counts .capacity) (indexOf c)) lits) 3 _ (omega arith) (a .1) in
+    let c = past (sampling && anyOf (λ c. unsampled t (indexOf c)) lits) 4 _ (omega arith) (b .1) in
+    let d = past (ltb (t .counts .capacity) (undeleted t + usersToMap t lits)) 5 _ (omega arith) (c .1) in
+    let f = past (ltb outs (length lits) || short room (pose lits t .notes)) 2 0 (omega arith) (d .1) in
     record {
       sound = not-false (soundb t) (a .0);
       within = within-of lits (t .counts .capacity) (or-right (ltb 8192 (length lits)) _ (b .0));
@@ -269,38 +267,34 @@ unfolding usersToGrant
 grants-most t lits = count-most (t .counts .capacity) _
 
 -- the count of notes fits a word
-pub count-small : (t : Table) (lits : List ℕ) (outs room at : ℕ) (v : List ℕ) (left : Table) (words words' : List ℕ) → PoseAsks t lits outs room → Leaves (pose lits t) 0 v at left words words' → at / 3 < 2 ^ 32
-count-small t lits outs room at v left words words' h m =
+pub pose-few : (t : Table) (lits : List ℕ) (outs room : ℕ) → PoseAsks t lits outs room → length (pose lits t .notes) < 2 ^ 32
+pose-few t lits outs room h =
     let z = sound-of t (h .sound) .sizes in
     let n = pose-count t lits (record { sound = sound-of t (h .sound); within = h .within .at; room = h .enough }) in
     let g = grants-most t lits in
     let r = h .enough in
-    let x = m .moved in
     omega arith
-
--- a refused call fills nothing
-refused-words : (n : ℕ) (t : Table) (o : Outcome) → (n ≡ 0 → ⊥) → unless n t o .words ≡ []
-unfolding unless
-refused-words zero t o e = absurd (e refl)
-refused-words (suc n) t o e = refl
 
 pub pose-refused : (t : Table) (lits : List ℕ) (sampling : Bool) (n : ℕ) (out words : List ℕ) → n ≡ poseRefusal t lits sampling (length out) (length words) → (n ≡ 0 → ⊥)
     → Does (poseOf t lits sampling (length out) (length words)) (posed (Refused n) (t .counts)) t words words
     × (out ≡ sets out 0 (poseOf t lits sampling (length out) (length words) .words))
 unfolding poseOf
 pose-refused t lits sampling n out words q e =
-    rw (← q) (does-refused n t _ words e, ap (λ (l : List ℕ). sets out 0 l) (sym (refused-words n t _ e)))
+    let r = poseRefusal t lits sampling (length out) (length words) in
+    (call-refused r n t _ words q e, ap (λ (l : List ℕ). sets out 0 l) (sym (refused-words r n t _ q e)))
 
 -- an accepted one
 pub pose-done : (t : Table) (lits : List ℕ) (sampling : Bool) (n at : ℕ) (left : Table) (out out' words words' : List ℕ) → n ≡ poseRefusal t lits sampling (length out) (length words) → n ≡ 0
-    → Leaves (pose lits t) 0 (pose lits t .value) at left words words' × (out' ≡ sets out 0 (pose lits t .value))
+    → Leaves (pose lits t) 0 at left words words' × (out' ≡ sets out 0 (pose lits t .value))
     → Does (poseOf t lits sampling (length out) (length words)) (posed (Done (length lits) (left .counts) (at / 3)) (t .counts)) left words words'
     × (out' ≡ sets out 0 (poseOf t lits sampling (length out) (length words) .words))
-unfolding poseOf unless
+unfolding poseOf
 pose-done t lits sampling n at left out out' words words' q e h =
-    let c : at / 3 ≡ length (pose lits t .notes) = let z = h .0 .moved in omega arith in
-    rw (← q, e)
-    (record { answer = λ i. accepted (length lits ∷ c i ∷ []); table = h .0 .table; noted = h .0 .noted }, h .1)
+    let r = poseRefusal t lits sampling (length out) (length words) in (
+      call-accepted r n t _ _ left words words' q e
+          (record { answer = λ i. accepted (length lits ∷ notes-told (h .0) i ∷ []); table = h .0 .table; noted = h .0 .noted }),
+      h .1 ∙ ap (λ (l : List ℕ). sets out 0 l) (sym (accepted-words r n t _ q e)),
+    )
 
 -- The number and the values tell the answer.
 pub posed-one : (x y : PosedLits) (c : Counts) → posed x c ≡ posed y c → x ≡ y

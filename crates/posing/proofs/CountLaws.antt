@@ -15,13 +15,13 @@ use Rattle.base.specs.Choice.{pick}
 use Rattle.base.specs.Bounded.{anyOf}
 use Rattle.base.proofs.Truth.{same}
 use Rattle.base.proofs.CountLaws.{count-most}
-use Rattle.base.proofs.BelowLaws.{and-true}
+use Rattle.base.proofs.BelowLaws.{and-true, and-not-right}
 use Rattle.base.proofs.MemberLaws.{any-start, any-more, or-none}
 use Rattle.scope.specs.Literals.{indexOf}
 use Rattle.scope.proofs.ResultLaws.{word-none, word-some}
 use Rattle.scope.proofs.WantedLaws.{count-either, count-never, count-point}
 use Rattle.posing.specs.declared.Needs.{Needs}
-use Rattle.posing.specs.Poses.{named, isLow, needsGrant, countNamed, Covers, Within}
+use Rattle.posing.specs.Parts.{named, isLow, needsGrant, countNamed, Covers, Within}
 
 -- ---- the users named by a prefix
 
@@ -35,18 +35,18 @@ named-more lits i v l = any-more (λ c. eqb (indexOf c) v) lits i 0 l
 
 -- ---- one user more
 
-more : (N E p : Bool) → (N || E) && p ≡ (N && p) || (E && (not N && p))
-more true true true = refl
-more true true false = refl
-more true false true = refl
-more true false false = refl
-more false true p = refl
-more false false p = refl
+named-or : (N E p : Bool) → (N || E) && p ≡ (N && p) || (E && (not N && p))
+named-or true true true = refl
+named-or true true false = refl
+named-or true false true = refl
+named-or true false false = refl
+named-or false true p = refl
+named-or false false p = refl
 
-apart : (N E p : Bool) → N && p ≡ true → E && (not N && p) ≡ false
-apart true true p e = refl
-apart true false p e = refl
-apart false E p e = absurd (true≢false (sym e))
+named-apart : (N E p : Bool) → N && p ≡ true → E && (not N && p) ≡ false
+named-apart true true p e = refl
+named-apart true false p e = refl
+named-apart false E p e = absurd (true≢false (sym e))
 
 -- whatever is counted, a user counts if it was not named before
 count-named : (lits : List ℕ) (i : ℕ) (p : ℕ → Bool) → i < length lits → indexOf (getD lits i 0) < 4096
@@ -57,8 +57,8 @@ count-named lits i p l h =
     let u = indexOf (getD lits i 0) in
     let a =
     count-either 4096 (λ v. named (take i lits) v && p v) (λ v. eqb u v && (not (named (take i lits) v) && p v)) (λ v. named (take (i + 1) lits) v && p v)
-    (λ v. rw (named-more lits i v l) (more (named (take i lits) v) (eqb u v) (p v)))
-    (λ v e. apart (named (take i lits) v) (eqb u v) (p v) e) in
+    (λ v. rw (named-more lits i v l) (named-or (named (take i lits) v) (eqb u v) (p v)))
+    (λ v e. named-apart (named (take i lits) v) (eqb u v) (p v) e) in
     let b = count-point 4096 u (λ v. not (named (take i lits) v) && p v) h in
     omega arith
 
@@ -89,7 +89,7 @@ covers-more mark lits i top c =
 
 -- ---- the loop
 
-pub record Counted (mark : ℕ) (gu sg lits : List ℕ) (i : ℕ) (seen : List ℕ) (n : Needs) : Type 0 where
+pub record CountedTo (mark : ℕ) (gu sg lits : List ℕ) (i : ℕ) (seen : List ℕ) (n : Needs) : Type 0 where
   pub most : i ≤ length lits
   pub low : n .low ≡ countNamed 4096 (isLow gu mark) (take i lits)
   pub top : Covers mark lits i (n .top)
@@ -101,7 +101,7 @@ zeros zero u = refl
 zeros (suc n) zero = refl
 zeros (suc n) (suc u) = zeros n u
 
-pub counted-start : (mark : ℕ) (gu sg lits : List ℕ) (n : ℕ) → Counted mark gu sg lits 0 (replicate n 0) (record { low = 0; top = mark; grants = 0 })
+pub counted-start : (mark : ℕ) (gu sg lits : List ℕ) (n : ℕ) → CountedTo mark gu sg lits 0 (replicate n 0) (record { low = 0; top = mark; grants = 0 })
 counted-start mark gu sg lits n =
     record {
       most = omega arith;
@@ -115,11 +115,11 @@ pub counted-more : (mark : ℕ) (gu sg lits : List ℕ) (i : ℕ) (seen : List �
     → length seen ≡ 4096
     → Within lits 4096
     → i < length lits
-    → Counted mark gu sg lits i seen n
+    → CountedTo mark gu sg lits i seen n
     → (r .low ≡ n .low + pick (eqb (getD seen (indexOf (getD lits i 0)) 0) 0 && isLow gu mark (indexOf (getD lits i 0))) 1 0)
     × ((r .top ≡ max (n .top) (indexOf (getD lits i 0) + 1))
     × (r .grants ≡ n .grants + pick (eqb (getD seen (indexOf (getD lits i 0)) 0) 0 && needsGrant gu sg (indexOf (getD lits i 0))) 1 0))
-    → Counted mark gu sg lits (i + 1) (set seen (indexOf (getD lits i 0)) 1) r
+    → CountedTo mark gu sg lits (i + 1) (set seen (indexOf (getD lits i 0)) 1) r
 counted-more mark gu sg lits i seen n r z w l d h =
     let u = indexOf (getD lits i 0) in
     let k = w .at i l in
@@ -143,7 +143,7 @@ counted-more mark gu sg lits i seen n r z w l d h =
     all true = refl
     all false = refl
 
-pub counted-end : (mark : ℕ) (gu sg lits : List ℕ) (i : ℕ) (seen : List ℕ) (n : Needs) → length lits ≤ i → Counted mark gu sg lits i seen n
+pub counted-end : (mark : ℕ) (gu sg lits : List ℕ) (i : ℕ) (seen : List ℕ) (n : Needs) → length lits ≤ i → CountedTo mark gu sg lits i seen n
     → (n .low ≡ countNamed 4096 (isLow gu mark) lits) × ((Covers mark lits (length lits) (n .top)) × (n .grants ≡ countNamed 4096 (needsGrant gu sg) lits))
 counted-end mark gu sg lits i seen n l d =
     let e = take-all i lits l in
@@ -151,7 +151,7 @@ counted-end mark gu sg lits i seen n l d =
     (d .low ∙ ap (countNamed 4096 (isLow gu mark)) e, (rw (← q) (d .top), d .grants ∙ ap (countNamed 4096 (needsGrant gu sg)) e))
 
 -- what the loop keeps small
-pub counted-small : (mark : ℕ) (gu sg lits : List ℕ) (i : ℕ) (seen : List ℕ) (n : Needs) → Counted mark gu sg lits i seen n → (n .low ≤ 8192) × (n .grants ≤ 8192)
+pub counted-small : (mark : ℕ) (gu sg lits : List ℕ) (i : ℕ) (seen : List ℕ) (n : Needs) → CountedTo mark gu sg lits i seen n → (n .low ≤ 8192) × (n .grants ≤ 8192)
 counted-small mark gu sg lits i seen n d =
     let a = d .low in
     let b = d .grants in
@@ -164,28 +164,21 @@ counted-small mark gu sg lits i seen n d =
 pub asked : (a b r : Bool) → a ≡ true → r ≡ b → r ≡ a && b
 asked a b r e q = rw e q
 
-pub unasked : (a b : Bool) → a ≡ false → a && b ≡ false
-unasked a b e = rw e
-
 -- ---- the tests of one user
 
-pub grant-none : (gu sg : List ℕ) (u : ℕ) → getD gu u 0 ≡ 0 → true ≡ needsGrant gu sg u
+pub needs-none : (gu sg : List ℕ) (u : ℕ) → getD gu u 0 ≡ 0 → true ≡ needsGrant gu sg u
 unfolding needsGrant
-grant-none gu sg u e = sym (word-none true _ _ e)
+needs-none gu sg u e = sym (word-none true _ _ e)
 
-grant-some : (gu sg : List ℕ) (u g : ℕ) → getD gu u 0 ≡ g + 1 → eqb (getD sg g 0) 0 ≡ needsGrant gu sg u
+needs-some : (gu sg : List ℕ) (u g : ℕ) → getD gu u 0 ≡ g + 1 → eqb (getD sg g 0) 0 ≡ needsGrant gu sg u
 unfolding needsGrant
-grant-some gu sg u g e = sym (word-some true (λ g. eqb (getD sg g 0) 0) _ g e)
+needs-some gu sg u g e = sym (word-some true (λ g. eqb (getD sg g 0) 0) _ g e)
 
-pub grant-free : (gu sg : List ℕ) (u g : ℕ) → getD gu u 0 ≡ g + 1 → getD sg g 0 ≡ 0 → true ≡ needsGrant gu sg u
-grant-free gu sg u g e q = sym (eq-eqb (getD sg g 0) 0 q) ∙ grant-some gu sg u g e
+pub needs-free : (gu sg : List ℕ) (u g : ℕ) → getD gu u 0 ≡ g + 1 → getD sg g 0 ≡ 0 → true ≡ needsGrant gu sg u
+needs-free gu sg u g e q = sym (eq-eqb (getD sg g 0) 0 q) ∙ needs-some gu sg u g e
 
-pub grant-held : (gu sg : List ℕ) (u g s : ℕ) → getD gu u 0 ≡ g + 1 → getD sg g 0 ≡ s + 1 → false ≡ needsGrant gu sg u
-grant-held gu sg u g s e q = sym (ne-eqb (getD sg g 0) 0 (λ z. omega arith)) ∙ grant-some gu sg u g e
-
-and-false : (b : Bool) → b && false ≡ false
-and-false true = refl
-and-false false = refl
+pub needs-held : (gu sg : List ℕ) (u g s : ℕ) → getD gu u 0 ≡ g + 1 → getD sg g 0 ≡ s + 1 → false ≡ needsGrant gu sg u
+needs-held gu sg u g s e q = sym (ne-eqb (getD sg g 0) 0 (λ z. omega arith)) ∙ needs-some gu sg u g e
 
 -- a test as a number
 byte-one : (b : Bool) → boolByte b ≡ pick b 1 0
@@ -201,13 +194,13 @@ grants-is m gu sg u fresh e = rw (e, and-true fresh) (ap (λ (k : ℕ). m + k) (
 
 -- a user that has a solver index counts nowhere
 unneeded : (m : ℕ) (fresh b : Bool) → b ≡ false → m ≡ m + pick (fresh && b) 1 0
-unneeded m fresh b e = rw (e, and-false fresh) (omega arith)
+unneeded m fresh b e = rw (and-not-right fresh b e) (omega arith)
 
 held-mapped : (gu sg : List ℕ) (mark u : ℕ) → needsGrant gu sg u ≡ false → isLow gu mark u ≡ false
 unfolding isLow
 held-mapped gu sg mark u e =
-    let n : getD gu u 0 ≡ 0 → ⊥ = λ z. true≢false (grant-none gu sg u z ∙ e) in
-    rw (ne-eqb (getD gu u 0) 0 n) (and-false (ltb u mark))
+    let n : getD gu u 0 ≡ 0 → ⊥ = λ z. true≢false (needs-none gu sg u z ∙ e) in
+    and-not-right (ltb u mark) _ (ne-eqb (getD gu u 0) 0 n)
 
 pub held-counts : (low grants : ℕ) (gu sg : List ℕ) (mark u : ℕ) (fresh : Bool) → needsGrant gu sg u ≡ false
     → (low ≡ low + pick (fresh && isLow gu mark u) 1 0) × (grants ≡ grants + pick (fresh && needsGrant gu sg u) 1 0)

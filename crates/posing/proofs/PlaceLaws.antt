@@ -3,7 +3,6 @@ use Prim.Native.Nat.{ℕ, zero, suc, _+_, _-_, _<_}
 use mathlib.Core.Path.{_≡_, refl, sym, ap, _∙_, subst}
 use mathlib.Core.List.{List}
 use native.Mathlib.Omega.{arith}
-use lib.Dec.{eqb}
 use lib.ListN.{length, getD, length-append}
 use Rattle.scope.specs.Table.{Table, word}
 use Rattle.scope.specs.Outcome.{Result, _then_}
@@ -13,68 +12,73 @@ use Rattle.scope.proofs.ResultLaws.{word-none, word-some}
 use Rattle.scope.proofs.SoundLaws.{sound-of, sound-to}
 use Rattle.scope.proofs.MapLaws.{MapRoom, map-user-has, map-user-mapped, mapped-global}
 use Rattle.scope.proofs.GrantLaws.{grant-has, grant-granted}
-use Rattle.inner.specs.Cursor.{Passed}
-use Rattle.inner.specs.Leaves.{Leaves}
-use Rattle.inner.proofs.LeavesLaws.{leaves-stay, leaves-then, leaves-length}
+use Rattle.changes.specs.Cursor.{NoneFree, AllMapped}
+use Rattle.changes.specs.Leaves.{Leaves}
+use Rattle.changes.proofs.LeavesLaws.{leaves-stay, leaves-then, leaves-length}
 use Rattle.table.specs.declared.FoundSolver.{FoundSolver}
 use Rattle.table.specs.Found.{foundSolver}
-use Rattle.granting.specs.Grants.{GrantAsks}
-use Rattle.naming.specs.Maps.{free, MapAsks}
-use Rattle.posing.specs.Poses.{heldWord, Ahead, placed, PlaceAsks}
+use Rattle.granting.specs.Asks.{GrantAsks}
+use Rattle.naming.specs.Parts.{free}
+use Rattle.naming.specs.Asks.{MapAsks}
+use Rattle.posing.specs.Parts.{heldWord}
+use Rattle.posing.specs.Asks.{Ahead, poseUser, PlaceAsks}
 
 map-room : (t : Table) (u at room : ℕ) → PlaceAsks t u at room → MapRoom t u
 map-room t u at room h = record { sound = sound-of t (h .sound); within = h .within; room = h .enough }
 
 -- the notes of both
-both : (t : Table) (u : ℕ) → length (placed u t .notes) ≡ length (mapUser u t .notes) + length (grant (mapUser u t .value) (mapUser u t .table) .notes)
+both : (t : Table) (u : ℕ) → length (poseUser u t .notes) ≡ length (mapUser u t .notes) + length (grant (mapUser u t .value) (mapUser u t .table) .notes)
 both t u = length-append (mapUser u t .notes) (grant (mapUser u t .value) (mapUser u t .table) .notes)
 
-pub map-asks : (t : Table) (u at room : ℕ) → PlaceAsks t u at room → MapAsks t u at room
-map-asks t u at room h =
+pub place-map-asks : (t : Table) (u at room : ℕ) → PlaceAsks t u at room → MapAsks t u at room
+place-map-asks t u at room h =
     let n = map-user-mapped t u (map-room t u at room h) .count in
     let e = both t u in
     let w = h .words in
     record { sound = h .sound; within = h .within; enough = h .enough; words = omega arith }
 
-pub grant-asks : (t : Table) (u at g at1 : ℕ) (t1 : Table) (words words1 : List ℕ) → PlaceAsks t u at (length words)
-    → Leaves (mapUser u t) at g at1 t1 words words1 → GrantAsks t1 g at1 (length words1)
-grant-asks t u at g at1 t1 words words1 h m =
+pub place-grant-asks : (t : Table) (u at g at1 : ℕ) (t1 : Table) (words words1 : List ℕ) → PlaceAsks t u at (length words)
+    → g ≡ mapUser u t .value → Leaves (mapUser u t) at at1 t1 words words1 → GrantAsks t1 g at1 (length words1)
+place-grant-asks t u at g at1 t1 words words1 h v m =
     let x = map-user-mapped t u (map-room t u at _ h) in
     let k = mapped-global (mapUser u t .table) u (mapUser u t .value) (x .sound) (x .has) in
     let e = both t u in
     let w = h .words in
     let q = m .moved in
-    let n = leaves-length _ _ _ _ _ _ _ m in
+    let n = leaves-length _ _ _ _ _ _ m in
     subst (λ (s : Table). GrantAsks s g at1 (length words1)) (sym (m .table))
-    (subst (λ (j : ℕ). GrantAsks (mapUser u t .table) j at1 (length words1)) (sym (m .value))
+    (subst (λ (j : ℕ). GrantAsks (mapUser u t .table) j at1 (length words1)) (sym v)
     (record { sound = sound-to _ (x .sound); below = k .1; alive = k .0; words = omega arith }))
 
-pub placed-leaves : (t : Table) (u at g at1 s at2 : ℕ) (t1 t2 : Table) (words words1 words2 : List ℕ)
-    → Leaves (mapUser u t) at g at1 t1 words words1
-    → Leaves (grant g t1) at1 s at2 t2 words1 words2
-    → Leaves (placed u t) at s at2 t2 words words2
-placed-leaves t u at g at1 s at2 t1 t2 words words1 words2 a b = leaves-then (mapUser u t) grant at g at1 s at2 t1 t2 words words1 words2 a b
+pub place-leaves : (t : Table) (u at g at1 s at2 : ℕ) (t1 t2 : Table) (words words1 words2 : List ℕ)
+    → g ≡ mapUser u t .value → Leaves (mapUser u t) at at1 t1 words words1
+    → s ≡ grant g t1 .value → Leaves (grant g t1) at1 at2 t2 words1 words2
+    → (s ≡ poseUser u t .value) × Leaves (poseUser u t) at at2 t2 words words2
+place-leaves t u at g at1 s at2 t1 t2 words words1 words2 e a f b = (
+  f ∙ (λ i. grant (e i) (a .table i) .value),
+  leaves-then (grant (mapUser u t .value)) a (subst (λ (j : ℕ). Leaves (grant j t1) at1 at2 t2 words1 words2) e b),
+)
 
 -- a mapping leaves the solver indices alone
-pub solver-ahead : (t : Table) (u at g at1 from : ℕ) (t1 : Table) (words words1 : List ℕ) → PlaceAsks t u at (length words)
-    → Leaves (mapUser u t) at g at1 t1 words words1
-    → Passed (λ i. eqb (getD (t .globalFromSolver) i 0) 0) (t .counts .solver) from
-    → Passed (λ i. eqb (getD (t1 .globalFromSolver) i 0) 0) (t1 .counts .solver) from
-solver-ahead t u at g at1 from t1 words words1 h m p =
+pub solver-ahead : (t : Table) (u at at1 from : ℕ) (t1 : Table) (words words1 : List ℕ) → PlaceAsks t u at (length words)
+    → Leaves (mapUser u t) at at1 t1 words words1
+    → AllMapped (t .globalFromSolver) (t .counts .solver) from
+    → AllMapped (t1 .globalFromSolver) (t1 .counts .solver) from
+solver-ahead t u at at1 from t1 words words1 h m p =
     let x = map-user-mapped t u (map-room t u at _ h) .same in
     let a : t1 .globalFromSolver ≡ t .globalFromSolver = ap (λ (s : Table). s .globalFromSolver) (m .table) ∙ x .globalFromSolver in
     let b : t1 .counts .solver ≡ t .counts .solver = ap (λ (s : Table). s .counts .solver) (m .table) ∙ x .solver in
-    subst (λ (l : List ℕ). Passed (λ i. eqb (getD l i 0) 0) (t1 .counts .solver) from) (sym a)
-    (subst (λ (n : ℕ). Passed (λ i. eqb (getD (t .globalFromSolver) i 0) 0) n from) (sym b) p)
+    subst (λ (l : List ℕ). AllMapped l (t1 .counts .solver) from) (sym a)
+    (subst (λ (n : ℕ). AllMapped (t .globalFromSolver) n from) (sym b) p)
 
 -- and a grant the globals
-pub global-ahead : (g at1 s at2 from after : ℕ) (t1 t2 : Table) (words1 words2 : List ℕ)
+pub global-ahead : (g at1 at2 from after : ℕ) (t1 t2 : Table) (words1 words2 : List ℕ)
     → GrantAsks t1 g at1 (length words1)
-    → Leaves (grant g t1) at1 s at2 t2 words1 words2
-    → Passed (free (t1 .records)) (t1 .counts .global) from
-    → Passed (λ i. eqb (getD (t2 .globalFromSolver) i 0) 0) (t2 .counts .solver) after
+    → Leaves (grant g t1) at1 at2 t2 words1 words2
+    → NoneFree (free (t1 .records)) (t1 .counts .global) from
+    → AllMapped (t2 .globalFromSolver) (t2 .counts .solver) after
     → Ahead t2 (record { solver = after; global = from })
-global-ahead g at1 s at2 from after t1 t2 words1 words2 h m p q =
+global-ahead g at1 at2 from after t1 t2 words1 words2 h m p q =
     let x = grant-granted t1 g (sound-of t1 (h .sound)) (h .alive) .same in
     let a : t2 .records ≡ t1 .records = ap (λ (s : Table). s .records) (m .table) ∙ x .records in
     let b : t2 .counts .global ≡ t1 .counts .global = ap (λ (s : Table). s .counts .global) (m .table) ∙ x .global in
@@ -91,22 +95,25 @@ unfolding heldWord
 held-some gu sg u g f e q = q ∙ ap foundSolver (sym (word-some 0 (λ g. getD sg g 0) _ g e))
 
 -- nothing changes
-pub held-leaves : (t : Table) (u s at : ℕ) (words : List ℕ) → heldWord (t .globalFromUser) (t .solverFromGlobal) u ≡ s + 1 → Leaves (placed u t) at s at t words words
+pub held-leaves : (t : Table) (u s at : ℕ) (words : List ℕ) → heldWord (t .globalFromUser) (t .solverFromGlobal) u ≡ s + 1
+    → (s ≡ poseUser u t .value) × Leaves (poseUser u t) at at t words words
 unfolding heldWord
 held-leaves t u s at words e = go (getD (t .globalFromUser) u 0) refl
   where
-    go : (w : ℕ) → getD (t .globalFromUser) u 0 ≡ w → Leaves (placed u t) at s at t words words
+    go : (w : ℕ) → getD (t .globalFromUser) u 0 ≡ w → (s ≡ poseUser u t .value) × Leaves (poseUser u t) at at t words words
     go zero q = absurd (let z = sym (word-none 0 (λ g. getD (t .solverFromGlobal) g 0) _ q) ∙ e in omega arith)
     go (suc g) q =
         let m : getD (t .globalFromUser) u 0 ≡ g + 1 = omega arith in
         let h = sym (word-some 0 (λ g. getD (t .solverFromGlobal) g 0) _ g m) ∙ e in
-        placed-leaves t u at g at s at t t words words words
-        (subst (λ (x : Result ℕ). Leaves x at g at t words words) (sym (map-user-has t u g m)) (leaves-stay g at t words))
-        (subst (λ (x : Result ℕ). Leaves x at s at t words words) (sym (grant-has t g s h)) (leaves-stay s at t words))
+        let a = sym (map-user-has t u g m) in
+        let b = sym (grant-has t g s h) in
+        place-leaves t u at g at s at t t words words words
+        (ap (λ (x : Result ℕ). x .value) a) (subst (λ (x : Result ℕ). Leaves x at at t words words) a (leaves-stay t at words))
+        (ap (λ (x : Result ℕ). x .value) b) (subst (λ (x : Result ℕ). Leaves x at at t words words) b (leaves-stay t at words))
 
 -- the solver index is one of the capacity
-pub placed-small : (t : Table) (u : ℕ) → MapRoom t u → placed u t .value < t .counts .capacity
-placed-small t u r =
+pub place-small : (t : Table) (u : ℕ) → MapRoom t u → poseUser u t .value < t .counts .capacity
+place-small t u r =
     let x = map-user-mapped t u r in
     let k = mapped-global (mapUser u t .table) u (mapUser u t .value) (x .sound) (x .has) in
     let y = grant-granted (mapUser u t .table) (mapUser u t .value) (x .sound) (k .0) .below in

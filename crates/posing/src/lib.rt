@@ -1,8 +1,9 @@
 // Pose. How the contracts read: crates/scope/specs/Contract.antt.
+use changes::Passed;
 use granting::grant_index;
 use naming::count_undeleted;
 use naming::is_unsampled;
-use naming::map_user;
+use naming::map_up;
 use scope::Counts;
 use scope::Solver;
 use scope::User;
@@ -24,10 +25,12 @@ ghost use Rattle.base.specs.Lent.{old, new, Fills};
 ghost use Rattle.scope.specs.Literals.{indexOf};
 ghost use Rattle.scope.specs.Contract.{given, before, after, lent, Meets};
 ghost use Rattle.scope.specs.Pose.{pose, poseRefusal, poseOf};
-ghost use Rattle.inner.specs.Leaves.{Leaves};
+ghost use Rattle.changes.specs.Leaves.{Leaves};
 ghost use Rattle.table.specs.Found.{foundSolver};
-ghost use Rattle.naming.specs.Maps.{isUnsampled, Inside};
-ghost use Rattle.posing.specs.Poses.{isLow, heldWord, needsGrant, countNamed, Covers, Within, Ahead, placed, PlaceAsks, PoseAsks, posed};
+ghost use Rattle.naming.specs.Parts.{isUnsampled, Inside};
+ghost use Rattle.posing.specs.Answers.{posed};
+ghost use Rattle.posing.specs.Parts.{isLow, heldWord, needsGrant, countNamed, Covers, Within};
+ghost use Rattle.posing.specs.Asks.{Ahead, poseUser, PlaceAsks, PoseAsks};
 
 // Where the searches for a free solver index and for a free global go on.
 pub struct Cursors {
@@ -40,12 +43,6 @@ pub struct Placed {
     pub counts: Counts,
     pub solver: Solver,
     pub cursors: Cursors,
-    pub at: usize,
-}
-
-// The counts after all literals, and the place after the notes.
-pub struct Posed {
-    pub counts: Counts,
     pub at: usize,
 }
 
@@ -88,29 +85,16 @@ fn place_new(
 ) -> Placed
     requires { ⌜ PlaceAsks (given c gu ug sg gs assignment records) (user .0) at (length (now notes)) ⌝ }
     requires { ⌜ Ahead (given c gu ug sg gs assignment records) k ⌝ }
-    ensures { λ r. ⌜ Leaves (placed (user .0) (before c gu ug sg gs assignment records)) at (r .solver .0) (r .at)
+    ensures { λ r. ⌜ r .solver .0 ≡ poseUser (user .0) (before c gu ug sg gs assignment records) .value ⌝ }
+    ensures { λ r. ⌜ Leaves (poseUser (user .0) (before c gu ug sg gs assignment records)) at (r .at)
         (after (r .counts) gu ug sg gs assignment records) (old notes) (new notes) ⌝ }
     ensures { λ r. ⌜ Ahead (after (r .counts) gu ug sg gs assignment records) (r .cursors) ⌝ }
 {
-    let m = map_user(
-        c,
-        gu,
-        ug,
-        sg,
-        gs,
-        assignment,
-        records,
-        user,
-        k.global,
-        at,
-        notes,
-    );
+    let m = map_up(c, gu, ug, records, user, k.global, at, notes);
     let counts = m.counts;
     let global = m.global;
     let h = grant_index(
         counts,
-        gu,
-        ug,
         sg,
         gs,
         assignment,
@@ -150,7 +134,8 @@ fn place_user(
 ) -> Placed
     requires { ⌜ PlaceAsks (given c gu ug sg gs assignment records) (user .0) at (length (now notes)) ⌝ }
     requires { ⌜ Ahead (given c gu ug sg gs assignment records) k ⌝ }
-    ensures { λ r. ⌜ Leaves (placed (user .0) (before c gu ug sg gs assignment records)) at (r .solver .0) (r .at)
+    ensures { λ r. ⌜ r .solver .0 ≡ poseUser (user .0) (before c gu ug sg gs assignment records) .value ⌝ }
+    ensures { λ r. ⌜ Leaves (poseUser (user .0) (before c gu ug sg gs assignment records)) at (r .at)
         (after (r .counts) gu ug sg gs assignment records) (old notes) (new notes) ⌝ }
     ensures { λ r. ⌜ Ahead (after (r .counts) gu ug sg gs assignment records) (r .cursors) ⌝ }
 {
@@ -177,10 +162,10 @@ fn place_all(
     lits: &[u32],
     out: &mut [u32],
     notes: &mut [u32],
-) -> Posed
+) -> Passed
     requires { ⌜ PoseAsks (given c gu ug sg gs assignment records) (now lits) (length (now out)) (length (now notes)) ⌝ }
     ensures { λ r. let x = pose (old lits) (before c gu ug sg gs assignment records) in
-        ⌜ Leaves x 0 (x .value) (r .at) (after (r .counts) gu ug sg gs assignment records) (old notes) (new notes) ⌝
+        ⌜ Leaves x 0 (r .at) (after (r .counts) gu ug sg gs assignment records) (old notes) (new notes) ⌝
         ∗ ⌜ Fills out 0 (x .value) ⌝ }
 {
     let mut cur = c;
@@ -201,7 +186,7 @@ fn place_all(
         out[i] = 2 * solver.0 + code % 2;
         i += 1;
     }
-    Posed { counts: cur, at }
+    Passed { counts: cur, at }
 }
 
 // Sampling is required, and a literal's user has a global that is not Sample.
@@ -328,7 +313,7 @@ fn pose_refusal(
 }
 
 // Pose (01, `solver_from_user_lits`; refusals 1, 3, 4, 5, 2): literal by literal, Map of the user and Grant of its global; the sign stays.
-// Definition: crates/scope/specs/Pose.antt, `poseOf`; its answer: specs/Poses.antt, `posed`.
+// Definition: crates/scope/specs/Pose.antt, `poseOf`; its answer: specs/Answers.antt, `posed`.
 pub fn solver_from_user_lits(
     c: Counts,
     gu: &mut [u32],

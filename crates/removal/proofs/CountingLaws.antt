@@ -12,7 +12,7 @@ use Rattle.scope.specs.Notes.{Note, deletes}
 use Rattle.scope.specs.Outcome.{stay, choose}
 use Rattle.scope.specs.Modes.{isUnused, deleteIfUnused}
 use Rattle.scope.specs.Remove.{removeHeld}
-use Rattle.deletion.proofs.DeletionLaws.{cleared}
+use Rattle.changes.proofs.DeletionLaws.{cleared}
 use Rattle.removal.specs.Counting.{removalNotes}
 
 -- without its solver index a global is unused if it has no user and is isolated

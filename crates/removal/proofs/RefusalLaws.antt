@@ -18,7 +18,7 @@ use Rattle.scope.proofs.MarkLaws.{held-else, held-refuses}
 use Rattle.table.specs.Found.{foundGlobal}
 use Rattle.table.proofs.FoundLaws.{global-word}
 use Rattle.table.specs.declared.FoundGlobal.the-variants.{At, Nothing}
-use Rattle.deletion.proofs.DeletionLaws.{record-read}
+use Rattle.changes.proofs.DeletionLaws.{record-read}
 use Rattle.removal.specs.Counting.{removalNotes}
 use Rattle.removal.specs.Asks.{Holding}
 use Rattle.removal.proofs.CountingLaws.{removal-notes}

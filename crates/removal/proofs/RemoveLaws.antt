@@ -21,9 +21,11 @@ use Rattle.scope.specs.Contract.{Does}
 use Rattle.table.specs.Found.{foundGlobal}
 use Rattle.table.specs.declared.FoundGlobal.the-variants.{At, Nothing}
 use Rattle.scope.proofs.ResultLaws.{past}
-use Rattle.deletion.specs.Leaving.{Leaves, Room, Live}
-use Rattle.deletion.proofs.LeavingLaws.{leaves-then}
-use Rattle.deletion.proofs.CallLaws.{call-refused, call-accepted, call-noted}
+use Rattle.changes.specs.Leaves.{Leaves, Room}
+use Rattle.changes.specs.Live.{Live}
+use Rattle.changes.proofs.LeavesLaws.{leaves-then}
+use Rattle.changes.proofs.DeletionLaws.{delete-any}
+use Rattle.changes.proofs.CallLaws.{call-refused, call-accepted, call-noted}
 use Rattle.removal.specs.Asks.{Holding}
 use Rattle.removal.specs.declared.Removed.the-variants.{Done, Refused}
 use Rattle.removal.specs.Answers.{removed}
@@ -58,12 +60,12 @@ module _ (t : Table) (g s : ℕ) (d : Counts) (sg gs : List ℕ)
       subst (λ (n : ℕ). Leaves (removeHeld g s t) at n left words words3) (sym e) (leaves-then (deleteIfUnused g) (taken-leaves at words words2 q) k)
 
   pub remove-asks : (at room room2 : ℕ) → Holding t g s → Room (removeHeld g s t) at room → room2 ≡ room
-      → Live (tableOf d (t .globalFromUser) (t .userFromGlobal) sg gs (t .assignment) (t .records)) g
-      × Room (deleteIfUnused g (tableOf d (t .globalFromUser) (t .userFromGlobal) sg gs (t .assignment) (t .records))) (at + 3) room2
+      → Live (t .userFromGlobal) sg (t .records) g
+      × ((gu2 gs2 a : List ℕ) → Room (deleteIfUnused g (tableOf d gu2 (t .userFromGlobal) sg gs2 a (t .records))) (at + 3) room2)
   unfolding removeHeld mid
-  remove-asks at room room2 h r q = (live, subst (λ (u : Table). Room (deleteIfUnused g u) (at + 3) room2) (sym mid-is) words)
+  remove-asks at room room2 h r q = (live, delete-any g mid (at + 3) room2 (subst (λ (u : Table). Room (deleteIfUnused g u) (at + 3) room2) (sym mid-is) words))
     where
-      live : Live mid g
+      live : Live (t .userFromGlobal) sg (t .records) g
       live =
           let l = h .live in
           let x : length sg ≡ length (t .solverFromGlobal) = ap length (e .1 .0) ∙ length-set (t .solverFromGlobal) g 0 in

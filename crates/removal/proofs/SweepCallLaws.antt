@@ -9,16 +9,17 @@ use lib.ListN.{length}
 use borrow.Author.Tests.{ltb-false, not-false, lt-ltb, le-ltb}
 use Rattle.scope.specs.declared.Counts.{Counts}
 use Rattle.scope.specs.Table.{Table}
-use Rattle.scope.specs.Sound.{soundb}
+use Rattle.scope.specs.Sound.{soundb, Sizes}
 use Rattle.scope.specs.Outcome.{each}
 use Rattle.scope.specs.Remove.{sweepOne, sweep, sweepRefusal, sweepOf}
 use Rattle.scope.specs.Contract.{Does}
 use Rattle.scope.proofs.SoundLaws.{sound-of}
 use Rattle.scope.proofs.ResultLaws.{past}
 use Rattle.scope.proofs.RemoveLaws.{sweep-passed}
-use Rattle.deletion.specs.Leaving.{Leaves, Room}
-use Rattle.deletion.proofs.LeavingLaws.{leaves-length, turns-none, turns-more, turns-room}
-use Rattle.deletion.proofs.CallLaws.{call-refused, call-accepted, call-noted}
+use Rattle.changes.specs.Leaves.{Leaves, Room}
+use Rattle.changes.proofs.LeavesLaws.{leaves-length, SameSizes, same-sizes}
+use Rattle.changes.proofs.TurnLaws.{turns-none, turns-more, turns-room}
+use Rattle.changes.proofs.CallLaws.{call-refused, call-accepted, call-noted}
 use Rattle.removal.specs.Asks.{Sweepable}
 use Rattle.removal.specs.declared.Removed.the-variants.{Done, Refused}
 use Rattle.removal.specs.Answers.{removed}
@@ -40,13 +41,6 @@ pub sweep-end : (t : Table) (s at : ℕ) (left : Table) (words words2 : List ℕ
 unfolding sweep
 sweep-end t s at left words words2 e h = subst (λ (i : ℕ). Leaves (each i sweepOne t) 0 at left words words2) e h
 
--- the lengths are as they were
-pub record SameSizes (t left : Table) (words words2 : List ℕ) : Type 0 where
-  pub solvers : length (left .solverFromGlobal) ≡ length (t .solverFromGlobal)
-  pub holders : length (left .globalFromSolver) ≡ length (t .globalFromSolver)
-  pub records : length (left .records) ≡ length (t .records)
-  pub notes : length words2 ≡ length words
-
 module _ (t : Table) (y : soundb t ≡ true) (s at : ℕ) (left : Table) (words words2 : List ℕ) (h : Leaves (each s sweepOne t) 0 at left words words2) where
   pub sweep-asks : (room : ℕ) → s < t .counts .solver → Room (sweep t) 0 room → room ≡ length words → Sweepable left s
       × Room (sweepOne s left) at (length words2)
@@ -59,18 +53,10 @@ module _ (t : Table) (y : soundb t ≡ true) (s at : ℕ) (left : Table) (words 
   pub sweep-sizes : SameSizes t left words words2
   sweep-sizes =
       let a = sweep-passed t (sound-of t y) s in
-      let z = sound-of t y .sizes in
-      let x = a .sound .sizes in
       let c = a .marks .capacity in
-      let sizes : (length (each s sweepOne t .table .solverFromGlobal) ≡ length (t .solverFromGlobal))
-      × (length (each s sweepOne t .table .globalFromSolver) ≡ length (t .globalFromSolver))
-      × (length (each s sweepOne t .table .records) ≡ length (t .records)) = omega arith in
-      record {
-        solvers = ap (λ (u : Table). length (u .solverFromGlobal)) (h .table) ∙ sizes .0;
-        holders = ap (λ (u : Table). length (u .globalFromSolver)) (h .table) ∙ sizes .1;
-        records = ap (λ (u : Table). length (u .records)) (h .table) ∙ sizes .2;
-        notes = leaves-length (each s sweepOne t) 0 at left words words2 h;
-      }
+      let k = ap (λ (u : Table). u .counts .capacity) (h .table) in
+      same-sizes t left words words2 (sound-of t y .sizes) (subst (λ (u : Table). Sizes u) (sym (h .table)) (a .sound .sizes)) (omega arith)
+      (leaves-length (each s sweepOne t) 0 at left words words2 h)
 
 -- ---- the call
 

@@ -15,7 +15,7 @@ use Rattle.scope.specs.Outcome.{Result, stay, choose, each}
 use Rattle.scope.specs.Remove.{removeHeld, learn, sweepHeld, sweepOne, sweep}
 use Rattle.scope.proofs.ResultLaws.{each-zero}
 use Rattle.scope.proofs.RemoveLaws.{Swept, sweep-passed, learn-same}
-use Rattle.deletion.proofs.LeavingLaws.{each-count}
+use Rattle.changes.proofs.TurnLaws.{each-count}
 use Rattle.removal.specs.Counting.{learnt, isLoose, sweptNotes, notesAt, notesBy, Counted}
 use Rattle.removal.proofs.CountingLaws.{removal-notes, removal-few}
 use Rattle.removal.proofs.HeldLaws.{holding-of}

@@ -16,9 +16,9 @@ use Rattle.base.proofs.MemberLaws.{getD-default}
 use Rattle.table.specs.Found.{foundGlobal}
 use Rattle.table.proofs.FoundLaws.{global-word}
 use Rattle.table.specs.declared.FoundGlobal.the-variants.{At, Nothing}
-use Rattle.deletion.specs.Leaving.{Leaves, Room}
-use Rattle.deletion.proofs.LeavingLaws.{leaves-stay}
-use Rattle.deletion.proofs.DeletionLaws.{record-read}
+use Rattle.changes.specs.Leaves.{Leaves, Room}
+use Rattle.changes.proofs.LeavesLaws.{leaves-stay}
+use Rattle.changes.proofs.DeletionLaws.{record-read}
 use Rattle.removal.specs.Counting.{removalNotes, learnt, isLoose, sweptNotes, notesBy}
 use Rattle.removal.specs.Asks.{Holding, Readable}
 

@@ -4,11 +4,11 @@ use mathlib.Core.Path.{_≡_}
 use mathlib.Core.List.{List}
 use lib.ListN.{length, getD}
 use Rattle.scope.specs.Table.{Table}
-use Rattle.deletion.specs.Leaving.{Live}
+use Rattle.changes.specs.Live.{Live}
 
 -- The global g is undeleted, and both it and the solver index s have their words.
 pub record Holding (t : Table) (g s : ℕ) : Type 0 where
-  pub live : Live t g
+  pub live : Live (t .userFromGlobal) (t .solverFromGlobal) (t .records) g
   pub solver : s < length (t .globalFromSolver)
   pub value : s < length (t .assignment)
   pub small : getD (t .assignment) s 0 ≤ 2

@@ -1,6 +1,6 @@
-// Remove and Sweep. How the contracts read: crates/scope/specs/Contract.antt, and inside a call crates/deletion/specs/Leaving.antt.
-use deletion::Passed;
-use deletion::delete_global_if_unused;
+// Remove and Sweep. How the contracts read: crates/scope/specs/Contract.antt, and inside a call crates/changes/specs/Leaves.antt.
+use changes::Passed;
+use changes::delete_global_if_unused;
 use scope::Counts;
 use scope::Global;
 use scope::Note;
@@ -19,7 +19,7 @@ ghost use Rattle.scope.specs.Contract.{given, before, after, lent, Meets};
 ghost use Rattle.scope.specs.Sound.{soundb};
 ghost use Rattle.scope.specs.Outcome.{each};
 ghost use Rattle.scope.specs.Remove.{removeHeld, removeRefusal, removeOf, sweepOne, sweep, sweepRefusal, sweepOf};
-ghost use Rattle.deletion.specs.Leaving.{Leaves, Room};
+ghost use Rattle.changes.specs.Leaves.{Leaves, Room};
 ghost use Rattle.removal.specs.Counting.{removalNotes, learnt, isLoose, notesBy, Counted};
 ghost use Rattle.removal.specs.Asks.{Holding, Readable, Sweepable};
 ghost use Rattle.removal.specs.Answers.{removed};
@@ -52,18 +52,7 @@ fn remove_held(
     let next = at + 3;
     let counts = c.remove(sg, gs, global, solver);
     put_note(notes, at, Note::SolverWithdrawn(global));
-    delete_global_if_unused(
-        counts,
-        gu,
-        ug,
-        sg,
-        gs,
-        assignment,
-        records,
-        global,
-        next,
-        notes,
-    )
+    delete_global_if_unused(counts, ug, sg, records, global, next, notes)
 }
 
 // How many notes a removal makes, by the user word and the record of the global.

@@ -1,5 +1,7 @@
-use Rattle.granting.proofs.GrantLaws.{grant-refused, asks-of, count-small, grant-done}
-use Rattle.inner.proofs.CursorLaws.{passed-none}
+use mathlib.Core.List.{[]}
+use Rattle.granting.proofs.GrantLaws.{grant-refused, grant-asks, grant-few, grant-done}
+use Rattle.changes.proofs.CursorLaws.{cursor-start}
+use Rattle.changes.proofs.LeavesLaws.{notes-fit}
 use borrow.Author.Needs.{needs}
 use Rattle.granting.proofs.solver_from_global.Statement.{statement}
 use Rattle.granting.proofs.solver_from_global.Tie as tie
@@ -20,10 +22,10 @@ returns : tie.Need-returns
 returns c = grant-refused _ _ _ _ (c .before .grant-refusal .ensures) (c .if1 .taken)
 
 grant-index-requires : tie.Need-grant-index-requires
-grant-index-requires c κs = (asks-of _ _ _ _ (c .before .before .before .before .before .grant-refusal .ensures) (c .before .before .before .before .if1 .left), passed-none _ _)
+grant-index-requires c κs = (record { gu = _; ug = _; asks = grant-asks _ _ _ _ (c .before .before .before .before .before .grant-refusal .ensures) (c .before .before .before .before .if1 .left) }, cursor-start _ _)
 
 cast-t30 : tie.Need-cast-t30
-cast-t30 c = record { fits = count-small _ _ _ _ _ _ _ (c .before .before .before .before .before .before .before .before .before .before .before .grant-index .ensures .0) }
+cast-t30 c = record { fits = notes-fit ((c .before .before .before .before .before .before .before .before .before .before .before .grant-index .ensures .1 .0) [] []) (grant-few _ _) }
 
 same-length-4 : tie.Need-same-length-4
 same-length-4 c = search needs
@@ -38,7 +40,7 @@ same-length-7 : tie.Need-same-length-7
 same-length-7 c = search needs
 
 returns-2 : tie.Need-returns-2
-returns-2 c = grant-done _ _ _ _ _ _ _ _ (c .before .before .before .before .before .before .before .before .before .before .before .before .before .before .before .before .before .grant-refusal .ensures) (c .before .before .before .before .before .before .before .before .before .before .before .before .before .before .before .before .if1 .left) (c .before .before .before .before .before .before .before .before .before .before .before .grant-index .ensures .0)
+returns-2 c = grant-done _ _ _ _ _ _ _ _ (c .before .before .before .before .before .before .before .before .before .before .before .before .before .before .before .before .before .grant-refusal .ensures) (c .before .before .before .before .before .before .before .before .before .before .before .before .before .before .before .before .if1 .left) ((c .before .before .before .before .before .before .before .before .before .before .before .grant-index .ensures .0) _ _) ((c .before .before .before .before .before .before .before .before .before .before .before .grant-index .ensures .1 .0) _ _)
 
 pub solver-from-global-spec : {M : Type 1} → statement M
 solver-from-global-spec =

@@ -1,4 +1,4 @@
-use Rattle.model.proofs.CallLaws.{clear, told-refused, told-done}
+use Rattle.model.proofs.CallLaws.{globals-asks, users-asks, model-told-refused, model-told-done}
 use borrow.Author.Needs.{needs}
 use Rattle.model.proofs.model.Statement.{statement}
 use Rattle.model.proofs.model.Tie as tie
@@ -7,13 +7,13 @@ model-refusal-requires : tie.Need-model-refusal-requires
 model-refusal-requires c κs = search needs
 
 returns : tie.Need-returns
-returns c = let z = told-refused _ _ _ _ (c .before .model-refusal .ensures) (c .if1 .taken) in (z .does, (z .globals, z .users))
+returns c = let z = model-told-refused _ _ _ _ (c .before .model-refusal .ensures) (c .if1 .taken) in (z .does, (z .globals, z .users))
 
 reconstruct-global-model-requires : tie.Need-reconstruct-global-model-requires
-reconstruct-global-model-requires c κs = let k = clear _ _ _ _ (c .before .before .model-refusal .ensures) (c .before .if1 .left) in (k .sound, k .globals)
+reconstruct-global-model-requires c κs = globals-asks _ _ _ _ (c .before .before .model-refusal .ensures) (c .before .if1 .left)
 
 fill-users-requires : tie.Need-fill-users-requires
-fill-users-requires c κs = let k = clear _ _ _ _ (c .before .before .before .before .before .before .model-refusal .ensures) (c .before .before .before .before .before .if1 .left) in (k .sound, k .users)
+fill-users-requires c κs = users-asks _ _ _ _ (c .before .before .before .before .before .before .model-refusal .ensures) (c .before .before .before .before .before .if1 .left)
 
 same-length : tie.Need-same-length
 same-length c = search needs
@@ -22,7 +22,7 @@ same-length-2 : tie.Need-same-length-2
 same-length-2 c = search needs
 
 returns-2 : tie.Need-returns-2
-returns-2 c = let z = told-done _ _ _ _ _ _ _ (c .before .before .before .before .before .before .before .before .before .model-refusal .ensures) (c .before .before .before .before .before .before .before .before .if1 .left) (c .before .before .before .before .before .before .reconstruct-global-model .ensures) (c .before .before .fill-users .ensures .0) (c .before .before .fill-users .ensures .1) in (z .does, (z .globals, z .users))
+returns-2 c = let z = model-told-done _ _ _ _ _ _ _ (c .before .before .before .before .before .before .before .before .before .model-refusal .ensures) (c .before .before .before .before .before .before .before .before .if1 .left) (c .before .before .before .before .before .before .reconstruct-global-model .ensures) (c .before .before .fill-users .ensures .0) (c .before .before .fill-users .ensures .1) in (z .does, (z .globals, z .users))
 
 pub model-spec : {M : Type 1} → statement M
 model-spec =

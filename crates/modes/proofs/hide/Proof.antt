@@ -47,7 +47,7 @@ put-note-requires : tie.Need-put-note-requires
 put-note-requires c κs = (hide-room _ _ _ _ (c .before .before .before .before .before .before .before .before .before .before .before .before .before .before .before .before .before .before .pre .1), omega arith)
 
 delete-global-if-unused-requires : tie.Need-delete-global-if-unused-requires
-delete-global-if-unused-requires c κs = hide-delete _ _ (c .before .before .before .before .before .before .before .before .before .before .before .before .before .before .before .before .before .before .before .before .before .before .before .before .before .pre .0) _ _ _ (c .before .before .before .before .before .before .before .before .before .before .before .before .unmap .ensures) _ _ _ (c .before .before .before .before .before .before .before .before .before .before .before .before .before .before .before .before .before .before .before .before .before .before .before .before .before .pre .1) (c .before .before .before .before .before .before .put-note .kept .0)
+delete-global-if-unused-requires c κs = hide-delete _ _ (c .before .before .before .before .before .before .before .before .before .before .before .before .before .before .before .before .before .before .before .before .before .before .before .before .pre .0) _ _ _ (c .before .before .before .before .before .before .before .before .before .before .before .unmap .ensures) _ _ _ (c .before .before .before .before .before .before .before .before .before .before .before .before .before .before .before .before .before .before .before .before .before .before .before .before .pre .1) (c .before .before .before .before .before .put-note .kept .0)
 
 same-length : tie.Need-same-length
 same-length c = search needs
@@ -56,13 +56,13 @@ same-length-2 : tie.Need-same-length-2
 same-length-2 c = search needs
 
 same-length-3 : tie.Need-same-length-3
-same-length-3 c = (c .before .before .before .before .delete-global-if-unused .kept .1 .1 .1 .1 .1 .1 .0) ∙ simp length-set
+same-length-3 c = (c .before .before .before .before .delete-global-if-unused .kept .1 .1 .1 .0) ∙ simp length-set
 
 same-length-4 : tie.Need-same-length-4
 same-length-4 c = search needs
 
 returns : tie.Need-returns
-returns c = hide-leaves _ _ (c .before .before .before .before .before .before .before .before .before .before .before .before .before .before .before .before .before .before .before .before .before .before .before .before .before .before .before .before .before .before .pre .0) _ _ _ (c .before .before .before .before .before .before .before .before .before .before .before .before .before .before .before .before .before .unmap .ensures) _ _ _ _ _ _ (c .before .before .before .before .before .before .before .before .before .before .before .put-note .ensures) (c .before .before .before .before .delete-global-if-unused .ensures)
+returns c = hide-leaves _ _ (c .before .before .before .before .before .before .before .before .before .before .before .before .before .before .before .before .before .before .before .before .before .before .before .before .before .before .before .before .before .pre .0) _ _ _ (c .before .before .before .before .before .before .before .before .before .before .before .before .before .before .before .before .unmap .ensures) _ _ _ _ _ _ (c .before .before .before .before .before .before .before .before .before .before .put-note .ensures) (c .before .before .before .before .delete-global-if-unused .ensures _ _ _)
 
 pub hide-spec : {M : Type 1} → statement M
 hide-spec =

@@ -1,4 +1,4 @@
-use Rattle.modes.proofs.ObserveCallLaws.{Observing, observing-none, observing-asks, observing-more, observing-sizes, observing-end}
+use Rattle.modes.proofs.ObserveCallLaws.{Observing, observing-none, observing-asks, observing-more, observing-sizes, observing-users, observing-end}
 use native.Mathlib.Omega.{arith}
 use mathlib.Core.Path.{refl}
 use Prim.Native.Nat.{_-_, _≤_}
@@ -37,7 +37,7 @@ same-length-3 : tie.Need-same-length-3 Inv-loop μ-loop
 same-length-3 c = observing-sizes _ _ _ _ _ _ _ _ _ _ (c .before .loop .inv .1) _ _ (c .before .before .before .before .before .before .before .before .before .before .pre) .records
 
 same-length-4 : tie.Need-same-length-4 Inv-loop μ-loop
-same-length-4 c = observing-sizes _ _ _ _ _ _ _ _ _ _ (c .before .loop .inv .1) _ _ (c .before .before .before .before .before .before .before .before .before .before .pre) .filled
+same-length-4 c = observing-users _ _ _ _ _ _ _ _ _ _ (c .before .loop .inv .1)
 
 same-length-5 : tie.Need-same-length-5 Inv-loop μ-loop
 same-length-5 c = observing-sizes _ _ _ _ _ _ _ _ _ _ (c .before .loop .inv .1) _ _ (c .before .before .before .before .before .before .before .before .before .before .pre) .notes

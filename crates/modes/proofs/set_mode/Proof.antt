@@ -1,4 +1,4 @@
-use Rattle.modes.proofs.SetModeLaws.{same-does, set-fits, hide-is, hide-asks, hide-does, show-is, show-asks, show-does, change-is, change-asks, change-does}
+use Rattle.modes.proofs.SetModeLaws.{same-does, set-fits, hide-is, hide-asks, hide-does, show-is, show-asks, show-does, change-asks, change-does}
 use Rattle.modes.proofs.NotesLaws.{there-live}
 use borrow.Author.Needs.{needs}
 use Rattle.modes.proofs.set_mode.Statement.{statement}
@@ -19,8 +19,8 @@ returns c = same-does _ _ _ _ (c .before .before .before .before .before .before
 hide-requires : tie.Need-hide-requires
 hide-requires c κs = hide-asks _ _ _ _ (c .before .before .before .before .before .before .before .before .before .before .before .before .before .before .before .pre) (c .before .before .before .before .before .if1 .left) (c .before .before .before .before .if2 .taken)
 
-cast-t33 : tie.Need-cast-t33
-cast-t33 c = record { fits = set-fits _ _ _ _ (c .before .before .before .before .before .before .before .before .before .before .before .before .before .before .before .before .before .before .before .before .before .before .before .before .before .before .pre) _ (hide-is _ _ _ _ (c .before .before .before .before .before .before .before .before .before .before .before .before .before .before .before .before .before .before .before .before .before .before .before .before .before .before .pre) (c .before .before .before .before .before .before .before .before .before .before .before .before .before .before .before .before .if1 .left) (c .before .before .before .before .before .before .before .before .before .before .before .before .before .before .before .if2 .taken)) _ _ _ _ (c .before .before .before .before .before .before .before .before .before .before .hide .ensures) }
+cast-t31 : tie.Need-cast-t31
+cast-t31 c = record { fits = set-fits _ _ _ _ (c .before .before .before .before .before .before .before .before .before .before .before .before .before .before .before .before .before .before .before .before .before .before .before .before .before .before .pre) _ (hide-is _ _ _ _ (c .before .before .before .before .before .before .before .before .before .before .before .before .before .before .before .before .before .before .before .before .before .before .before .before .before .before .pre) (c .before .before .before .before .before .before .before .before .before .before .before .before .before .before .before .before .if1 .left) (c .before .before .before .before .before .before .before .before .before .before .before .before .before .before .before .if2 .taken)) _ _ _ _ (c .before .before .before .before .before .before .before .before .before .before .hide .ensures) }
 
 same-length : tie.Need-same-length
 same-length c = search needs
@@ -40,8 +40,8 @@ returns-2 c = hide-does _ _ _ _ (c .before .before .before .before .before .befo
 show-requires : tie.Need-show-requires
 show-requires c κs = show-asks _ _ _ _ (c .before .before .before .before .before .before .before .before .before .before .before .before .before .before .before .before .pre) (c .before .before .before .before .before .before .if1 .left) (c .before .before .before .before .before .if2 .left) (c .before .before .before .before .if3 .taken)
 
-cast-t43 : tie.Need-cast-t43
-cast-t43 c = record { fits = set-fits _ _ _ _ (c .before .before .before .before .before .before .before .before .before .before .before .before .before .before .before .before .before .before .before .before .before .before .before .before .before .before .before .before .pre) _ (show-is _ _ _ _ (c .before .before .before .before .before .before .before .before .before .before .before .before .before .before .before .before .before .before .before .before .before .before .before .before .before .before .before .before .pre) (c .before .before .before .before .before .before .before .before .before .before .before .before .before .before .before .before .before .before .if1 .left) (c .before .before .before .before .before .before .before .before .before .before .before .before .before .before .before .before .before .if2 .left) (c .before .before .before .before .before .before .before .before .before .before .before .before .before .before .before .before .if3 .taken)) _ _ _ _ (c .before .before .before .before .before .before .before .before .before .before .before .show .ensures .0) }
+cast-t41 : tie.Need-cast-t41
+cast-t41 c = record { fits = set-fits _ _ _ _ (c .before .before .before .before .before .before .before .before .before .before .before .before .before .before .before .before .before .before .before .before .before .before .before .before .before .before .before .before .pre) _ (show-is _ _ _ _ (c .before .before .before .before .before .before .before .before .before .before .before .before .before .before .before .before .before .before .before .before .before .before .before .before .before .before .before .before .pre) (c .before .before .before .before .before .before .before .before .before .before .before .before .before .before .before .before .before .before .if1 .left) (c .before .before .before .before .before .before .before .before .before .before .before .before .before .before .before .before .before .if2 .left) (c .before .before .before .before .before .before .before .before .before .before .before .before .before .before .before .before .if3 .taken)) _ _ _ _ ((c .before .before .before .before .before .before .before .before .before .before .before .show .ensures .0) _) }
 
 same-length-5 : tie.Need-same-length-5
 same-length-5 c = search needs
@@ -56,13 +56,10 @@ same-length-8 : tie.Need-same-length-8
 same-length-8 c = search needs
 
 returns-3 : tie.Need-returns-3
-returns-3 c = show-does _ _ _ _ (c .before .before .before .before .before .before .before .before .before .before .before .before .before .before .before .before .before .before .before .before .before .before .before .before .before .before .before .before .pre) (c .before .before .before .before .before .before .before .before .before .before .before .before .before .before .before .before .before .before .if1 .left) (c .before .before .before .before .before .before .before .before .before .before .before .before .before .before .before .before .before .if2 .left) (c .before .before .before .before .before .before .before .before .before .before .before .before .before .before .before .before .if3 .taken) _ _ _ _ _ _ (c .before .before .before .before .before .before .before .before .before .before .before .show .ensures .0) (c .before .before .before .before .before .before .before .before .before .before .before .show .ensures .1)
+returns-3 c = show-does _ _ _ _ (c .before .before .before .before .before .before .before .before .before .before .before .before .before .before .before .before .before .before .before .before .before .before .before .before .before .before .before .before .pre) (c .before .before .before .before .before .before .before .before .before .before .before .before .before .before .before .before .before .before .if1 .left) (c .before .before .before .before .before .before .before .before .before .before .before .before .before .before .before .before .before .if2 .left) (c .before .before .before .before .before .before .before .before .before .before .before .before .before .before .before .before .if3 .taken) _ _ _ _ _ _ ((c .before .before .before .before .before .before .before .before .before .before .before .show .ensures .0) _) (c .before .before .before .before .before .before .before .before .before .before .before .show .ensures .1)
 
 change-requires : tie.Need-change-requires
-change-requires c κs = change-asks _ _ _ _ (c .before .before .before .before .before .before .before .before .before .before .before .before .before .before .before .before .pre) (c .before .before .before .before .before .before .if1 .left) (c .before .before .before .before .before .if2 .left) (c .before .before .before .before .if3 .left)
-
-cast-t22 : tie.Need-cast-t22
-cast-t22 c = record { fits = set-fits _ _ _ _ (c .before .before .before .before .before .before .before .before .before .before .before .before .before .before .before .before .before .before .before .before .before .before .before .pre) _ (change-is _ _ _ _ (c .before .before .before .before .before .before .before .before .before .before .before .before .before .before .before .before .before .before .before .before .before .before .before .pre) (c .before .before .before .before .before .before .before .before .before .before .before .before .before .if1 .left) (c .before .before .before .before .before .before .before .before .before .before .before .before .if2 .left) (c .before .before .before .before .before .before .before .before .before .before .before .if3 .left)) _ _ _ _ (c .before .before .before .before .before .before .change .ensures) }
+change-requires c κs = change-asks _ _ _ _ (c .before .before .before .before .before .before .before .before .before .before .before .before .before .before .pre) (c .before .before .before .before .if1 .left) (c .before .before .before .if2 .left) (c .before .before .if3 .left)
 
 same-length-9 : tie.Need-same-length-9
 same-length-9 c = search needs
@@ -70,14 +67,8 @@ same-length-9 c = search needs
 same-length-10 : tie.Need-same-length-10
 same-length-10 c = search needs
 
-same-length-11 : tie.Need-same-length-11
-same-length-11 c = search needs
-
-same-length-12 : tie.Need-same-length-12
-same-length-12 c = search needs
-
 returns-4 : tie.Need-returns-4
-returns-4 c = change-does _ _ _ _ (c .before .before .before .before .before .before .before .before .before .before .before .before .before .before .before .before .before .before .before .before .before .before .before .pre) (c .before .before .before .before .before .before .before .before .before .before .before .before .before .if1 .left) (c .before .before .before .before .before .before .before .before .before .before .before .before .if2 .left) (c .before .before .before .before .before .before .before .before .before .before .before .if3 .left) _ _ _ _ _ (c .before .before .before .before .before .before .change .ensures)
+returns-4 c = change-does _ _ _ _ (c .before .before .before .before .before .before .before .before .before .before .before .before .before .before .before .before .before .before .before .pre) (c .before .before .before .before .before .before .before .before .before .if1 .left) (c .before .before .before .before .before .before .before .before .if2 .left) (c .before .before .before .before .before .before .before .if3 .left) _ _ _ (c .before .before .before .before .change .ensures .0) (c .before .before .before .before .change .ensures .1)
 
 pub set-mode-spec : {M : Type 1} → statement M
 set-mode-spec =
@@ -88,23 +79,20 @@ set-mode-spec =
     slice-read-was
     returns
     hide-requires
-    cast-t33
+    cast-t31
     same-length
     same-length-2
     same-length-3
     same-length-4
     returns-2
     show-requires
-    cast-t43
+    cast-t41
     same-length-5
     same-length-6
     same-length-7
     same-length-8
     returns-3
     change-requires
-    cast-t22
     same-length-9
     same-length-10
-    same-length-11
-    same-length-12
     returns-4)

@@ -1,4 +1,4 @@
-use Rattle.modes.proofs.ChangeLaws.{yes-fits, base-fits, mode-fits, show-next, show-asks, show-room, show-leaves, show-user}
+use Rattle.modes.proofs.ChangeLaws.{yes-fits, base-fits, mode-fits, show-next, show-fits, show-leaves}
 use Rattle.modes.proofs.NotesLaws.{there-live}
 use native.Mathlib.Omega.{arith}
 use lib.Dec.{eqb}
@@ -19,31 +19,31 @@ mul-w : tie.Need-mul-w
 mul-w c = search needs
 
 slice-read-w : tie.Need-slice-read-w
-slice-read-w c = there-live _ _ (c .before .before .before .before .before .before .before .before .before .pre .0 .there) .words
+slice-read-w c = there-live _ _ (c .before .before .before .before .before .before .pre .shows .there) .words
 
 mul-records : tie.Need-mul-records
-mul-records c = record { fits = base-fits _ _ (c .before .before .before .before .before .before .before .before .before .pre .0 .there) }
+mul-records c = record { fits = base-fits _ _ (c .before .before .before .before .before .before .pre .shows .there) }
 
 add-records : tie.Need-add-records
-add-records c = record { fits = mode-fits _ _ (c .before .before .before .before .before .before .before .before .before .pre .0 .there) _ (let l = (c .before .before .before .before .before .before .before .before .before .pre .0 .mode) in omega arith) }
+add-records c = record { fits = mode-fits _ _ (c .before .before .before .before .before .before .pre .shows .there) _ (let l = (c .before .before .before .before .before .before .pre .shows .mode) in omega arith) }
 
 mul-records-2 : tie.Need-mul-records-2
-mul-records-2 c = let l = there-live _ _ (c .before .before .before .before .before .before .before .before .before .pre .0 .there) .small in omega arith
+mul-records-2 c = let l = there-live _ _ (c .before .before .before .before .before .before .pre .shows .there) .small in omega arith
 
 slice-write-records : tie.Need-slice-write-records
-slice-write-records c = there-live _ _ (c .before .before .before .before .before .before .before .before .before .pre .0 .there) .words
+slice-write-records c = there-live _ _ (c .before .before .before .before .before .before .pre .shows .there) .words
 
 least-free-requires : tie.Need-least-free-requires
-least-free-requires c κs = show-next _ _ _ _ (c .before .before .before .before .before .before .before .before .before .before .pre .0)
+least-free-requires c κs = show-next _ _ _ _ (c .before .before .before .before .before .before .before .pre .shows)
 
 map-requires : tie.Need-map-requires
-map-requires c κs = show-asks _ _ _ _ (c .before .before .before .before .before .before .before .before .before .before .before .before .before .pre .0) _ (c .before .before .least-free .ensures)
+map-requires c κs = show-fits _ _ _ _ (c .before .before .before .before .before .before .before .before .before .before .pre .shows) _ (c .before .before .least-free .ensures)
 
 put-note-requires : tie.Need-put-note-requires
-put-note-requires c κs = (let r = show-room _ _ _ _ _ (c .before .before .before .before .before .before .before .before .before .before .before .before .before .before .before .before .before .before .before .pre .1) in omega arith, yes-fits (eqb (c .before .before .before .before .before .before .before .before .before .before .before .before .before .before .before .before .before .before .before .args .m) 0))
+put-note-requires c κs = (let r = (c .before .before .before .before .before .before .before .before .before .before .before .before .before .before .before .before .pre .words) in omega arith, yes-fits (eqb (c .before .before .before .before .before .before .before .before .before .before .before .before .before .before .before .before .args .m) 0))
 
 put-note-requires-2 : tie.Need-put-note-requires-2
-put-note-requires-2 c κs = (let r = show-room _ _ _ _ _ (c .before .before .before .before .before .before .before .before .before .before .before .before .before .before .before .before .before .before .before .before .before .before .before .pre .1) in let k = (c .before .before .before .put-note .kept .0) in omega arith, let l = show-asks _ _ _ _ (c .before .before .before .before .before .before .before .before .before .before .before .before .before .before .before .before .before .before .before .before .before .before .before .pre .0) _ (c .before .before .before .before .before .before .before .before .before .before .before .before .least-free .ensures) in let z = c .before .before .before .before .before .before .before .before .before .before .before .before .before .before .before .before .before .before .before .before .before .before .before .pre .0 .there .sound .sizes in omega arith)
+put-note-requires-2 c κs = (let r = (c .before .before .before .before .before .before .before .before .before .before .before .before .before .before .before .before .before .before .before .before .pre .words) in let k = (c .before .before .before .put-note .kept .0) in omega arith, let l = show-fits _ _ _ _ (c .before .before .before .before .before .before .before .before .before .before .before .before .before .before .before .before .before .before .before .before .pre .shows) _ (c .before .before .before .before .before .before .before .before .before .before .before .before .least-free .ensures) in let z = (c .before .before .before .before .before .before .before .before .before .before .before .before .before .before .before .before .before .before .before .before .pre .shows .there .sound .sizes) in omega arith)
 
 same-length : tie.Need-same-length
 same-length c = search needs
@@ -58,7 +58,7 @@ same-length-4 : tie.Need-same-length-4
 same-length-4 c = search needs
 
 returns : tie.Need-returns
-returns c = (show-leaves _ _ _ _ (c .before .before .before .before .before .before .before .before .before .before .before .before .before .before .before .before .before .before .before .before .before .before .before .before .before .before .pre .0) _ (c .before .before .before .before .before .before .before .before .before .before .before .before .before .before .before .least-free .ensures) _ _ _ (c .before .before .before .before .before .before .before .before .before .before .before .before .map .ensures) _ _ _ _ (c .before .before .before .before .before .before .put-note .ensures) (c .before .before .put-note2 .ensures), show-user _ _ _ _ (c .before .before .before .before .before .before .before .before .before .before .before .before .before .before .before .before .before .before .before .before .before .before .before .before .before .before .pre .0) _ (c .before .before .before .before .before .before .before .before .before .before .before .before .before .before .before .least-free .ensures))
+returns c = (λ x. show-leaves _ _ _ (there-live _ _ (c .before .before .before .before .before .before .before .before .before .before .before .before .before .before .before .before .before .before .before .before .before .before .before .pre .shows .there) .words) _ (c .before .before .before .before .before .before .before .before .before .before .before .before .before .before .before .least-free .ensures) _ _ _ (c .before .before .before .before .before .before .before .before .before .before .before .before .map .ensures) _ _ _ _ (c .before .before .before .before .before .before .put-note .ensures) (c .before .before .put-note2 .ensures), (c .before .before .before .before .before .before .before .before .before .before .before .before .before .before .before .least-free .ensures))
 
 pub show-spec : {M : Type 1} → statement M
 show-spec =

@@ -1,7 +1,8 @@
 use Rattle.table.proofs.FoundLaws.{globalWord, global-word}
-use Rattle.naming.proofs.GapLaws.{GapWith, user-small, gap-start, gap-asks, gap-more, gap-sizes, gap-kept, last-asks, last-done, last-sizes}
-use Rattle.naming.specs.Maps.{free}
-use Rattle.inner.specs.Cursor.{Passed}
+use Rattle.naming.proofs.GapLaws.{GapWith, gap-start, gap-asks, gap-more, gap-sizes, gap-kept, last-asks, last-done, last-sizes}
+use Rattle.naming.proofs.CallLaws.{user-small}
+use Rattle.naming.specs.Parts.{free}
+use Rattle.changes.specs.Cursor.{NoneFree}
 use native.Mathlib.Omega.{arith}
 use mathlib.Core.Path.{_∙_, ap}
 use borrow.Author.Needs.{needs}
@@ -28,7 +29,7 @@ map-up-below t = and 4 map-up-kinds.ps (falls 4 map-up-kinds.ps _<_ μ-map-up t)
 abbrev map-up-Inv-loop : map-up-lts.InvT-loop
 map-up-Inv-loop gu₀ ug₀ records₀ user from at notes₀ cur₀ k₀ next₀ i₀ gu ug records notes cur k next i =
     GapWith cur₀ gu₀ ug₀ records₀ (user .0) at i next cur gu ug records notes₀ notes
-    × Passed (free records) (cur .global) k
+    × NoneFree (free records) (cur .global) k
 
 abbrev map-up-μ-loop : map-up-lts.MeasureT-loop
 map-up-μ-loop gu₀ ug₀ records₀ user from at notes₀ cur₀ k₀ next₀ i₀ gu ug records notes cur k next i =
@@ -62,7 +63,7 @@ map-up-add-i : (t : ℕ) → map-up-lts.Need-add-i (
   map-one-reads.Asked,
   map-one-reads.Learnt,
 ) (map-up-at t) map-up.Post map-up-Inv-loop map-up-μ-loop
-map-up-add-i t c = let l = c .before .before .before .before .before .before .before .before .before .before .before .before .before .before .if1 .taken in let w = user-small _ _ _ _ (c .before .before .before .before .before .before .before .before .before .before .before .before .before .before .before .before .before .before .before .before .before .pre .1 .0 .asks) in omega arith
+map-up-add-i t c = let l = c .before .before .before .before .before .before .before .before .before .before .before .before .before .before .if1 .taken in let w = user-small _ _ (c .before .before .before .before .before .before .before .before .before .before .before .before .before .before .before .before .before .before .before .before .before .pre .1 .0 .asks .sound) (c .before .before .before .before .before .before .before .before .before .before .before .before .before .before .before .before .before .before .before .before .before .pre .1 .0 .asks .within) in omega arith
 
 map-up-loop-less : (t : ℕ) → map-up-lts.Need-loop-less (
   map-up-below t,
@@ -82,7 +83,7 @@ map-up-loop-again : (t : ℕ) → map-up-lts.Need-loop-again (
   map-one-reads.Asked,
   map-one-reads.Learnt,
 ) (map-up-at t) map-up.Post map-up-Inv-loop map-up-μ-loop
-map-up-loop-again t c = (record { with = λ x h. gap-more _ _ _ _ _ _ _ _ _ _ _ _ h (c .before .before .before .before .before .before .before .before .before .before .before .before .before .before .before .before .loop .inv .0 .with x h) (c .before .before .before .before .before .before .before .before .before .before .before .before .before .before .if1 .taken) (c .before .before .before .before .before .before .before .before .before .map-up .ensures .0 .with x (gap-asks _ _ _ _ _ _ _ _ h (c .before .before .before .before .before .before .before .before .before .before .before .before .before .before .before .before .loop .inv .0 .with x h) (c .before .before .before .before .before .before .before .before .before .before .before .before .before .before .if1 .taken))) }, c .before .before .before .before .before .before .before .before .before .map-up .ensures .1)
+map-up-loop-again t c = (record { with = λ x h. gap-more _ _ _ _ _ _ _ _ _ _ _ h (c .before .before .before .before .before .before .before .before .before .before .before .before .before .before .before .before .loop .inv .0 .with x h) (c .before .before .before .before .before .before .before .before .before .before .before .before .before .before .if1 .taken) (c .before .before .before .before .before .before .before .before .before .map-up .ensures .0 .with x (gap-asks _ _ _ _ _ _ _ _ h (c .before .before .before .before .before .before .before .before .before .before .before .before .before .before .before .before .loop .inv .0 .with x h) (c .before .before .before .before .before .before .before .before .before .before .before .before .before .before .if1 .taken)) .1) }, c .before .before .before .before .before .before .before .before .before .map-up .ensures .1)
 
 map-up-global-of-requires : (t : ℕ) → map-up-lts.Need-global-of-requires (
   map-up-below t,

@@ -3,7 +3,7 @@ use native.Mathlib.Omega.{arith}
 use mathlib.Core.Path.{_≡_, sym}
 use mathlib.Core.Logic.{⊎-elim}
 use lib.ListN.{length}
-use Rattle.naming.specs.Maps.{alive}
+use Rattle.naming.specs.Parts.{alive}
 use Rattle.base.specs.Bounded.{count}
 use Rattle.base.proofs.CountLaws.{count-none, count-end}
 use Rattle.naming.proofs.FreeLaws.{undeleted-step, undeleted-stay}

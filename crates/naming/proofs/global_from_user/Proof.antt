@@ -1,5 +1,7 @@
-use Rattle.naming.proofs.CallLaws.{map-refused, map-asks, count-small, map-done}
-use Rattle.inner.proofs.CursorLaws.{passed-none}
+use Rattle.naming.proofs.CallLaws.{map-refused, map-asks, map-few, map-done}
+use Rattle.naming.proofs.GapLaws.{up-asks, up-leaves}
+use Rattle.changes.proofs.CursorLaws.{cursor-start}
+use Rattle.changes.proofs.LeavesLaws.{notes-fit}
 use borrow.Author.Needs.{needs}
 use Rattle.naming.proofs.global_from_user.Statement.{statement}
 use Rattle.naming.proofs.global_from_user.Tie as tie
@@ -19,11 +21,11 @@ same-length-3 c = search needs
 returns : tie.Need-returns
 returns c = map-refused _ _ _ _ _ (c .before .map-refusal .ensures) (c .if1 .taken)
 
-map-user-requires : tie.Need-map-user-requires
-map-user-requires c κs = (map-asks _ _ _ _ _ (c .before .before .before .before .before .map-refusal .ensures) (c .before .before .before .before .if1 .left), passed-none _ _)
+map-up-requires : tie.Need-map-up-requires
+map-up-requires c κs = (up-asks _ _ _ _ (map-asks _ _ _ _ _ (c .before .before .before .before .before .map-refusal .ensures) (c .before .before .before .before .if1 .left)), cursor-start _ _)
 
 cast-t31 : tie.Need-cast-t31
-cast-t31 c = record { fits = count-small _ _ _ _ _ _ _ _ (map-asks _ _ _ _ _ (c .before .before .before .before .before .before .before .before .before .before .before .before .before .before .before .before .before .map-refusal .ensures) (c .before .before .before .before .before .before .before .before .before .before .before .before .before .before .before .before .if1 .left)) (c .before .before .before .before .before .before .before .before .before .before .before .map-user .ensures .0) }
+cast-t31 c = record { fits = notes-fit ((up-leaves _ _ _ _ _ _ _ _ _ _ _ (map-asks _ _ _ _ _ (c .before .before .before .before .before .before .before .before .before .before .before .before .before .before .before .before .before .map-refusal .ensures) (c .before .before .before .before .before .before .before .before .before .before .before .before .before .before .before .before .if1 .left)) (c .before .before .before .before .before .before .before .before .before .before .before .map-up .ensures .0)) .1) (map-few _ _ _ _ (map-asks _ _ _ _ _ (c .before .before .before .before .before .before .before .before .before .before .before .before .before .before .before .before .before .map-refusal .ensures) (c .before .before .before .before .before .before .before .before .before .before .before .before .before .before .before .before .if1 .left))) }
 
 same-length-4 : tie.Need-same-length-4
 same-length-4 c = search needs
@@ -38,7 +40,7 @@ same-length-7 : tie.Need-same-length-7
 same-length-7 c = search needs
 
 returns-2 : tie.Need-returns-2
-returns-2 c = map-done _ _ _ _ _ _ _ _ _ (c .before .before .before .before .before .before .before .before .before .before .before .before .before .before .before .before .before .map-refusal .ensures) (c .before .before .before .before .before .before .before .before .before .before .before .before .before .before .before .before .if1 .left) (c .before .before .before .before .before .before .before .before .before .before .before .map-user .ensures .0)
+returns-2 c = map-done _ _ _ _ _ _ _ _ _ (c .before .before .before .before .before .before .before .before .before .before .before .before .before .before .before .before .before .map-refusal .ensures) (c .before .before .before .before .before .before .before .before .before .before .before .before .before .before .before .before .if1 .left) (up-leaves _ _ _ _ _ _ _ _ _ _ _ (map-asks _ _ _ _ _ (c .before .before .before .before .before .before .before .before .before .before .before .before .before .before .before .before .before .map-refusal .ensures) (c .before .before .before .before .before .before .before .before .before .before .before .before .before .before .before .before .if1 .left)) (c .before .before .before .before .before .before .before .before .before .before .before .map-up .ensures .0))
 
 pub global-from-user-spec : {M : Type 1} → statement M
 global-from-user-spec =
@@ -49,7 +51,7 @@ global-from-user-spec =
     same-length-2
     same-length-3
     returns
-    map-user-requires
+    map-up-requires
     cast-t31
     same-length-4
     same-length-5

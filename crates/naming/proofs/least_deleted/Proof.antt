@@ -1,13 +1,13 @@
 use Prim.Native.Nat.{_-_}
-use Rattle.inner.specs.Cursor.{Passed}
-use Rattle.naming.specs.Maps.{free}
+use Rattle.changes.specs.Cursor.{NoneFree}
+use Rattle.naming.specs.Parts.{free}
 use Rattle.naming.proofs.FreeLaws.{deleted-found, deleted-more, deleted-end}
 use borrow.Author.Needs.{needs}
 use Rattle.naming.proofs.least_deleted.Statement.{statement}
 use Rattle.naming.proofs.least_deleted.Tie as tie
 
 abbrev Inv-loop : tie.InvT-loop
-Inv-loop records mark from i₀ i = Passed (free records) mark i
+Inv-loop records mark from i₀ i = NoneFree (free records) mark i
 
 abbrev μ-loop : tie.MeasureT-loop
 μ-loop records mark from i₀ i = mark - i

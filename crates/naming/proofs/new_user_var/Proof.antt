@@ -1,5 +1,7 @@
-use Rattle.naming.proofs.CallLaws.{new-refused, new-asks, found-asks, count-small, new-done}
-use Rattle.inner.proofs.CursorLaws.{passed-none}
+use Rattle.naming.proofs.CallLaws.{new-refused, new-asks, found-asks, map-few, new-done}
+use Rattle.naming.proofs.GapLaws.{up-asks, up-leaves}
+use Rattle.changes.proofs.CursorLaws.{cursor-start}
+use Rattle.changes.proofs.LeavesLaws.{notes-fit}
 use borrow.Author.Needs.{needs}
 use Rattle.naming.proofs.new_user_var.Statement.{statement}
 use Rattle.naming.proofs.new_user_var.Tie as tie
@@ -20,13 +22,13 @@ returns : tie.Need-returns
 returns c = new-refused _ _ _ (c .before .new-user-refusal .ensures) (c .if1 .taken)
 
 least-free-requires : tie.Need-least-free-requires
-least-free-requires c κs = ((new-asks _ _ _ (c .before .before .new-user-refusal .ensures) (c .before .if1 .left)) .marked, passed-none _ _)
+least-free-requires c κs = ((new-asks _ _ _ (c .before .before .new-user-refusal .ensures) (c .before .if1 .left)) .marked, cursor-start _ _)
 
-map-user-requires : tie.Need-map-user-requires
-map-user-requires c κs = (found-asks _ _ _ (new-asks _ _ _ (c .before .before .before .before .before .before .before .new-user-refusal .ensures) (c .before .before .before .before .before .before .if1 .left)) (c .before .before .before .before .least-free .ensures), passed-none _ _)
+map-up-requires : tie.Need-map-up-requires
+map-up-requires c κs = (up-asks _ _ _ _ (found-asks _ _ _ (new-asks _ _ _ (c .before .before .before .before .before .before .before .new-user-refusal .ensures) (c .before .before .before .before .before .before .if1 .left)) (c .before .before .before .before .least-free .ensures)), cursor-start _ _)
 
 cast-t22 : tie.Need-cast-t22
-cast-t22 c = record { fits = count-small _ _ _ _ _ _ _ _ (found-asks _ _ _ (new-asks _ _ _ (c .before .before .before .before .before .before .before .before .before .before .before .before .before .before .before .before .before .before .before .new-user-refusal .ensures) (c .before .before .before .before .before .before .before .before .before .before .before .before .before .before .before .before .before .before .if1 .left)) (c .before .before .before .before .before .before .before .before .before .before .before .before .before .before .before .before .least-free .ensures)) (c .before .before .before .before .before .before .before .before .before .before .before .map-user .ensures .0) }
+cast-t22 c = record { fits = notes-fit ((up-leaves _ _ _ _ _ _ _ _ _ _ _ (found-asks _ _ _ (new-asks _ _ _ (c .before .before .before .before .before .before .before .before .before .before .before .before .before .before .before .before .before .before .before .new-user-refusal .ensures) (c .before .before .before .before .before .before .before .before .before .before .before .before .before .before .before .before .before .before .if1 .left)) (c .before .before .before .before .before .before .before .before .before .before .before .before .before .before .before .before .least-free .ensures)) (c .before .before .before .before .before .before .before .before .before .before .before .map-up .ensures .0)) .1) (map-few _ _ _ _ (found-asks _ _ _ (new-asks _ _ _ (c .before .before .before .before .before .before .before .before .before .before .before .before .before .before .before .before .before .before .before .new-user-refusal .ensures) (c .before .before .before .before .before .before .before .before .before .before .before .before .before .before .before .before .before .before .if1 .left)) (c .before .before .before .before .before .before .before .before .before .before .before .before .before .before .before .before .least-free .ensures))) }
 
 same-length-4 : tie.Need-same-length-4
 same-length-4 c = search needs
@@ -41,7 +43,7 @@ same-length-7 : tie.Need-same-length-7
 same-length-7 c = search needs
 
 returns-2 : tie.Need-returns-2
-returns-2 c = new-done _ _ _ _ _ _ _ _ (c .before .before .before .before .before .before .before .before .before .before .before .before .before .before .before .before .before .before .before .new-user-refusal .ensures) (c .before .before .before .before .before .before .before .before .before .before .before .before .before .before .before .before .before .before .if1 .left) (c .before .before .before .before .before .before .before .before .before .before .before .before .before .before .before .before .least-free .ensures) (c .before .before .before .before .before .before .before .before .before .before .before .map-user .ensures .0)
+returns-2 c = new-done _ _ _ _ _ _ _ _ (c .before .before .before .before .before .before .before .before .before .before .before .before .before .before .before .before .before .before .before .new-user-refusal .ensures) (c .before .before .before .before .before .before .before .before .before .before .before .before .before .before .before .before .before .before .if1 .left) (c .before .before .before .before .before .before .before .before .before .before .before .before .before .before .before .before .least-free .ensures) (up-leaves _ _ _ _ _ _ _ _ _ _ _ (found-asks _ _ _ (new-asks _ _ _ (c .before .before .before .before .before .before .before .before .before .before .before .before .before .before .before .before .before .before .before .new-user-refusal .ensures) (c .before .before .before .before .before .before .before .before .before .before .before .before .before .before .before .before .before .before .if1 .left)) (c .before .before .before .before .before .before .before .before .before .before .before .before .before .before .before .before .least-free .ensures)) (c .before .before .before .before .before .before .before .before .before .before .before .map-up .ensures .0))
 
 pub new-user-var-spec : {M : Type 1} → statement M
 new-user-var-spec =
@@ -53,7 +55,7 @@ new-user-var-spec =
     same-length-3
     returns
     least-free-requires
-    map-user-requires
+    map-up-requires
     cast-t22
     same-length-4
     same-length-5

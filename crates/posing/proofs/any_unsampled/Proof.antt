@@ -1,4 +1,5 @@
-use Rattle.posing.proofs.CountLaws.{asked, unasked}
+use Rattle.posing.proofs.CountLaws.{asked}
+use Rattle.base.proofs.BelowLaws.{and-not-left}
 use Prim.Native.Nat.{_-_, _≤_}
 use mathlib.Core.Path.{_≡_, sym, _∙_}
 use mathlib.Core.Bool.{false}
@@ -8,7 +9,7 @@ use borrow.Author.Tests.{not-true, not-false}
 use Rattle.base.specs.Bounded.{anyOf}
 use Rattle.base.proofs.MemberLaws.{any-start, any-step, any-end, any-some}
 use Rattle.scope.specs.Literals.{indexOf}
-use Rattle.naming.specs.Maps.{isUnsampled}
+use Rattle.naming.specs.Parts.{isUnsampled}
 use borrow.Author.Needs.{needs}
 use Rattle.posing.proofs.any_unsampled.Statement.{statement}
 use Rattle.posing.proofs.any_unsampled.Tie as tie
@@ -20,7 +21,7 @@ abbrev μ-loop : tie.MeasureT-loop
 μ-loop gu records lits sampling i₀ i = length lits - i
 
 returns : tie.Need-returns Inv-loop μ-loop
-returns c = sym (unasked (c .before .before .before .before .args .sampling) (anyOf (λ x. isUnsampled (c .before .before .before .before .args .gu .now) (c .before .before .before .before .args .records .now) (indexOf x)) (c .before .before .before .before .args .lits .now)) (not-true _ (c .if1 .taken)))
+returns c = sym (and-not-left (c .before .before .before .before .args .sampling) (anyOf (λ x. isUnsampled (c .before .before .before .before .args .gu .now) (c .before .before .before .before .args .records .now) (indexOf x)) (c .before .before .before .before .args .lits .now)) (not-true _ (c .if1 .taken)))
 
 loop-holds : tie.Need-loop-holds Inv-loop μ-loop
 loop-holds c = (omega arith, any-start (λ x. isUnsampled (c .before .before .before .before .args .gu .now) (c .before .before .before .before .args .records .now) (indexOf x)) (c .before .before .before .before .args .lits .now))

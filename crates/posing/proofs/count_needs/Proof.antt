@@ -2,13 +2,13 @@ use Prim.Native.Nat.{_-_}
 use mathlib.Core.Path.{_≡_, refl}
 use native.Mathlib.Omega.{arith}
 use lib.ListN.{length, length-set}
-use Rattle.posing.proofs.CountLaws.{Counted, counted-start, counted-more, counted-end, counted-small}
+use Rattle.posing.proofs.CountLaws.{CountedTo, counted-start, counted-more, counted-end, counted-small}
 use borrow.Author.Needs.{needs}
 use Rattle.posing.proofs.count_needs.Statement.{statement}
 use Rattle.posing.proofs.count_needs.Tie as tie
 
 abbrev Inv-loop : tie.InvT-loop
-Inv-loop mark gu sg lits seen₀ n₀ i₀ seen n i = (length seen ≡ 4096) × Counted mark gu sg lits i seen n
+Inv-loop mark gu sg lits seen₀ n₀ i₀ seen n i = (length seen ≡ 4096) × CountedTo mark gu sg lits i seen n
 
 abbrev μ-loop : tie.MeasureT-loop
 μ-loop mark gu sg lits seen₀ n₀ i₀ seen n i = length lits - i

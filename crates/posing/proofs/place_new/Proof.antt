@@ -1,13 +1,16 @@
-use Rattle.posing.proofs.PlaceLaws.{map-asks, grant-asks, solver-ahead, placed-leaves, global-ahead}
+use Rattle.posing.proofs.PlaceLaws.{place-map-asks, place-grant-asks, solver-ahead, place-leaves, global-ahead}
+use Rattle.naming.proofs.GapLaws.{up-asks, up-leaves}
 use borrow.Author.Needs.{needs}
 use Rattle.posing.proofs.place_new.Statement.{statement}
 use Rattle.posing.proofs.place_new.Tie as tie
 
-map-user-requires : tie.Need-map-user-requires
-map-user-requires c κs = (map-asks _ _ _ _ (c .before .before .before .before .before .before .before .before .before .before .before .before .before .before .pre .0), c .before .before .before .before .before .before .before .before .before .before .before .before .before .before .pre .1 .global)
+map-up-requires : tie.Need-map-up-requires
+map-up-requires c κs = (up-asks _ _ _ _ (place-map-asks _ _ _ _ (c .before .before .before .before .before .before .before .before .before .before .before .pre .0)), (c .before .before .before .before .before .before .before .before .before .before .before .pre .1 .global))
 
 grant-index-requires : tie.Need-grant-index-requires
-grant-index-requires c κs = ((grant-asks _ _ _ _ _ _ _ _ (c .before .before .before .before .before .before .before .before .before .before .before .before .before .before .before .before .before .before .before .before .before .before .before .before .before .before .before .before .before .before .before .before .pre .0) (c .before .before .before .before .before .before .before .before .before .before .before .before .before .before .before .before .before .map-user .ensures .0)), solver-ahead _ _ _ _ _ _ _ _ _ (c .before .before .before .before .before .before .before .before .before .before .before .before .before .before .before .before .before .before .before .before .before .before .before .before .before .before .before .before .before .before .before .before .pre .0) (c .before .before .before .before .before .before .before .before .before .before .before .before .before .before .before .before .before .map-user .ensures .0) (c .before .before .before .before .before .before .before .before .before .before .before .before .before .before .before .before .before .before .before .before .before .before .before .before .before .before .before .before .before .before .before .before .pre .1 .solver))
+grant-index-requires c κs =
+    let m = (up-leaves _ _ _ _ _ _ _ _ _ _ _ (place-map-asks _ _ _ _ (c .before .before .before .before .before .before .before .before .before .before .before .before .before .before .before .before .before .before .before .before .before .before .before .before .before .before .before .pre .0)) (c .before .before .before .before .before .before .before .before .before .before .before .before .before .before .before .map-up .ensures .0)) in
+    (record { gu = _; ug = _; asks = place-grant-asks _ _ _ _ _ _ _ _ (c .before .before .before .before .before .before .before .before .before .before .before .before .before .before .before .before .before .before .before .before .before .before .before .before .before .before .before .pre .0) (m .0) (m .1) }, solver-ahead _ _ _ _ _ _ _ _ (c .before .before .before .before .before .before .before .before .before .before .before .before .before .before .before .before .before .before .before .before .before .before .before .before .before .before .before .pre .0) (m .1) (c .before .before .before .before .before .before .before .before .before .before .before .before .before .before .before .before .before .before .before .before .before .before .before .before .before .before .before .pre .1 .solver))
 
 same-length : tie.Need-same-length
 same-length c = search needs
@@ -31,13 +34,17 @@ same-length-7 : tie.Need-same-length-7
 same-length-7 c = search needs
 
 returns : tie.Need-returns
-returns c = (placed-leaves _ _ _ _ _ _ _ _ _ _ _ _ (c .before .before .before .before .before .before .before .before .before .before .before .before .before .before .before .before .before .before .before .before .before .before .before .before .before .before .before .before .map-user .ensures .0) (c .before .before .before .before .before .before .before .before .before .before .grant-index .ensures .0), global-ahead _ _ _ _ _ _ _ _ _ _ (grant-asks _ _ _ _ _ _ _ _ (c .before .before .before .before .before .before .before .before .before .before .before .before .before .before .before .before .before .before .before .before .before .before .before .before .before .before .before .before .before .before .before .before .before .before .before .before .before .before .before .before .before .before .before .pre .0) (c .before .before .before .before .before .before .before .before .before .before .before .before .before .before .before .before .before .before .before .before .before .before .before .before .before .before .before .before .map-user .ensures .0)) (c .before .before .before .before .before .before .before .before .before .before .grant-index .ensures .0) (c .before .before .before .before .before .before .before .before .before .before .before .before .before .before .before .before .before .before .before .before .before .before .before .before .before .before .before .before .map-user .ensures .1) (c .before .before .before .before .before .before .before .before .before .before .grant-index .ensures .1))
+returns c =
+    let m = (up-leaves _ _ _ _ _ _ _ _ _ _ _ (place-map-asks _ _ _ _ (c .before .before .before .before .before .before .before .before .before .before .before .before .before .before .before .before .before .before .before .before .before .before .before .before .before .before .before .before .before .before .before .before .before .before .before .before .before .before .pre .0)) (c .before .before .before .before .before .before .before .before .before .before .before .before .before .before .before .before .before .before .before .before .before .before .before .before .before .before .map-up .ensures .0)) in
+    let g = (c .before .before .before .before .before .before .before .before .before .before .grant-index .ensures .1 .0) _ _ in
+    let p = place-leaves _ _ _ _ _ _ _ _ _ _ _ _ (m .0) (m .1) ((c .before .before .before .before .before .before .before .before .before .before .grant-index .ensures .0) _ _) g in
+    (p .0, (p .1, global-ahead _ _ _ _ _ _ _ _ _ (place-grant-asks _ _ _ _ _ _ _ _ (c .before .before .before .before .before .before .before .before .before .before .before .before .before .before .before .before .before .before .before .before .before .before .before .before .before .before .before .before .before .before .before .before .before .before .before .before .before .before .pre .0) (m .0) (m .1)) g (c .before .before .before .before .before .before .before .before .before .before .before .before .before .before .before .before .before .before .before .before .before .before .before .before .before .before .map-up .ensures .1) (c .before .before .before .before .before .before .before .before .before .before .grant-index .ensures .1 .1)))
 
 pub place-new-spec : {M : Type 1} → statement M
 place-new-spec =
     tie.close
     (tie.spec
-    map-user-requires
+    map-up-requires
     grant-index-requires
     same-length
     same-length-2

@@ -1,4 +1,5 @@
-use Rattle.posing.proofs.CallLaws.{asks-of, count-small, pose-refused, pose-done}
+use Rattle.posing.proofs.CallLaws.{pose-asks, pose-few, pose-refused, pose-done}
+use Rattle.changes.proofs.LeavesLaws.{notes-fit}
 use native.Mathlib.Omega.{arith}
 use borrow.Author.Needs.{needs}
 use Rattle.posing.proofs.solver_from_user_lits.Statement.{statement}
@@ -29,13 +30,13 @@ returns : tie.Need-returns
 returns c = pose-refused _ _ _ _ _ _ (c .before .pose-refusal .ensures) (c .if1 .taken)
 
 place-all-requires : tie.Need-place-all-requires
-place-all-requires c κs = (asks-of _ _ _ _ _ _ (c .before .before .before .before .before .before .before .before .before .pose-refusal .ensures) (c .before .before .before .before .before .before .before .before .if1 .left))
+place-all-requires c κs = (pose-asks _ _ _ _ _ _ (c .before .before .before .before .before .before .before .before .before .pose-refusal .ensures) (c .before .before .before .before .before .before .before .before .if1 .left))
 
 cast-t46 : tie.Need-cast-t46
-cast-t46 c = let f = (asks-of _ _ _ _ _ _ (c .before .before .before .before .before .before .before .before .before .before .before .before .before .before .before .before .before .before .before .before .before .before .before .before .before .before .before .pose-refusal .ensures) (c .before .before .before .before .before .before .before .before .before .before .before .before .before .before .before .before .before .before .before .before .before .before .before .before .before .before .if1 .left)) .few in omega arith
+cast-t46 c = let f = (pose-asks _ _ _ _ _ _ (c .before .before .before .before .before .before .before .before .before .before .before .before .before .before .before .before .before .before .before .before .before .before .before .before .before .before .before .pose-refusal .ensures) (c .before .before .before .before .before .before .before .before .before .before .before .before .before .before .before .before .before .before .before .before .before .before .before .before .before .before .if1 .left)) .few in omega arith
 
 cast-t47 : tie.Need-cast-t47
-cast-t47 c = record { fits = count-small _ _ _ _ _ _ _ _ _ (asks-of _ _ _ _ _ _ (c .before .before .before .before .before .before .before .before .before .before .before .before .before .before .before .before .before .before .before .before .before .before .before .before .before .before .before .before .pose-refusal .ensures) (c .before .before .before .before .before .before .before .before .before .before .before .before .before .before .before .before .before .before .before .before .before .before .before .before .before .before .before .if1 .left)) (c .before .before .before .before .before .before .before .before .before .before .before .before .before .before .before .before .before .before .place-all .ensures .0) }
+cast-t47 c = record { fits = notes-fit (c .before .before .before .before .before .before .before .before .before .before .before .before .before .before .before .before .before .before .place-all .ensures .0) (pose-few _ _ _ _ (pose-asks _ _ _ _ _ _ (c .before .before .before .before .before .before .before .before .before .before .before .before .before .before .before .before .before .before .before .before .before .before .before .before .before .before .before .before .pose-refusal .ensures) (c .before .before .before .before .before .before .before .before .before .before .before .before .before .before .before .before .before .before .before .before .before .before .before .before .before .before .before .if1 .left))) }
 
 same-length-7 : tie.Need-same-length-7
 same-length-7 c = search needs

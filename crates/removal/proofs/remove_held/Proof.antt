@@ -16,11 +16,7 @@ put-note-requires c κs =
     (remove-room _ _ _ _ _ (entry .pre .1), omega arith)
 
 delete-global-if-unused-requires : tie.Need-delete-global-if-unused-requires
-delete-global-if-unused-requires c κs =
-    let at-remove = c .before .before .before .before .before .before .before .before .before .before .before .before in
-    let entry = at-remove .before .before .before .before .before .before .before .before .before .before in
-    remove-asks _ _ _ _ _ _ (at-remove .remove .ensures) _ _ _ (entry .pre .0) (entry .pre .1)
-    (c .before .before .before .before .before .before .put-note .kept .0)
+delete-global-if-unused-requires c κs = remove-asks _ _ _ _ _ _ (c .before .before .before .before .before .before .before .before .before .before .before .remove .ensures) _ _ _ (c .before .before .before .before .before .before .before .before .before .before .before .before .before .before .before .before .before .before .before .before .before .pre .0) (c .before .before .before .before .before .before .before .before .before .before .before .before .before .before .before .before .before .before .before .before .before .pre .1) (c .before .before .before .before .before .put-note .kept .0)
 
 same-length : tie.Need-same-length
 same-length c = search needs
@@ -35,11 +31,7 @@ same-length-4 : tie.Need-same-length-4
 same-length-4 c = search needs
 
 returns : tie.Need-returns
-returns c =
-    let at-put-note = c .before .before .before .before .before .before .before .before .before .before .before in
-    let at-remove = at-put-note .before .before .before .before .before .before in
-    remove-leaves _ _ _ _ _ _ (at-remove .remove .ensures) _ _ _ _ _ _ _ (at-put-note .put-note .ensures)
-    (c .before .before .before .before .delete-global-if-unused .ensures) (omega arith)
+returns c = remove-leaves _ _ _ _ _ _ (c .before .before .before .before .before .before .before .before .before .before .before .before .before .before .before .before .remove .ensures) _ _ _ _ _ _ _ (c .before .before .before .before .before .before .before .before .before .before .put-note .ensures) ((c .before .before .before .before .delete-global-if-unused .ensures) _ _ _) (omega arith)
 
 pub remove-held-spec : {M : Type 1} → statement M
 remove-held-spec =

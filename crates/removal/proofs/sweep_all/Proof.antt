@@ -6,7 +6,7 @@ use Prim.Native.Nat.{_-_, _≤_}
 use Rattle.scope.specs.Table.{tableOf}
 use Rattle.scope.specs.Outcome.{each}
 use Rattle.scope.specs.Remove.{sweepOne}
-use Rattle.deletion.specs.Leaving.{Leaves}
+use Rattle.changes.specs.Leaves.{Leaves}
 use Rattle.removal.proofs.sweep_all.Statement.{statement}
 use Rattle.removal.proofs.sweep_all.Tie as tie
 
@@ -48,10 +48,10 @@ loop-again c =
     )
 
 same-length : tie.Need-same-length Inv-loop μ-loop
-same-length c = sweep-sizes _ (c .before .before .before .before .before .before .before .before .before .pre .0) _ _ _ _ _ (c .before .loop .inv .1) .solvers
+same-length c = sweep-sizes _ (c .before .before .before .before .before .before .before .before .before .pre .0) _ _ _ _ _ (c .before .loop .inv .1) .solverFromGlobal
 
 same-length-2 : tie.Need-same-length-2 Inv-loop μ-loop
-same-length-2 c = sweep-sizes _ (c .before .before .before .before .before .before .before .before .before .pre .0) _ _ _ _ _ (c .before .loop .inv .1) .holders
+same-length-2 c = sweep-sizes _ (c .before .before .before .before .before .before .before .before .before .pre .0) _ _ _ _ _ (c .before .loop .inv .1) .globalFromSolver
 
 same-length-3 : tie.Need-same-length-3 Inv-loop μ-loop
 same-length-3 c = sweep-sizes _ (c .before .before .before .before .before .before .before .before .before .pre .0) _ _ _ _ _ (c .before .loop .inv .1) .records

@@ -1,6 +1,6 @@
 use mathlib.Core.Path.{refl, ap}
 use Rattle.granting.specs.declared.Granted.{Granted}
-use Rattle.granting.specs.Grants.{granted}
+use Rattle.granting.specs.Answers.{granted}
 use Rattle.answers.proofs.SurfaceLaws.{told-by}
 use borrow.Author.Needs.{needs}
 use Rattle.answers.proofs.granted.granted_out.Statement.{statement}

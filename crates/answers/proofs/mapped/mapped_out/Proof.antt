@@ -1,6 +1,6 @@
 use mathlib.Core.Path.{refl, ap}
 use Rattle.naming.specs.declared.UserMapped.{UserMapped}
-use Rattle.naming.specs.Maps.{userMapped}
+use Rattle.naming.specs.Answers.{userMapped}
 use Rattle.answers.proofs.SurfaceLaws.{told-by}
 use borrow.Author.Needs.{needs}
 use Rattle.answers.proofs.mapped.mapped_out.Statement.{statement}

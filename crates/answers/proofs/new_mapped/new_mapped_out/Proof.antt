@@ -1,6 +1,6 @@
 use mathlib.Core.Path.{refl, ap}
 use Rattle.naming.specs.declared.NewUser.{NewUser}
-use Rattle.naming.specs.Maps.{newUserMapped}
+use Rattle.naming.specs.Answers.{newUserMapped}
 use Rattle.answers.proofs.SurfaceLaws.{told-by}
 use borrow.Author.Needs.{needs}
 use Rattle.answers.proofs.new_mapped.new_mapped_out.Statement.{statement}

@@ -1,6 +1,6 @@
 use mathlib.Core.Path.{refl, ap}
 use Rattle.posing.specs.declared.PosedLits.{PosedLits}
-use Rattle.posing.specs.Poses.{posed}
+use Rattle.posing.specs.Answers.{posed}
 use Rattle.answers.proofs.SurfaceLaws.{told-by}
 use borrow.Author.Needs.{needs}
 use Rattle.answers.proofs.posed.posed_out.Statement.{statement}

@@ -1,2 +1,4 @@
 pub mod Cursor
 pub mod Leaves
+pub mod Live
+pub mod Solvers

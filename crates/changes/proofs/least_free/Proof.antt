@@ -1,15 +1,13 @@
 use Prim.Native.Nat.{_-_}
-use lib.Dec.{eqb}
-use lib.ListN.{getD}
 use borrow.Author.Tests.{ne-eqb}
-use Rattle.inner.specs.Cursor.{Passed}
-use Rattle.inner.proofs.CursorLaws.{passed-more, free-found, free-end}
+use Rattle.changes.specs.Cursor.{AllMapped}
+use Rattle.changes.proofs.CursorLaws.{cursor-more, free-found, free-end}
 use borrow.Author.Needs.{needs}
-use Rattle.inner.proofs.least_free.Statement.{statement}
-use Rattle.inner.proofs.least_free.Tie as tie
+use Rattle.changes.proofs.least_free.Statement.{statement}
+use Rattle.changes.proofs.least_free.Tie as tie
 
 abbrev Inv-loop : tie.InvT-loop
-Inv-loop xs mark from i₀ i = Passed (λ k. eqb (getD xs k 0) 0) mark i
+Inv-loop xs mark from i₀ i = AllMapped xs mark i
 
 abbrev μ-loop : tie.MeasureT-loop
 μ-loop xs mark from i₀ i = mark - i
@@ -36,7 +34,7 @@ loop-less : tie.Need-loop-less Inv-loop μ-loop
 loop-less c = search needs
 
 loop-again : tie.Need-loop-again Inv-loop μ-loop
-loop-again c = passed-more _ _ _ (c .before .before .loop-test .taken) (c .before .before .before .loop .inv) (ne-eqb _ _ (c .if1 .left))
+loop-again c = cursor-more _ _ _ (c .before .before .loop-test .taken) (c .before .before .before .loop .inv) (ne-eqb _ _ (c .if1 .left))
 
 returns-2 : tie.Need-returns-2 Inv-loop μ-loop
 returns-2 c = free-end _ _ _ (c .before .loop .inv) (c .loop-test .left)

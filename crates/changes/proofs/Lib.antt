@@ -1,0 +1,5 @@
+pub mod CursorLaws
+pub mod LeavesLaws
+pub mod TurnLaws
+pub mod CallLaws
+pub mod DeletionLaws

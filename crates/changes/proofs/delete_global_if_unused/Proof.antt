@@ -1,0 +1,85 @@
+use Rattle.base.proofs.Truth.{false-of}
+use Rattle.changes.proofs.DeletionLaws.{delete-fits, delete-room, delete-leaves, keep-leaves}
+use mathlib.Core.Path.{refl}
+use mathlib.Core.List.{[]}
+use native.Mathlib.Omega.{arith}
+use Rattle.base.proofs.Truth.{truth}
+use borrow.Author.Needs.{needs}
+use Rattle.changes.proofs.delete_global_if_unused.Statement.{statement}
+use Rattle.changes.proofs.delete_global_if_unused.Tie as tie
+
+cast-g : tie.Need-cast-g
+cast-g c = search needs
+
+mul-r : tie.Need-mul-r
+mul-r c = search needs
+
+slice-read-r : tie.Need-slice-read-r
+slice-read-r c = search needs
+
+mul-if1 : tie.Need-mul-if1
+mul-if1 c = search needs
+
+shared-slice-read-if1 : tie.Need-shared-slice-read-if1
+shared-slice-read-if1 c = search needs
+
+mul-if1-2 : tie.Need-mul-if1-2
+mul-if1-2 c = search needs
+
+shared-slice-read-if1-2 : tie.Need-shared-slice-read-if1-2
+shared-slice-read-if1-2 c = search needs
+
+add-records : tie.Need-add-records
+add-records c = record { fits = delete-fits _ _ _ _ (c .before .before .before .before .before .before .before .before .before .pre .0) }
+
+mul-records : tie.Need-mul-records
+mul-records c = search needs
+
+slice-write-records : tie.Need-slice-write-records
+slice-write-records c = search needs
+
+put-note-requires : tie.Need-put-note-requires
+put-note-requires c κs =
+    let k = simp truth at (c .before .if1 .taken) in
+    (delete-room _ _ _ _ (c .before .before .before .before .before .before .before .before .before .before .pre .0) _ [] [] [] (simp truth (omega arith)) _ _ (c .before .before .before .before .before .before .before .before .before .before .pre .1 [] [] []), omega arith)
+
+add-t25 : tie.Need-add-t25
+add-t25 c =
+    let k = simp truth at (c .before .before .before .before .if1 .taken) in
+    let r = delete-room _ _ _ _ (c .before .before .before .before .before .before .before .before .before .before .before .before .before .pre .0) _ [] [] [] (simp truth (omega arith)) _ _ (c .before .before .before .before .before .before .before .before .before .before .before .before .before .pre .1 [] [] []) in
+    search needs
+
+same-length : tie.Need-same-length
+same-length c = search needs
+
+same-length-2 : tie.Need-same-length-2
+same-length-2 c = search needs
+
+returns : tie.Need-returns
+returns c =
+    let k = simp truth at (c .before .before .before .before .if1 .taken) in
+    λ gu gs a. delete-leaves _ _ _ _ (c .before .before .before .before .before .before .before .before .before .before .before .before .before .pre .0) _ gu gs a (simp truth (omega arith)) _ _ _ _ refl (c .before .before .put-note .ensures)
+
+returns-2 : tie.Need-returns-2
+returns-2 c = λ gu gs a. keep-leaves _ _ _ _ (c .before .before .before .before .before .before .before .before .before .pre .0) _ gu gs a (false-of _ _ (λ h. let k = simp truth at h in simp truth (omega arith)) (c .if1 .left)) _ _
+
+pub delete-global-if-unused-spec : {M : Type 1} → statement M
+delete-global-if-unused-spec =
+    tie.close
+    (tie.spec
+    cast-g
+    mul-r
+    slice-read-r
+    mul-if1
+    shared-slice-read-if1
+    mul-if1-2
+    shared-slice-read-if1-2
+    add-records
+    mul-records
+    slice-write-records
+    put-note-requires
+    add-t25
+    same-length
+    same-length-2
+    returns
+    returns-2)

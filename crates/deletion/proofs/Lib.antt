@@ -1,3 +1,0 @@
-pub mod LeavingLaws
-pub mod CallLaws
-pub mod DeletionLaws

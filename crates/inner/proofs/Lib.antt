@@ -1,2 +1,0 @@
-pub mod CursorLaws
-pub mod LeavesLaws
