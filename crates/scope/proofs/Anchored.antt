@@ -120,7 +120,7 @@ causes-hold = (refl, (refl, (refl, tt)))
 
 renames-hold : Agree renames
 unfolding allBelow least count anyOf keepOf word isShown giveUser takeUser giveSolver takeSolver putRecord putValue soundb sizesb marksb atMostb tailb backb namedb deletedb tailsb pairsb notesWords heldBy choose each unless notHeld mark markRefusal markOf assignRefusal assignOf renameLits unmatched outside unheld stepRefusal renameRefusal renameOf stepBytes writeRefusal writeOf
-renames-hold = (refl, (refl, (refl, (refl, (refl, (refl, (refl, (refl, (refl, (refl, (refl, (refl, (refl, (refl, (refl, (refl, (refl, (refl, (refl, (refl, (refl, (refl, (refl, (refl, (refl, (refl, (refl, (refl, (refl, (refl, (refl, (refl, (refl, tt)))))))))))))))))))))))))))))))))
+renames-hold = (refl, (refl, (refl, (refl, (refl, (refl, (refl, (refl, (refl, (refl, (refl, (refl, (refl, (refl, (refl, (refl, (refl, (refl, (refl, (refl, (refl, (refl, (refl, (refl, (refl, (refl, (refl, (refl, (refl, (refl, (refl, (refl, (refl, (refl, (refl, tt)))))))))))))))))))))))))))))))))))
 
 written-hold : Agree written
 unfolding allBelow least count anyOf keepOf word isShown giveUser takeUser giveSolver takeSolver putRecord putValue soundb sizesb marksb atMostb tailb backb namedb deletedb tailsb pairsb notesWords heldBy choose each unless notHeld mark markRefusal markOf assignRefusal assignOf spell further bytesOf number numbers encodeStep encode renameLits unmatched outside unheld stepRefusal renameRefusal renameOf stepBytes writeRefusal writeOf
