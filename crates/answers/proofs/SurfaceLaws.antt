@@ -12,18 +12,19 @@ use Rattle.scope.specs.Notes.{notesWords}
 use Rattle.scope.specs.Outcome.{Outcome, refusal}
 use Rattle.scope.specs.Contract.{Said, Does}
 use Rattle.drat.specs.Filled.{first}
-use Rattle.answers.specs.Surface.{placed, measured, Told, Given}
+use Rattle.answers.specs.Surface.{located, measured, Given}
+use Rattle.answers.specs.Flat.{Numbered}
 
 -- an answer, by what it is
-pub told-by : {said said' : Said} {layout : Answer → List ℕ} {ns : List ℕ} {d : Counts} → said ≡ said' → ns ≡ layout (said' .answer) → d ≡ said' .counts → Told said layout ns d
-told-by {layout = layout} e n h =
-    record { numbers = n ∙ sym (ap (λ (s : Said). layout (s .answer)) e); counts = h ∙ sym (ap (λ (s : Said). s .counts) e) }
+pub numbered-by : {said said' : Said} {layout : Answer → List ℕ} {ns : List ℕ} {d : Counts} → said ≡ said' → ns ≡ layout (said' .answer) → d ≡ said' .counts → Numbered said layout ns d
+numbered-by {layout = layout} e n h =
+    record { fields = n ∙ sym (ap (λ (s : Said). layout (s .answer)) e); counts = h ∙ sym (ap (λ (s : Said). s .counts) e) }
 
 -- What a call does, with its answer told in numbers.
-pub told-given : {o : Outcome} {said : Said} {layout : Answer → List ℕ} {ns : List ℕ} {d : Counts} {gu ug sg gs a r words words' : List ℕ} → Does o said (tableOf (said .counts) gu ug sg gs a r) words words' → Told said layout ns d → Given o layout ns (tableOf d gu ug sg gs a r) words words'
-told-given {layout = layout} {gu = gu} {ug = ug} {sg = sg} {gs = gs} {a = a} {r = r} does told =
+pub numbered-given : {o : Outcome} {said : Said} {layout : Answer → List ℕ} {ns : List ℕ} {d : Counts} {gu ug sg gs a r words words' : List ℕ} → Does o said (tableOf (said .counts) gu ug sg gs a r) words words' → Numbered said layout ns d → Given o layout ns (tableOf d gu ug sg gs a r) words words'
+numbered-given {layout = layout} {gu = gu} {ug = ug} {sg = sg} {gs = gs} {a = a} {r = r} does told =
     record {
-      numbers = told .numbers ∙ ap layout (does .answer);
+      fields = told .fields ∙ ap layout (does .answer);
       table = ap (λ (c : Counts). tableOf c gu ug sg gs a r) (told .counts) ∙ does .table;
       noted = does .noted;
     }
@@ -31,7 +32,7 @@ told-given {layout = layout} {gu = gu} {ug = ug} {sg = sg} {gs = gs} {a = a} {r 
 -- nothing is done
 pub refused-given : {n : ℕ} {layout : Answer → List ℕ} {ns : List ℕ} {t : Table} {words : List ℕ} → ns ≡ layout (refused n []) → Given (refusal n t) layout ns t words words
 unfolding notesWords
-refused-given e = record { numbers = e; table = refl; noted = refl }
+refused-given e = record { fields = e; table = refl; noted = refl }
 
 -- the same outcome, told in numbers
 pub same-given : {o o' : Outcome} {layout : Answer → List ℕ} {ns : List ℕ} {left : Table} {words words' : List ℕ} → o' ≡ o → Given o layout ns left words words' → Given o' layout ns left words words'
@@ -43,10 +44,10 @@ pub second-same : {k n m : ℕ} {ns : List ℕ} → n ≡ m → k ∷ n ∷ ns �
 second-same {k = k} {ns = ns} e = ap (λ (v : ℕ). k ∷ v ∷ ns) e
 
 -- an empty part, and any other
-pub no-part : (l : List ℕ) → length l ≡ 0 → 13 ∷ 0 ∷ 0 ∷ [] ≡ placed 1 (measured (first l))
+pub no-part : (l : List ℕ) → length l ≡ 0 → 13 ∷ 0 ∷ 0 ∷ [] ≡ located 1 (measured (first l))
 no-part [] h = refl
 no-part (b ∷ l) h = absurd (let z : _≡_ {A = ℕ} 0 1 = cc in omega arith)
 
-pub some-part : (l : List ℕ) → length l ≢ 0 → 0 ∷ 0 ∷ length l ∷ [] ≡ placed 1 (measured (first l))
+pub some-part : (l : List ℕ) → length l ≢ 0 → 0 ∷ 0 ∷ length l ∷ [] ≡ located 1 (measured (first l))
 some-part [] n = absurd (n refl)
 some-part (b ∷ l) n = refl

@@ -1,1 +1,2 @@
 pub mod Surface
+pub mod Flat

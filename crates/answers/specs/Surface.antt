@@ -2,10 +2,9 @@
 -- A flag is 1 or 0. A layout gives that list of any answer, accepted or refused; it begins with the refusal's number, 0 for none.
 use Prim.Native.Nat.{ℕ}
 use mathlib.Core.Path.{_≡_}
-use mathlib.Core.Bool.{Bool}
 use mathlib.Core.List.{List, [], _∷_}
 use lib.Dec.{eqb}
-use lib.ListN.{length, replicate, getD, take}
+use lib.ListN.{length, replicate, getD}
 use lib.Seq.{sets}
 use Rattle.base.specs.Choice.{pick}
 use Rattle.base.specs.Answer.{Answer, accepted, refused}
@@ -13,14 +12,7 @@ use Rattle.scope.specs.declared.Counts.{Counts}
 use Rattle.scope.specs.Table.{Table}
 use Rattle.scope.specs.Notes.{notesWords}
 use Rattle.scope.specs.Outcome.{Outcome}
-use Rattle.scope.specs.Contract.{Said, Memory}
-use Rattle.answers.specs.declared.counts.HzCounts.{HzCounts}
-
-abbrev pub countsOf : HzCounts → Counts
-countsOf c = record { capacity = c .capacity; user = c .user; global = c .global; solver = c .solver }
-
-abbrev pub flag : Bool → ℕ
-flag b = pick b 1 0
+use Rattle.scope.specs.Contract.{Memory}
 
 -- ---- layouts
 
@@ -35,18 +27,14 @@ optional n (accepted vs) = 0 ∷ pick (eqb (length vs) n) (0 ∷ 0 ∷ vs) (1 �
 optional n (refused k ps) = k ∷ 0 ∷ 0 ∷ replicate n 0
 
 -- a place, which goes with a refusal and else is 0, and n values
-abbrev pub placed : ℕ → Answer → List ℕ
-placed n (accepted vs) = 0 ∷ 0 ∷ vs
-placed n (refused k ps) = k ∷ getD ps 0 0 ∷ replicate n 0
+abbrev pub located : ℕ → Answer → List ℕ
+located n (accepted vs) = 0 ∷ 0 ∷ vs
+located n (refused k ps) = k ∷ getD ps 0 0 ∷ replicate n 0
 
--- of Rename: two values and a step in words, which a refused call gives back too; and the same without the step
+-- of Rename: two values and a step in words, which a refused call gives back too
 abbrev pub stepped : List ℕ → Answer → List ℕ
 stepped step (accepted vs) = 0 ∷ vs
 stepped step (refused k ps) = k ∷ 0 ∷ 0 ∷ step
-
-abbrev pub stepless : Answer → List ℕ
-stepless (accepted vs) = 0 ∷ take 2 vs
-stepless (refused k ps) = k ∷ 0 ∷ 0 ∷ []
 
 -- of the first step alone: the bytes answered, and their number in place of them
 abbrev pub partOf : Answer → List ℕ
@@ -57,16 +45,11 @@ abbrev pub measured : Answer → Answer
 measured (accepted bs) = accepted (length bs ∷ [])
 measured (refused k ps) = refused k ps
 
--- ---- answers and calls
-
--- An answer told in numbers ns by a layout, and in counts d.
-pub record Told (said : Said) (layout : Answer → List ℕ) (ns : List ℕ) (d : Counts) : Type 0 where
-  pub numbers : ns ≡ layout (said .answer)
-  pub counts : d ≡ said .counts
+-- ---- calls
 
 -- An outcome told in numbers ns by a layout, with the table t that is left, and the words lent for notes, before and after.
 pub record Given (o : Outcome) (layout : Answer → List ℕ) (ns : List ℕ) (t : Table) (words words' : List ℕ) : Type 0 where
-  pub numbers : ns ≡ layout (o .answer)
+  pub fields : ns ≡ layout (o .answer)
   pub table : t ≡ o .table
   pub noted : words' ≡ sets words 0 (notesWords (o .notes))
 

@@ -3,7 +3,7 @@ ghost use mathlib.Core.Path.{_≡_};
 ghost use mathlib.Core.List.{[], _∷_};
 ghost use Rattle.base.specs.Lent.{old};
 ghost use Rattle.drat.specs.Filled.{first};
-ghost use Rattle.answers.specs.Surface.{placed, measured};
+ghost use Rattle.answers.specs.Surface.{located, measured};
 
 // The first step is the first `length` bytes.
 #[repr(C)]
@@ -15,7 +15,7 @@ pub struct HzFirst {
 
 // The first step's part of the input, an empty one where it is not whole.
 pub fn first_out(part: &[u8]) -> HzFirst
-    ensures { λ o. ⌜ o .refusal ∷ o .place ∷ o .length ∷ [] ≡ placed 1 (measured (first (old part))) ⌝ }
+    ensures { λ o. ⌜ o .refusal ∷ o .place ∷ o .length ∷ [] ≡ located 1 (measured (first (old part))) ⌝ }
 {
     let n = part.len();
     if n == 0 {

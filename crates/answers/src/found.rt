@@ -1,13 +1,15 @@
 // The answer of Lookup.
-use scope::Counts;
 use var_map::GotGlobal;
 use var_map::GotSolver;
 use var_map::GotUser;
 use var_map::GotWord;
 ghost use mathlib.Core.Path.{_≡_};
 ghost use mathlib.Core.List.{[], _∷_};
+ghost use Rattle.scope.specs.declared.Counts.{Counts};
 ghost use Rattle.var_map.specs.Answers.{gotUser, gotGlobal, gotSolver, gotWord};
-ghost use Rattle.answers.specs.Surface.{flag, optional, Told};
+ghost use Rattle.scope.specs.Steps.{flag};
+ghost use Rattle.answers.specs.Surface.{optional};
+ghost use Rattle.answers.specs.Flat.{Numbered};
 
 // Whether there is something, and what.
 #[repr(C)]
@@ -27,8 +29,8 @@ fn absent(n: u32) -> HzFound
     }
 }
 
-pub fn user_out(r: GotUser, c: Counts) -> HzFound
-    ensures { λ o. ⌜ Told (gotUser r c) (optional 0) (o .refusal ∷ flag (o .found) ∷ o .value ∷ []) c ⌝ }
+pub fn user_out(r: GotUser) -> HzFound
+    ensures { λ o. ⌜ ((c : Counts) → Numbered (gotUser r c) (optional 0) (o .refusal ∷ flag (o .found) ∷ o .value ∷ []) c) ⌝ }
 {
     match r {
         GotUser::At(u) => HzFound {
@@ -41,8 +43,8 @@ pub fn user_out(r: GotUser, c: Counts) -> HzFound
     }
 }
 
-pub fn global_out(r: GotGlobal, c: Counts) -> HzFound
-    ensures { λ o. ⌜ Told (gotGlobal r c) (optional 0) (o .refusal ∷ flag (o .found) ∷ o .value ∷ []) c ⌝ }
+pub fn global_out(r: GotGlobal) -> HzFound
+    ensures { λ o. ⌜ ((c : Counts) → Numbered (gotGlobal r c) (optional 0) (o .refusal ∷ flag (o .found) ∷ o .value ∷ []) c) ⌝ }
 {
     match r {
         GotGlobal::At(g) => HzFound {
@@ -55,8 +57,8 @@ pub fn global_out(r: GotGlobal, c: Counts) -> HzFound
     }
 }
 
-pub fn solver_out(r: GotSolver, c: Counts) -> HzFound
-    ensures { λ o. ⌜ Told (gotSolver r c) (optional 0) (o .refusal ∷ flag (o .found) ∷ o .value ∷ []) c ⌝ }
+pub fn solver_out(r: GotSolver) -> HzFound
+    ensures { λ o. ⌜ ((c : Counts) → Numbered (gotSolver r c) (optional 0) (o .refusal ∷ flag (o .found) ∷ o .value ∷ []) c) ⌝ }
 {
     match r {
         GotSolver::At(s) => HzFound {
@@ -69,8 +71,8 @@ pub fn solver_out(r: GotSolver, c: Counts) -> HzFound
     }
 }
 
-pub fn word_out(r: GotWord, c: Counts) -> HzFound
-    ensures { λ o. ⌜ Told (gotWord r c) (optional 0) (o .refusal ∷ flag (o .found) ∷ o .value ∷ []) c ⌝ }
+pub fn word_out(r: GotWord) -> HzFound
+    ensures { λ o. ⌜ ((c : Counts) → Numbered (gotWord r c) (optional 0) (o .refusal ∷ flag (o .found) ∷ o .value ∷ []) c) ⌝ }
 {
     match r {
         GotWord::Word(w) => HzFound {

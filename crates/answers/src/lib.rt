@@ -1,6 +1,5 @@
-// The answers of the C surface: flat structs. How their contracts read: crates/answers/specs/Surface.antt.
+// The answers of the C surface: flat structs. How their contracts read: crates/answers/specs/Flat.antt and Surface.antt.
 pub mod changed;
-pub mod counts;
 pub mod first;
 pub mod found;
 pub mod granted;

@@ -1,43 +1,43 @@
 // The answer of Set mode.
-use crate::counts::HzCounts;
-use crate::counts::counts_out;
 use modes::ModeSet;
 use scope::Counts;
 ghost use mathlib.Core.List.{[], _∷_};
 ghost use Rattle.modes.specs.Answers.{modeSet};
-ghost use Rattle.answers.specs.Surface.{countsOf, flag, optional, Told};
+ghost use Rattle.scope.specs.Steps.{flag};
+ghost use Rattle.answers.specs.Surface.{optional};
+ghost use Rattle.answers.specs.Flat.{Numbered};
 
 // Whether a user was granted, and which.
 #[repr(C)]
 pub struct HzModeSet {
     pub refusal: u32,
-    pub counts: HzCounts,
+    pub counts: Counts,
     pub granted: bool,
     pub user: u32,
     pub notes: u32,
 }
 
 pub fn mode_set_out(r: ModeSet, c: Counts) -> HzModeSet
-    ensures { λ o. ⌜ Told (modeSet r c) (optional 1) (o .refusal ∷ flag (o .granted) ∷ o .user ∷ o .notes ∷ []) (countsOf (o .counts)) ⌝ }
+    ensures { λ o. ⌜ Numbered (modeSet r c) (optional 1) (o .refusal ∷ flag (o .granted) ∷ o .user ∷ o .notes ∷ []) (o .counts) ⌝ }
 {
     match r {
         ModeSet::Done(d, k) => HzModeSet {
             refusal: 0,
-            counts: counts_out(d),
+            counts: d,
             granted: false,
             user: 0,
             notes: k,
         },
         ModeSet::Shown(u, d, k) => HzModeSet {
             refusal: 0,
-            counts: counts_out(d),
+            counts: d,
             granted: true,
             user: u.0,
             notes: k,
         },
         ModeSet::Refused(n) => HzModeSet {
             refusal: n,
-            counts: counts_out(c),
+            counts: c,
             granted: false,
             user: 0,
             notes: 0,

@@ -1,9 +1,10 @@
 // The answer of Model.
 use model::Modelled;
-use scope::Counts;
 ghost use mathlib.Core.List.{[], _∷_};
+ghost use Rattle.scope.specs.declared.Counts.{Counts};
 ghost use Rattle.model.specs.Answers.{modelled};
-ghost use Rattle.answers.specs.Surface.{plain, Told};
+ghost use Rattle.answers.specs.Surface.{plain};
+ghost use Rattle.answers.specs.Flat.{Numbered};
 
 // How many global words and how many user literals were filled.
 #[repr(C)]
@@ -13,8 +14,8 @@ pub struct HzModelled {
     pub users: u32,
 }
 
-pub fn modelled_out(r: Modelled, c: Counts) -> HzModelled
-    ensures { λ o. ⌜ Told (modelled r c) (plain 2) (o .refusal ∷ o .globals ∷ o .users ∷ []) c ⌝ }
+pub fn modelled_out(r: Modelled) -> HzModelled
+    ensures { λ o. ⌜ ((c : Counts) → Numbered (modelled r c) (plain 2) (o .refusal ∷ o .globals ∷ o .users ∷ []) c) ⌝ }
 {
     match r {
         Modelled::Done(globals, users) => HzModelled {

@@ -1,31 +1,30 @@
 // The answer of Remove and Sweep.
-use crate::counts::HzCounts;
-use crate::counts::counts_out;
 use removal::Removed;
 use scope::Counts;
 ghost use mathlib.Core.List.{[], _∷_};
 ghost use Rattle.removal.specs.Answers.{removed};
-ghost use Rattle.answers.specs.Surface.{countsOf, plain, Told};
+ghost use Rattle.answers.specs.Surface.{plain};
+ghost use Rattle.answers.specs.Flat.{Numbered};
 
 #[repr(C)]
 pub struct HzNoted {
     pub refusal: u32,
-    pub counts: HzCounts,
+    pub counts: Counts,
     pub notes: u32,
 }
 
 pub fn removed_out(r: Removed, c: Counts) -> HzNoted
-    ensures { λ o. ⌜ Told (removed r c) (plain 1) (o .refusal ∷ o .notes ∷ []) (countsOf (o .counts)) ⌝ }
+    ensures { λ o. ⌜ Numbered (removed r c) (plain 1) (o .refusal ∷ o .notes ∷ []) (o .counts) ⌝ }
 {
     match r {
         Removed::Done(d, k) => HzNoted {
             refusal: 0,
-            counts: counts_out(d),
+            counts: d,
             notes: k,
         },
         Removed::Refused(n) => HzNoted {
             refusal: n,
-            counts: counts_out(c),
+            counts: c,
             notes: 0,
         },
     }

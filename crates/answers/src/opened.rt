@@ -1,23 +1,23 @@
 // The answer of Open.
 use crate::changed::HzChanged;
-use crate::counts::counts_out;
 use scope::Counts;
 use var_map::Opened;
 ghost use mathlib.Core.List.{[], _∷_};
 ghost use Rattle.var_map.specs.Answers.{opened};
-ghost use Rattle.answers.specs.Surface.{countsOf, plain, Told};
+ghost use Rattle.answers.specs.Surface.{plain};
+ghost use Rattle.answers.specs.Flat.{Numbered};
 
 pub fn opened_out(r: Opened, c: Counts) -> HzChanged
-    ensures { λ o. ⌜ Told (opened r c) (plain 0) (o .refusal ∷ []) (countsOf (o .counts)) ⌝ }
+    ensures { λ o. ⌜ Numbered (opened r c) (plain 0) (o .refusal ∷ []) (o .counts) ⌝ }
 {
     match r {
         Opened::Done(d) => HzChanged {
             refusal: 0,
-            counts: counts_out(d),
+            counts: d,
         },
         Opened::Refused(n) => HzChanged {
             refusal: n,
-            counts: counts_out(c),
+            counts: c,
         },
     }
 }

@@ -3,7 +3,7 @@ use drat::Read;
 ghost use mathlib.Core.Path.{_≡_};
 ghost use mathlib.Core.List.{[], _∷_};
 ghost use Rattle.drat.specs.Filled.{read};
-ghost use Rattle.answers.specs.Surface.{placed};
+ghost use Rattle.answers.specs.Surface.{located};
 
 // How many literals and how many steps were filled; with refusal 13, the start of the first step that is not whole.
 #[repr(C)]
@@ -15,7 +15,7 @@ pub struct HzReading {
 }
 
 pub fn read_out(r: Read) -> HzReading
-    ensures { λ o. ⌜ o .refusal ∷ o .place ∷ o .lits ∷ o .steps ∷ [] ≡ placed 2 (read r) ⌝ }
+    ensures { λ o. ⌜ o .refusal ∷ o .place ∷ o .lits ∷ o .steps ∷ [] ≡ located 2 (read r) ⌝ }
 {
     match r {
         Read::Filled(n, m) => HzReading {

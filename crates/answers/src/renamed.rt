@@ -1,11 +1,11 @@
 // The answer of Rename.
 use numbers::HzStep;
-use scope::Counts;
 use steps::rename::Renamed;
 ghost use mathlib.Core.Path.{_≡_};
 ghost use mathlib.Core.List.{[], _∷_};
+ghost use Rattle.scope.specs.declared.Counts.{Counts};
 ghost use Rattle.steps.specs.Answers.{renamed};
-ghost use Rattle.answers.specs.Surface.{Told, stepless};
+ghost use Rattle.answers.specs.Flat.{Numbered, stepless};
 
 // The step as given, and how many literals and hashes were filled.
 #[repr(C)]
@@ -16,8 +16,8 @@ pub struct HzRenamed {
     pub hashes: usize,
 }
 
-pub fn renamed_out(r: Renamed, step: HzStep, c: Counts) -> HzRenamed
-    ensures { λ o. ⌜ Told (renamed r c) stepless (o .refusal ∷ o .lits ∷ o .hashes ∷ []) c ⌝ ∗ ⌜ o .step ≡ step ⌝ }
+pub fn renamed_out(r: Renamed, step: HzStep) -> HzRenamed
+    ensures { λ o. ⌜ ((c : Counts) → Numbered (renamed r c) stepless (o .refusal ∷ o .lits ∷ o .hashes ∷ []) c) ⌝ ∗ ⌜ o .step ≡ step ⌝ }
 {
     match r {
         Renamed::Done(n, m, _) => HzRenamed {

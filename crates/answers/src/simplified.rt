@@ -1,12 +1,14 @@
 // The answer of Simplify.
-use scope::Counts;
 use scope::Simplified;
 use simplify::Reduced;
 ghost use mathlib.Core.Path.{_≡_};
 ghost use mathlib.Core.List.{[], _∷_};
+ghost use Rattle.scope.specs.declared.Counts.{Counts};
 ghost use Rattle.scope.specs.Simplify.{simplifiedNumber};
 ghost use Rattle.simplify.specs.Answers.{reduced};
-ghost use Rattle.answers.specs.Surface.{flag, plain, Told};
+ghost use Rattle.scope.specs.Steps.{flag};
+ghost use Rattle.answers.specs.Surface.{plain};
+ghost use Rattle.answers.specs.Flat.{Numbered};
 
 // What was made of the clause, how many literals were filled, the add step's flag, and how many bytes were filled.
 #[repr(C)]
@@ -29,8 +31,8 @@ fn made_out(what: Simplified) -> u32
     }
 }
 
-pub fn reduced_out(r: Reduced, c: Counts) -> HzSimplified
-    ensures { λ o. ⌜ Told (reduced r c) (plain 4) (o .refusal ∷ o .made ∷ o .lits ∷ flag (o .redundant) ∷ o .bytes ∷ []) c ⌝ }
+pub fn reduced_out(r: Reduced) -> HzSimplified
+    ensures { λ o. ⌜ ((c : Counts) → Numbered (reduced r c) (plain 4) (o .refusal ∷ o .made ∷ o .lits ∷ flag (o .redundant) ∷ o .bytes ∷ []) c) ⌝ }
 {
     match r {
         Reduced::Done(what, k, redundant, m) => HzSimplified {

@@ -1,9 +1,10 @@
 // The answer of Write.
-use scope::Counts;
 use steps::write::Recorded;
 ghost use mathlib.Core.List.{[], _∷_};
+ghost use Rattle.scope.specs.declared.Counts.{Counts};
 ghost use Rattle.steps.specs.Answers.{recorded};
-ghost use Rattle.answers.specs.Surface.{plain, Told};
+ghost use Rattle.answers.specs.Surface.{plain};
+ghost use Rattle.answers.specs.Flat.{Numbered};
 
 // How many bytes were filled; of `hz_write_clause`, the place after them.
 #[repr(C)]
@@ -12,8 +13,8 @@ pub struct HzWritten {
     pub bytes: usize,
 }
 
-pub fn recorded_out(r: Recorded, c: Counts) -> HzWritten
-    ensures { λ o. ⌜ Told (recorded r c) (plain 1) (o .refusal ∷ o .bytes ∷ []) c ⌝ }
+pub fn recorded_out(r: Recorded) -> HzWritten
+    ensures { λ o. ⌜ ((c : Counts) → Numbered (recorded r c) (plain 1) (o .refusal ∷ o .bytes ∷ []) c) ⌝ }
 {
     match r {
         Recorded::Done(k) => HzWritten {

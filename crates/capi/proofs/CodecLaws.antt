@@ -11,8 +11,8 @@ use Rattle.drat.specs.Writing.{writeOf}
 use Rattle.drat.specs.Listed.{writeAllOf}
 use Rattle.drat.specs.Filled.{refusing, readOf, firstOf, firstBy, first}
 use Rattle.drat.specs.Reading.{One, got, fault, oneStep}
-use Rattle.numbers.specs.Numbers.{known, unknown, formatAt, kindAt}
-use Rattle.answers.specs.Surface.{placed, partOf, measured}
+use Rattle.numbers.specs.Numbers.{known, unknown, formatFor, kindFor}
+use Rattle.answers.specs.Surface.{located, partOf, measured}
 use Rattle.capi.specs.Codec.{noWriting, writeClauseAt, writeProofAt, readAt, firstAt}
 use Rattle.numbers.proofs.NumberLaws.{known-is, unknown-is}
 
@@ -27,48 +27,48 @@ same-numbers layout e h = h ∙ sym (ap layout e)
 -- ---- the writer of one clause
 
 module _ (format kind : ℕ) (buf : List ℕ) (a b room at : ℕ) where
-  pub write-clause-is : {f : Format} {k : Kind} → formatAt format ≡ known f → kindAt kind ≡ known k → writeClauseAt format kind buf a b room at ≡ writeOf f k buf a b room at
+  pub write-clause-is : {f : Format} {k : Kind} → formatFor format ≡ known f → kindFor kind ≡ known k → writeClauseAt format kind buf a b room at ≡ writeOf f k buf a b room at
   unfolding writeClauseAt
   write-clause-is e g = known-is _ _ e ∙ known-is _ _ g
 
-  pub no-clause-format : formatAt format ≡ unknown → writeClauseAt format kind buf a b room at ≡ noWriting
+  pub no-clause-format : formatFor format ≡ unknown → writeClauseAt format kind buf a b room at ≡ noWriting
   unfolding writeClauseAt
   no-clause-format e = unknown-is _ _ e
 
-  pub no-clause-kind : {f : Format} → formatAt format ≡ known f → kindAt kind ≡ unknown → writeClauseAt format kind buf a b room at ≡ noWriting
+  pub no-clause-kind : {f : Format} → formatFor format ≡ known f → kindFor kind ≡ unknown → writeClauseAt format kind buf a b room at ≡ noWriting
   unfolding writeClauseAt
   no-clause-kind e g = known-is _ _ e ∙ unknown-is _ _ g
 
 -- ---- the writer of a whole proof
 
 module _ (format : ℕ) (codes es ks : List ℕ) (room : ℕ) where
-  pub write-proof-is : {f : Format} → formatAt format ≡ known f → writeProofAt format codes es ks room ≡ writeAllOf f codes es ks room
+  pub write-proof-is : {f : Format} → formatFor format ≡ known f → writeProofAt format codes es ks room ≡ writeAllOf f codes es ks room
   unfolding writeProofAt
   write-proof-is e = known-is _ _ e
 
-  pub no-proof-format : formatAt format ≡ unknown → writeProofAt format codes es ks room ≡ noWriting
+  pub no-proof-format : formatFor format ≡ unknown → writeProofAt format codes es ks room ≡ noWriting
   unfolding writeProofAt
   no-proof-format e = unknown-is _ _ e
 
 -- ---- the reader
 
 module _ (format : ℕ) (s : List ℕ) (a b c : ℕ) where
-  pub read-is : {f : Format} → formatAt format ≡ known f → readAt format s a b c ≡ readOf f s a b c
+  pub read-is : {f : Format} → formatFor format ≡ known f → readAt format s a b c ≡ readOf f s a b c
   unfolding readAt
   read-is e = known-is _ _ e
 
-  pub no-read-format : formatAt format ≡ unknown → readAt format s a b c ≡ refusing 4294967295 []
+  pub no-read-format : formatFor format ≡ unknown → readAt format s a b c ≡ refusing 4294967295 []
   unfolding readAt
   no-read-format e = unknown-is _ _ e
 
 -- ---- the first step alone
 
 module _ (format : ℕ) (s : List ℕ) where
-  pub first-is : {f : Format} → formatAt format ≡ known f → firstAt format s ≡ firstOf f s
+  pub first-is : {f : Format} → formatFor format ≡ known f → firstAt format s ≡ firstOf f s
   unfolding firstAt
   first-is e = known-is _ _ e
 
-  pub no-first-format : formatAt format ≡ unknown → firstAt format s ≡ refused 4294967295 []
+  pub no-first-format : formatFor format ≡ unknown → firstAt format s ≡ refused 4294967295 []
   unfolding firstAt
   no-first-format e = unknown-is _ _ e
 
@@ -77,21 +77,21 @@ take-again zero s = refl
 take-again (suc j) [] = refl
 take-again (suc j) (x ∷ s) = ap (λ (l : List ℕ). x ∷ l) (take-again j s)
 
-taken : (l s : List ℕ) (x : One) → l ≡ partOf (firstBy s x) → take (length l) s ≡ partOf (firstBy s x)
+part-taken : (l s : List ℕ) (x : One) → l ≡ partOf (firstBy s x) → take (length l) s ≡ partOf (firstBy s x)
 unfolding firstBy
-taken l s (got p j) e = ap (λ (k : List ℕ). take (length k) s) e ∙ take-again j s
-taken l s fault e = ap (λ (k : List ℕ). take (length k) s) e
+part-taken l s (got p j) e = ap (λ (k : List ℕ). take (length k) s) e ∙ take-again j s
+part-taken l s fault e = ap (λ (k : List ℕ). take (length k) s) e
 
 part-is : (l : List ℕ) → l ≡ partOf (first l)
 part-is [] = refl
 part-is (b ∷ l) = refl
 
-part-length : (l : List ℕ) → getD (placed 1 (measured (first l))) 2 0 ≡ length l
-part-length [] = refl
-part-length (b ∷ l) = refl
+first-length : (l : List ℕ) → getD (located 1 (measured (first l))) 2 0 ≡ length l
+first-length [] = refl
+first-length (b ∷ l) = refl
 
 -- the part answered is the first so many bytes
-pub first-taken : (f : Format) (l s : List ℕ) {k p n : ℕ} → first l ≡ firstOf f s → k ∷ p ∷ n ∷ [] ≡ placed 1 (measured (first l)) → take n s ≡ partOf (firstOf f s)
+pub first-taken : (f : Format) (l s : List ℕ) {k p n : ℕ} → first l ≡ firstOf f s → k ∷ p ∷ n ∷ [] ≡ located 1 (measured (first l)) → take n s ≡ partOf (firstOf f s)
 first-taken f l s h g =
-    let e = ap (λ (ns : List ℕ). getD ns 2 0) g ∙ part-length l in
-    ap (λ (n : ℕ). take n s) e ∙ taken l s (oneStep f 0 s) (part-is l ∙ ap partOf h)
+    let e = ap (λ (ns : List ℕ). getD ns 2 0) g ∙ first-length l in
+    ap (λ (n : ℕ). take n s) e ∙ part-taken l s (oneStep f 0 s) (part-is l ∙ ap partOf h)

@@ -12,39 +12,40 @@ use Rattle.scope.specs.Outcome.{Outcome, refusal, unless}
 use Rattle.scope.specs.Write.{renameOf, writeOf}
 use Rattle.scope.specs.Simplify.{simplifyOf}
 use Rattle.numbers.specs.declared.HzStep.{HzStep}
-use Rattle.numbers.specs.Numbers.{known, unknown, formatAt}
-use Rattle.answers.specs.Surface.{stepped, stepless, Given}
-use Rattle.capi.specs.Lines.{stepOf, renameAt, writeAt, simplifyAt}
+use Rattle.numbers.specs.Numbers.{known, unknown, formatFor}
+use Rattle.answers.specs.Surface.{stepped, Given}
+use Rattle.answers.specs.Flat.{stepless}
+use Rattle.capi.specs.Lines.{stepGiven, renameAt, writeAt, simplifyAt}
 use Rattle.numbers.proofs.NumberLaws.{known-is, unknown-is}
 
 module _ (format : ℕ) (step : HzStep) (t : Table) (solverVars : Bool) (lits hashes : List ℕ) (room : ℕ) where
-  pub write-is : {f : Format} {s : ProofStep} → formatAt format ≡ known f → stepOf step ≡ known s → writeAt format step t solverVars lits hashes room ≡ writeOf f t s solverVars lits hashes room
+  pub write-is : {f : Format} {s : ProofStep} → formatFor format ≡ known f → stepGiven step ≡ known s → writeAt format step t solverVars lits hashes room ≡ writeOf f t s solverVars lits hashes room
   unfolding writeAt
   write-is e g = known-is _ _ e ∙ known-is _ _ g
 
-  pub no-write-format : formatAt format ≡ unknown → writeAt format step t solverVars lits hashes room ≡ refusal 4294967295 t
+  pub no-write-format : formatFor format ≡ unknown → writeAt format step t solverVars lits hashes room ≡ refusal 4294967295 t
   unfolding writeAt
   no-write-format e = unknown-is _ _ e
 
-  pub no-write-step : {f : Format} → formatAt format ≡ known f → stepOf step ≡ unknown → writeAt format step t solverVars lits hashes room ≡ refusal 4294967295 t
+  pub no-write-step : {f : Format} → formatFor format ≡ known f → stepGiven step ≡ unknown → writeAt format step t solverVars lits hashes room ≡ refusal 4294967295 t
   unfolding writeAt
   no-write-step e g = known-is _ _ e ∙ unknown-is _ _ g
 
 module _ (step : HzStep) (t : Table) (solverVars : Bool) (lits hashes : List ℕ) (outs hashOuts : ℕ) where
-  pub rename-is : {s : ProofStep} → stepOf step ≡ known s → renameAt step t solverVars lits hashes outs hashOuts ≡ renameOf t s solverVars lits hashes outs hashOuts
+  pub rename-is : {s : ProofStep} → stepGiven step ≡ known s → renameAt step t solverVars lits hashes outs hashOuts ≡ renameOf t s solverVars lits hashes outs hashOuts
   unfolding renameAt
   rename-is e = known-is _ _ e
 
-  pub no-rename-step : stepOf step ≡ unknown → renameAt step t solverVars lits hashes outs hashOuts ≡ refusal 4294967295 t
+  pub no-rename-step : stepGiven step ≡ unknown → renameAt step t solverVars lits hashes outs hashOuts ≡ refusal 4294967295 t
   unfolding renameAt
   no-rename-step e = unknown-is _ _ e
 
 module _ (format : ℕ) (t : Table) (lits : List ℕ) (redundant : Bool) (outs room : ℕ) where
-  pub simplify-is : {f : Format} → formatAt format ≡ known f → simplifyAt format t lits redundant outs room ≡ simplifyOf f t lits redundant outs room
+  pub simplify-is : {f : Format} → formatFor format ≡ known f → simplifyAt format t lits redundant outs room ≡ simplifyOf f t lits redundant outs room
   unfolding simplifyAt
   simplify-is e = known-is _ _ e
 
-  pub no-simplify-format : formatAt format ≡ unknown → simplifyAt format t lits redundant outs room ≡ refusal 4294967295 t
+  pub no-simplify-format : formatFor format ≡ unknown → simplifyAt format t lits redundant outs room ≡ refusal 4294967295 t
   unfolding simplifyAt
   no-simplify-format e = unknown-is _ _ e
 
@@ -59,7 +60,7 @@ pub stepped-given : (t : Table) (s : ProofStep) (solverVars : Bool) (lits hashes
 unfolding renameOf
 stepped-given t s solverVars lits hashes outs hashOuts {k = k} {n = n} {m = m} e g h =
     record {
-      numbers = ap (λ (us : List ℕ). k ∷ n ∷ m ∷ us) (sym e) ∙ stepped-numbers _ _ _ refl (h .numbers) ∙ ap (λ (vs : List ℕ). stepped vs (renameOf t s solverVars lits hashes outs hashOuts .answer)) g;
+      fields = ap (λ (us : List ℕ). k ∷ n ∷ m ∷ us) (sym e) ∙ stepped-numbers _ _ _ refl (h .fields) ∙ ap (λ (vs : List ℕ). stepped vs (renameOf t s solverVars lits hashes outs hashOuts .answer)) g;
       table = h .table;
       noted = h .noted;
     }

@@ -5,20 +5,20 @@ use Rattle.base.specs.Answer.{Answer, refused}
 use Rattle.drat.specs.Writing.{Writing, writeOf}
 use Rattle.drat.specs.Listed.{writeAllOf}
 use Rattle.drat.specs.Filled.{Filling, refusing, readOf, firstOf}
-use Rattle.numbers.specs.Numbers.{whenKnown, formatAt, kindAt}
+use Rattle.numbers.specs.Numbers.{whenKnown, formatFor, kindFor}
 
 abbrev pub noWriting : Writing
 noWriting = record { answer = refused 4294967295 []; bytes = [] }
 
 unfoldable pub writeClauseAt : ℕ → ℕ → List ℕ → ℕ → ℕ → ℕ → ℕ → Writing
 writeClauseAt format kind buf a b room at =
-    whenKnown (formatAt format) noWriting (λ f. whenKnown (kindAt kind) noWriting (λ k. writeOf f k buf a b room at))
+    whenKnown (formatFor format) noWriting (λ f. whenKnown (kindFor kind) noWriting (λ k. writeOf f k buf a b room at))
 
 unfoldable pub writeProofAt : ℕ → List ℕ → List ℕ → List ℕ → ℕ → Writing
-writeProofAt format codes es ks room = whenKnown (formatAt format) noWriting (λ f. writeAllOf f codes es ks room)
+writeProofAt format codes es ks room = whenKnown (formatFor format) noWriting (λ f. writeAllOf f codes es ks room)
 
 unfoldable pub readAt : ℕ → List ℕ → ℕ → ℕ → ℕ → Filling
-readAt format s a b c = whenKnown (formatAt format) (refusing 4294967295 []) (λ f. readOf f s a b c)
+readAt format s a b c = whenKnown (formatFor format) (refusing 4294967295 []) (λ f. readOf f s a b c)
 
 unfoldable pub firstAt : ℕ → List ℕ → Answer
-firstAt format s = whenKnown (formatAt format) (refused 4294967295 []) (λ f. firstOf f s)
+firstAt format s = whenKnown (formatFor format) (refused 4294967295 []) (λ f. firstOf f s)

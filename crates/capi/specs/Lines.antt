@@ -9,23 +9,23 @@ use Rattle.scope.specs.Outcome.{Outcome}
 use Rattle.scope.specs.Write.{renameOf, writeOf}
 use Rattle.scope.specs.Simplify.{simplifyOf}
 use Rattle.numbers.specs.declared.HzStep.{HzStep}
-use Rattle.numbers.specs.Numbers.{Number, known, unknown, forKnown, formatAt, stepAt}
+use Rattle.numbers.specs.Numbers.{Meaning, known, unknown, forKnown, formatFor, stepFor}
 
-abbrev pub stepOf : HzStep → Number ProofStep
-stepOf step = stepAt (step .kind) (step .a) (step .b)
+abbrev pub stepGiven : HzStep → Meaning ProofStep
+stepGiven step = stepFor (step .kind) (step .a) (step .b)
 
 -- a step in words, by what it stands for
-abbrev pub wordsAt : Number ProofStep → List ℕ
+abbrev pub wordsAt : Meaning ProofStep → List ℕ
 wordsAt (known s) = stepWords s
 wordsAt unknown = []
 
 unfoldable pub renameAt : HzStep → Table → Bool → List ℕ → List ℕ → ℕ → ℕ → Outcome
 renameAt step t solverVars lits hashes outs hashOuts =
-    forKnown (stepOf step) t (λ s. renameOf t s solverVars lits hashes outs hashOuts)
+    forKnown (stepGiven step) t (λ s. renameOf t s solverVars lits hashes outs hashOuts)
 
 unfoldable pub writeAt : ℕ → HzStep → Table → Bool → List ℕ → List ℕ → ℕ → Outcome
 writeAt format step t solverVars lits hashes room =
-    forKnown (formatAt format) t (λ f. forKnown (stepOf step) t (λ s. writeOf f t s solverVars lits hashes room))
+    forKnown (formatFor format) t (λ f. forKnown (stepGiven step) t (λ s. writeOf f t s solverVars lits hashes room))
 
 unfoldable pub simplifyAt : ℕ → Table → List ℕ → Bool → ℕ → ℕ → Outcome
-simplifyAt format t lits redundant outs room = forKnown (formatAt format) t (λ f. simplifyOf f t lits redundant outs room)
+simplifyAt format t lits redundant outs room = forKnown (formatFor format) t (λ f. simplifyOf f t lits redundant outs room)

@@ -1,5 +1,4 @@
 // Simplify.
-use answers::counts::HzCounts;
 use answers::simplified::HzSimplified;
 use answers::simplified::reduced_out;
 use numbers::FormatNumber;
@@ -10,13 +9,14 @@ ghost use mathlib.Core.List.{[], _∷_};
 ghost use lib.ListN.{length};
 ghost use Rattle.base.specs.Lent.{old, new, Fills};
 ghost use Rattle.scope.specs.Contract.{before, quiet};
-ghost use Rattle.answers.specs.Surface.{countsOf, flag, plain, Gives};
+ghost use Rattle.scope.specs.Steps.{flag};
+ghost use Rattle.answers.specs.Surface.{plain, Gives};
 ghost use Rattle.capi.specs.Lines.{simplifyAt};
 
 // Simplify (1, 3, 8, 12, 2): `simplifyOf`.
 #[no_mangle]
 pub extern "C" fn hz_simplify(
-    c: HzCounts,
+    c: Counts,
     gu: &[u32],
     ug: &[u32],
     sg: &[u32],
@@ -30,12 +30,12 @@ pub extern "C" fn hz_simplify(
     bytes: &mut [u8],
 ) -> HzSimplified
     ensures { λ r. ⌜ Gives (λ t room. simplifyAt format t (old lits) redundant (length (old out)) (length (old bytes)))
-        (plain 4) (r .refusal ∷ r .made ∷ r .lits ∷ flag (r .redundant) ∷ r .bytes ∷ []) (countsOf c)
-        (quiet (countsOf c) gu ug sg gs assignment records) ⌝ }
+        (plain 4) (r .refusal ∷ r .made ∷ r .lits ∷ flag (r .redundant) ∷ r .bytes ∷ []) c
+        (quiet c gu ug sg gs assignment records) ⌝ }
     ensures out { λ _. ⌜ Fills out 0
-        (simplifyAt format (before (countsOf c) gu ug sg gs assignment records) (old lits) redundant (length (old out)) (length (old bytes)) .words) ⌝ }
+        (simplifyAt format (before c gu ug sg gs assignment records) (old lits) redundant (length (old out)) (length (old bytes)) .words) ⌝ }
     ensures bytes { λ _. ⌜ Fills bytes 0
-        (simplifyAt format (before (countsOf c) gu ug sg gs assignment records) (old lits) redundant (length (old out)) (length (old bytes)) .bytes) ⌝ }
+        (simplifyAt format (before c gu ug sg gs assignment records) (old lits) redundant (length (old out)) (length (old bytes)) .bytes) ⌝ }
 {
     let FormatNumber::Known(f) = format_in(format) else {
         return HzSimplified {
@@ -46,14 +46,8 @@ pub extern "C" fn hz_simplify(
             bytes: 0,
         };
     };
-    let d = Counts {
-        capacity: c.capacity,
-        user: c.user,
-        global: c.global,
-        solver: c.solver,
-    };
     let r = simplify::simplify_clause(
-        d,
+        c,
         gu,
         ug,
         sg,
@@ -66,5 +60,5 @@ pub extern "C" fn hz_simplify(
         out,
         bytes,
     );
-    reduced_out(r, d)
+    reduced_out(r)
 }

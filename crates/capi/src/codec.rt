@@ -13,7 +13,7 @@ ghost use mathlib.Core.Path.{_≡_};
 ghost use mathlib.Core.List.{[], _∷_};
 ghost use lib.ListN.{length, take};
 ghost use Rattle.base.specs.Lent.{old, new, Fills};
-ghost use Rattle.answers.specs.Surface.{plain, placed, partOf, measured};
+ghost use Rattle.answers.specs.Surface.{plain, located, partOf, measured};
 ghost use Rattle.capi.specs.Codec.{writeClauseAt, writeProofAt, readAt, firstAt};
 
 // The clause buf[a..b] as one step from out[at] on (3, 2): `writeOf` of the writer.
@@ -80,7 +80,7 @@ pub extern "C" fn hz_read(
     kinds: &mut [u8],
 ) -> HzReading
     ensures { λ r. let w = readAt format (old bytes) (length (old codes)) (length (old ends)) (length (old kinds)) in
-        ⌜ r .refusal ∷ r .place ∷ r .lits ∷ r .steps ∷ [] ≡ placed 2 (w .answer) ⌝
+        ⌜ r .refusal ∷ r .place ∷ r .lits ∷ r .steps ∷ [] ≡ located 2 (w .answer) ⌝
         ∗ ⌜ Fills codes 0 (w .codes) ⌝
         ∗ ⌜ Fills ends 0 (w .ends) ⌝
         ∗ ⌜ Fills kinds 0 (w .kinds) ⌝ }
@@ -101,7 +101,7 @@ pub extern "C" fn hz_read(
 #[no_mangle]
 pub extern "C" fn hz_first_step(format: u32, bytes: &[u8]) -> HzFirst
     ensures { λ r. let w = firstAt format (old bytes) in
-        ⌜ r .refusal ∷ r .place ∷ r .length ∷ [] ≡ placed 1 (measured w) ⌝
+        ⌜ r .refusal ∷ r .place ∷ r .length ∷ [] ≡ located 1 (measured w) ⌝
         ∗ ⌜ take (r .length) (old bytes) ≡ partOf w ⌝ }
 {
     let FormatNumber::Known(f) = format_in(format) else {

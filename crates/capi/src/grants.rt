@@ -1,5 +1,4 @@
 // Grant.
-use answers::counts::HzCounts;
 use answers::granted::HzGranted;
 use answers::granted::granted_out;
 use scope::Counts;
@@ -7,12 +6,12 @@ use scope::Global;
 ghost use mathlib.Core.List.{[], _∷_};
 ghost use Rattle.scope.specs.Contract.{lent};
 ghost use Rattle.scope.specs.Grant.{grantOf};
-ghost use Rattle.answers.specs.Surface.{countsOf, plain, Gives};
+ghost use Rattle.answers.specs.Surface.{plain, Gives};
 
 // Grant (1, 3, 6, 2): `grantOf`.
 #[no_mangle]
 pub extern "C" fn hz_grant(
-    c: HzCounts,
+    c: Counts,
     gu: &[u32],
     ug: &[u32],
     sg: &mut [u32],
@@ -22,17 +21,11 @@ pub extern "C" fn hz_grant(
     global: u32,
     notes: &mut [u32],
 ) -> HzGranted
-    ensures { λ r. ⌜ Gives (λ t room. grantOf t global room) (plain 2) (r .refusal ∷ r .solver ∷ r .notes ∷ []) (countsOf (r .counts))
-        (lent (countsOf c) gu ug sg gs assignment records notes) ⌝ }
+    ensures { λ r. ⌜ Gives (λ t room. grantOf t global room) (plain 2) (r .refusal ∷ r .solver ∷ r .notes ∷ []) (r .counts)
+        (lent c gu ug sg gs assignment records notes) ⌝ }
 {
-    let d = Counts {
-        capacity: c.capacity,
-        user: c.user,
-        global: c.global,
-        solver: c.solver,
-    };
     let r = granting::solver_from_global(
-        d,
+        c,
         gu,
         ug,
         sg,
@@ -42,5 +35,5 @@ pub extern "C" fn hz_grant(
         Global(global),
         notes,
     );
-    granted_out(r, d)
+    granted_out(r, c)
 }

@@ -1,5 +1,4 @@
 // Rename and Write.
-use answers::counts::HzCounts;
 use answers::renamed::HzRenamed;
 use answers::renamed::renamed_out;
 use answers::written::HzWritten;
@@ -15,13 +14,13 @@ ghost use mathlib.Core.List.{[], _∷_};
 ghost use lib.ListN.{length};
 ghost use Rattle.base.specs.Lent.{old, new, Fills};
 ghost use Rattle.scope.specs.Contract.{before, quiet};
-ghost use Rattle.answers.specs.Surface.{countsOf, plain, stepped, Gives};
-ghost use Rattle.capi.specs.Lines.{stepOf, wordsAt, renameAt, writeAt};
+ghost use Rattle.answers.specs.Surface.{plain, stepped, Gives};
+ghost use Rattle.capi.specs.Lines.{stepGiven, wordsAt, renameAt, writeAt};
 
 // Rename (1, 14, 3, 8, 2): `renameOf`.
 #[no_mangle]
 pub extern "C" fn hz_rename(
-    c: HzCounts,
+    c: Counts,
     gu: &[u32],
     ug: &[u32],
     sg: &[u32],
@@ -36,12 +35,12 @@ pub extern "C" fn hz_rename(
     hashout: &mut [u64],
 ) -> HzRenamed
     ensures { λ r. ⌜ Gives (λ t room. renameAt step t solvervars (old lits) (old hashes) (length (old out)) (length (old hashout)))
-        (stepped (wordsAt (stepOf step))) (r .refusal ∷ r .lits ∷ r .hashes ∷ wordsAt (stepOf (r .step))) (countsOf c)
-        (quiet (countsOf c) gu ug sg gs assignment records) ⌝ ∗ ⌜ r .step ≡ step ⌝ }
+        (stepped (wordsAt (stepGiven step))) (r .refusal ∷ r .lits ∷ r .hashes ∷ wordsAt (stepGiven (r .step))) c
+        (quiet c gu ug sg gs assignment records) ⌝ ∗ ⌜ r .step ≡ step ⌝ }
     ensures out { λ _. ⌜ Fills out 0
-        (renameAt step (before (countsOf c) gu ug sg gs assignment records) solvervars (old lits) (old hashes) (length (old out)) (length (old hashout)) .words) ⌝ }
+        (renameAt step (before c gu ug sg gs assignment records) solvervars (old lits) (old hashes) (length (old out)) (length (old hashout)) .words) ⌝ }
     ensures hashout { λ _. ⌜ Fills hashout 0
-        (renameAt step (before (countsOf c) gu ug sg gs assignment records) solvervars (old lits) (old hashes) (length (old out)) (length (old hashout)) .more) ⌝ }
+        (renameAt step (before c gu ug sg gs assignment records) solvervars (old lits) (old hashes) (length (old out)) (length (old hashout)) .more) ⌝ }
 {
     let StepNumber::Known(s) = step_in(step) else {
         return HzRenamed {
@@ -51,14 +50,8 @@ pub extern "C" fn hz_rename(
             hashes: 0,
         };
     };
-    let d = Counts {
-        capacity: c.capacity,
-        user: c.user,
-        global: c.global,
-        solver: c.solver,
-    };
     let r = steps::rename::rename_step(
-        d,
+        c,
         gu,
         ug,
         sg,
@@ -72,13 +65,13 @@ pub extern "C" fn hz_rename(
         out,
         hashout,
     );
-    renamed_out(r, step, d)
+    renamed_out(r, step)
 }
 
 // Write (1, 14, 3, 8, 11, 2): `writeOf`.
 #[no_mangle]
 pub extern "C" fn hz_write(
-    c: HzCounts,
+    c: Counts,
     gu: &[u32],
     ug: &[u32],
     sg: &[u32],
@@ -93,9 +86,9 @@ pub extern "C" fn hz_write(
     out: &mut [u8],
 ) -> HzWritten
     ensures { λ r. ⌜ Gives (λ t room. writeAt format step t solvervars (old lits) (old hashes) (length (old out)))
-        (plain 1) (r .refusal ∷ r .bytes ∷ []) (countsOf c) (quiet (countsOf c) gu ug sg gs assignment records) ⌝ }
+        (plain 1) (r .refusal ∷ r .bytes ∷ []) c (quiet c gu ug sg gs assignment records) ⌝ }
     ensures out { λ _. ⌜ Fills out 0
-        (writeAt format step (before (countsOf c) gu ug sg gs assignment records) solvervars (old lits) (old hashes) (length (old out)) .bytes) ⌝ }
+        (writeAt format step (before c gu ug sg gs assignment records) solvervars (old lits) (old hashes) (length (old out)) .bytes) ⌝ }
 {
     let FormatNumber::Known(f) = format_in(format) else {
         return HzWritten {
@@ -109,14 +102,8 @@ pub extern "C" fn hz_write(
             bytes: 0,
         };
     };
-    let d = Counts {
-        capacity: c.capacity,
-        user: c.user,
-        global: c.global,
-        solver: c.solver,
-    };
     let r = steps::write::write_step(
-        d,
+        c,
         gu,
         ug,
         sg,
@@ -130,5 +117,5 @@ pub extern "C" fn hz_write(
         hashes,
         out,
     );
-    recorded_out(r, d)
+    recorded_out(r)
 }

@@ -1,7 +1,6 @@
 // Marks and Assign.
 use answers::changed::HzChanged;
 use answers::changed::changed_out;
-use answers::counts::HzCounts;
 use numbers::MarkNumber;
 use numbers::mark_in;
 use scope::Counts;
@@ -9,13 +8,13 @@ use scope::Solver;
 ghost use mathlib.Core.List.{[], _∷_};
 ghost use Rattle.scope.specs.Contract.{quiet};
 ghost use Rattle.scope.specs.Marks.{markOf, assignOf};
-ghost use Rattle.numbers.specs.Numbers.{forKnown, markAt};
-ghost use Rattle.answers.specs.Surface.{countsOf, plain, Gives};
+ghost use Rattle.numbers.specs.Numbers.{forKnown, markFor};
+ghost use Rattle.answers.specs.Surface.{plain, Gives};
 
 // Marks (1, 8): `markOf`.
 #[no_mangle]
 pub extern "C" fn hz_mark(
-    c: HzCounts,
+    c: Counts,
     gu: &[u32],
     ug: &[u32],
     sg: &[u32],
@@ -25,8 +24,8 @@ pub extern "C" fn hz_mark(
     mark: u32,
     solver: u32,
 ) -> HzChanged
-    ensures { λ r. ⌜ Gives (λ t room. forKnown (markAt mark) t (λ m. markOf t m solver)) (plain 0) (r .refusal ∷ []) (countsOf (r .counts))
-        (quiet (countsOf c) gu ug sg gs assignment records) ⌝ }
+    ensures { λ r. ⌜ Gives (λ t room. forKnown (markFor mark) t (λ m. markOf t m solver)) (plain 0) (r .refusal ∷ []) (r .counts)
+        (quiet c gu ug sg gs assignment records) ⌝ }
 {
     let MarkNumber::Known(m) = mark_in(mark) else {
         return HzChanged {
@@ -34,20 +33,14 @@ pub extern "C" fn hz_mark(
             counts: c,
         };
     };
-    let d = Counts {
-        capacity: c.capacity,
-        user: c.user,
-        global: c.global,
-        solver: c.solver,
-    };
-    let r = marks::mark(d, gu, ug, sg, gs, assignment, records, m, Solver(solver));
-    changed_out(r, d)
+    let r = marks::mark(c, gu, ug, sg, gs, assignment, records, m, Solver(solver));
+    changed_out(r, c)
 }
 
 // Assign (1, 8, 9): `assignOf`.
 #[no_mangle]
 pub extern "C" fn hz_assign(
-    c: HzCounts,
+    c: Counts,
     gu: &[u32],
     ug: &[u32],
     sg: &[u32],
@@ -56,15 +49,9 @@ pub extern "C" fn hz_assign(
     records: &[u32],
     lit: u32,
 ) -> HzChanged
-    ensures { λ r. ⌜ Gives (λ t room. assignOf t lit) (plain 0) (r .refusal ∷ []) (countsOf (r .counts))
-        (quiet (countsOf c) gu ug sg gs assignment records) ⌝ }
+    ensures { λ r. ⌜ Gives (λ t room. assignOf t lit) (plain 0) (r .refusal ∷ []) (r .counts)
+        (quiet c gu ug sg gs assignment records) ⌝ }
 {
-    let d = Counts {
-        capacity: c.capacity,
-        user: c.user,
-        global: c.global,
-        solver: c.solver,
-    };
-    let r = marks::assign_lit(d, gu, ug, sg, gs, assignment, records, lit);
-    changed_out(r, d)
+    let r = marks::assign_lit(c, gu, ug, sg, gs, assignment, records, lit);
+    changed_out(r, c)
 }

@@ -1,5 +1,4 @@
 // Model.
-use answers::counts::HzCounts;
 use answers::modelled::HzModelled;
 use answers::modelled::modelled_out;
 use scope::Counts;
@@ -9,12 +8,12 @@ ghost use lib.ListN.{length};
 ghost use Rattle.base.specs.Lent.{old, new, Fills};
 ghost use Rattle.scope.specs.Contract.{before, quiet};
 ghost use Rattle.scope.specs.Models.{modelOf};
-ghost use Rattle.answers.specs.Surface.{countsOf, plain, Gives};
+ghost use Rattle.answers.specs.Surface.{plain, Gives};
 
 // Model (1, 2): `modelOf`.
 #[no_mangle]
 pub extern "C" fn hz_model(
-    c: HzCounts,
+    c: Counts,
     gu: &[u32],
     ug: &[u32],
     sg: &[u32],
@@ -25,18 +24,12 @@ pub extern "C" fn hz_model(
     users: &mut [u32],
 ) -> HzModelled
     ensures { λ r. ⌜ Gives (λ t room. modelOf t (length (old globals)) (length (old users)))
-        (plain 2) (r .refusal ∷ r .globals ∷ r .users ∷ []) (countsOf c) (quiet (countsOf c) gu ug sg gs assignment records) ⌝ }
+        (plain 2) (r .refusal ∷ r .globals ∷ r .users ∷ []) c (quiet c gu ug sg gs assignment records) ⌝ }
     ensures globals { λ _. ⌜ Fills globals 0
-        (modelOf (before (countsOf c) gu ug sg gs assignment records) (length (old globals)) (length (old users)) .words) ⌝ }
+        (modelOf (before c gu ug sg gs assignment records) (length (old globals)) (length (old users)) .words) ⌝ }
     ensures users { λ _. ⌜ Fills users 0
-        (modelOf (before (countsOf c) gu ug sg gs assignment records) (length (old globals)) (length (old users)) .more) ⌝ }
+        (modelOf (before c gu ug sg gs assignment records) (length (old globals)) (length (old users)) .more) ⌝ }
 {
-    let d = Counts {
-        capacity: c.capacity,
-        user: c.user,
-        global: c.global,
-        solver: c.solver,
-    };
-    let r = model::model(d, gu, ug, sg, gs, assignment, records, globals, users);
-    modelled_out(r, d)
+    let r = model::model(c, gu, ug, sg, gs, assignment, records, globals, users);
+    modelled_out(r)
 }

@@ -1,5 +1,4 @@
 // Map and New user.
-use answers::counts::HzCounts;
 use answers::mapped::HzMapped;
 use answers::mapped::mapped_out;
 use answers::new_mapped::HzNewMapped;
@@ -9,12 +8,12 @@ use scope::User;
 ghost use mathlib.Core.List.{[], _∷_};
 ghost use Rattle.scope.specs.Contract.{lent};
 ghost use Rattle.scope.specs.Map.{mapOf, newUserOf};
-ghost use Rattle.answers.specs.Surface.{countsOf, plain, Gives};
+ghost use Rattle.answers.specs.Surface.{plain, Gives};
 
 // Map (1, 3, 4, 5, 2): `mapOf`.
 #[no_mangle]
 pub extern "C" fn hz_map(
-    c: HzCounts,
+    c: Counts,
     gu: &mut [u32],
     ug: &mut [u32],
     sg: &[u32],
@@ -25,17 +24,11 @@ pub extern "C" fn hz_map(
     sampling: bool,
     notes: &mut [u32],
 ) -> HzMapped
-    ensures { λ r. ⌜ Gives (λ t room. mapOf t user sampling room) (plain 2) (r .refusal ∷ r .global ∷ r .notes ∷ []) (countsOf (r .counts))
-        (lent (countsOf c) gu ug sg gs assignment records notes) ⌝ }
+    ensures { λ r. ⌜ Gives (λ t room. mapOf t user sampling room) (plain 2) (r .refusal ∷ r .global ∷ r .notes ∷ []) (r .counts)
+        (lent c gu ug sg gs assignment records notes) ⌝ }
 {
-    let d = Counts {
-        capacity: c.capacity,
-        user: c.user,
-        global: c.global,
-        solver: c.solver,
-    };
     let r = naming::global_from_user(
-        d,
+        c,
         gu,
         ug,
         sg,
@@ -46,13 +39,13 @@ pub extern "C" fn hz_map(
         sampling,
         notes,
     );
-    mapped_out(r, d)
+    mapped_out(r, c)
 }
 
 // New user (1, 5, 2): `newUserOf`.
 #[no_mangle]
 pub extern "C" fn hz_new_user(
-    c: HzCounts,
+    c: Counts,
     gu: &mut [u32],
     ug: &mut [u32],
     sg: &[u32],
@@ -61,15 +54,9 @@ pub extern "C" fn hz_new_user(
     records: &mut [u32],
     notes: &mut [u32],
 ) -> HzNewMapped
-    ensures { λ r. ⌜ Gives (λ t room. newUserOf t room) (plain 3) (r .refusal ∷ r .user ∷ r .global ∷ r .notes ∷ []) (countsOf (r .counts))
-        (lent (countsOf c) gu ug sg gs assignment records notes) ⌝ }
+    ensures { λ r. ⌜ Gives (λ t room. newUserOf t room) (plain 3) (r .refusal ∷ r .user ∷ r .global ∷ r .notes ∷ []) (r .counts)
+        (lent c gu ug sg gs assignment records notes) ⌝ }
 {
-    let d = Counts {
-        capacity: c.capacity,
-        user: c.user,
-        global: c.global,
-        solver: c.solver,
-    };
-    let r = naming::new_user_var(d, gu, ug, sg, gs, assignment, records, notes);
-    new_mapped_out(r, d)
+    let r = naming::new_user_var(c, gu, ug, sg, gs, assignment, records, notes);
+    new_mapped_out(r, c)
 }

@@ -1,6 +1,5 @@
 // Open, and Lookup.
 use answers::changed::HzChanged;
-use answers::counts::HzCounts;
 use answers::found::HzFound;
 use answers::found::global_out;
 use answers::found::solver_out;
@@ -15,7 +14,8 @@ ghost use mathlib.Core.List.{[], _∷_};
 ghost use Rattle.scope.specs.Contract.{quiet};
 ghost use Rattle.scope.specs.Open.{openCounts, openOf};
 ghost use Rattle.scope.specs.Lookup.{globalFromUserOf, userFromGlobalOf, solverFromGlobalOf, globalFromSolverOf, recordWordOf, assignmentWordOf};
-ghost use Rattle.answers.specs.Surface.{countsOf, flag, plain, optional, Gives};
+ghost use Rattle.scope.specs.Steps.{flag};
+ghost use Rattle.answers.specs.Surface.{plain, optional, Gives};
 
 // Open (10): `openOf`.
 #[no_mangle]
@@ -28,7 +28,7 @@ pub extern "C" fn hz_open(
     assignment: &mut [u32],
     records: &mut [u32],
 ) -> HzChanged
-    ensures { λ r. ⌜ Gives (λ t room. openOf t) (plain 0) (r .refusal ∷ []) (countsOf (r .counts))
+    ensures { λ r. ⌜ Gives (λ t room. openOf t) (plain 0) (r .refusal ∷ []) (r .counts)
         (quiet (openCounts capacity) gu ug sg gs assignment records) ⌝ }
 {
     let c = Counts {
@@ -44,7 +44,7 @@ pub extern "C" fn hz_open(
 // Lookup (1) from a user to its global: `globalFromUserOf`; the others likewise.
 #[no_mangle]
 pub extern "C" fn hz_global_from_user(
-    c: HzCounts,
+    c: Counts,
     gu: &[u32],
     ug: &[u32],
     sg: &[u32],
@@ -53,22 +53,16 @@ pub extern "C" fn hz_global_from_user(
     records: &[u32],
     user: u32,
 ) -> HzFound
-    ensures { λ r. ⌜ Gives (λ t room. globalFromUserOf t user) (optional 0) (r .refusal ∷ flag (r .found) ∷ r .value ∷ []) (countsOf c)
-        (quiet (countsOf c) gu ug sg gs assignment records) ⌝ }
+    ensures { λ r. ⌜ Gives (λ t room. globalFromUserOf t user) (optional 0) (r .refusal ∷ flag (r .found) ∷ r .value ∷ []) c
+        (quiet c gu ug sg gs assignment records) ⌝ }
 {
-    let d = Counts {
-        capacity: c.capacity,
-        user: c.user,
-        global: c.global,
-        solver: c.solver,
-    };
-    let r = var_map::get_global_from_user(d, gu, ug, sg, gs, assignment, records, User(user));
-    global_out(r, d)
+    let r = var_map::get_global_from_user(c, gu, ug, sg, gs, assignment, records, User(user));
+    global_out(r)
 }
 
 #[no_mangle]
 pub extern "C" fn hz_user_from_global(
-    c: HzCounts,
+    c: Counts,
     gu: &[u32],
     ug: &[u32],
     sg: &[u32],
@@ -77,22 +71,16 @@ pub extern "C" fn hz_user_from_global(
     records: &[u32],
     global: u32,
 ) -> HzFound
-    ensures { λ r. ⌜ Gives (λ t room. userFromGlobalOf t global) (optional 0) (r .refusal ∷ flag (r .found) ∷ r .value ∷ []) (countsOf c)
-        (quiet (countsOf c) gu ug sg gs assignment records) ⌝ }
+    ensures { λ r. ⌜ Gives (λ t room. userFromGlobalOf t global) (optional 0) (r .refusal ∷ flag (r .found) ∷ r .value ∷ []) c
+        (quiet c gu ug sg gs assignment records) ⌝ }
 {
-    let d = Counts {
-        capacity: c.capacity,
-        user: c.user,
-        global: c.global,
-        solver: c.solver,
-    };
-    let r = var_map::get_user_from_global(d, gu, ug, sg, gs, assignment, records, Global(global));
-    user_out(r, d)
+    let r = var_map::get_user_from_global(c, gu, ug, sg, gs, assignment, records, Global(global));
+    user_out(r)
 }
 
 #[no_mangle]
 pub extern "C" fn hz_solver_from_global(
-    c: HzCounts,
+    c: Counts,
     gu: &[u32],
     ug: &[u32],
     sg: &[u32],
@@ -101,22 +89,16 @@ pub extern "C" fn hz_solver_from_global(
     records: &[u32],
     global: u32,
 ) -> HzFound
-    ensures { λ r. ⌜ Gives (λ t room. solverFromGlobalOf t global) (optional 0) (r .refusal ∷ flag (r .found) ∷ r .value ∷ []) (countsOf c)
-        (quiet (countsOf c) gu ug sg gs assignment records) ⌝ }
+    ensures { λ r. ⌜ Gives (λ t room. solverFromGlobalOf t global) (optional 0) (r .refusal ∷ flag (r .found) ∷ r .value ∷ []) c
+        (quiet c gu ug sg gs assignment records) ⌝ }
 {
-    let d = Counts {
-        capacity: c.capacity,
-        user: c.user,
-        global: c.global,
-        solver: c.solver,
-    };
-    let r = var_map::get_solver_from_global(d, gu, ug, sg, gs, assignment, records, Global(global));
-    solver_out(r, d)
+    let r = var_map::get_solver_from_global(c, gu, ug, sg, gs, assignment, records, Global(global));
+    solver_out(r)
 }
 
 #[no_mangle]
 pub extern "C" fn hz_global_from_solver(
-    c: HzCounts,
+    c: Counts,
     gu: &[u32],
     ug: &[u32],
     sg: &[u32],
@@ -125,22 +107,16 @@ pub extern "C" fn hz_global_from_solver(
     records: &[u32],
     solver: u32,
 ) -> HzFound
-    ensures { λ r. ⌜ Gives (λ t room. globalFromSolverOf t solver) (optional 0) (r .refusal ∷ flag (r .found) ∷ r .value ∷ []) (countsOf c)
-        (quiet (countsOf c) gu ug sg gs assignment records) ⌝ }
+    ensures { λ r. ⌜ Gives (λ t room. globalFromSolverOf t solver) (optional 0) (r .refusal ∷ flag (r .found) ∷ r .value ∷ []) c
+        (quiet c gu ug sg gs assignment records) ⌝ }
 {
-    let d = Counts {
-        capacity: c.capacity,
-        user: c.user,
-        global: c.global,
-        solver: c.solver,
-    };
-    let r = var_map::get_global_from_solver(d, gu, ug, sg, gs, assignment, records, Solver(solver));
-    global_out(r, d)
+    let r = var_map::get_global_from_solver(c, gu, ug, sg, gs, assignment, records, Solver(solver));
+    global_out(r)
 }
 
 #[no_mangle]
 pub extern "C" fn hz_record(
-    c: HzCounts,
+    c: Counts,
     gu: &[u32],
     ug: &[u32],
     sg: &[u32],
@@ -149,22 +125,16 @@ pub extern "C" fn hz_record(
     records: &[u32],
     global: u32,
 ) -> HzFound
-    ensures { λ r. ⌜ Gives (λ t room. recordWordOf t global) (optional 0) (r .refusal ∷ flag (r .found) ∷ r .value ∷ []) (countsOf c)
-        (quiet (countsOf c) gu ug sg gs assignment records) ⌝ }
+    ensures { λ r. ⌜ Gives (λ t room. recordWordOf t global) (optional 0) (r .refusal ∷ flag (r .found) ∷ r .value ∷ []) c
+        (quiet c gu ug sg gs assignment records) ⌝ }
 {
-    let d = Counts {
-        capacity: c.capacity,
-        user: c.user,
-        global: c.global,
-        solver: c.solver,
-    };
-    let r = var_map::get_record(d, gu, ug, sg, gs, assignment, records, Global(global));
-    word_out(r, d)
+    let r = var_map::get_record(c, gu, ug, sg, gs, assignment, records, Global(global));
+    word_out(r)
 }
 
 #[no_mangle]
 pub extern "C" fn hz_assignment(
-    c: HzCounts,
+    c: Counts,
     gu: &[u32],
     ug: &[u32],
     sg: &[u32],
@@ -173,15 +143,9 @@ pub extern "C" fn hz_assignment(
     records: &[u32],
     solver: u32,
 ) -> HzFound
-    ensures { λ r. ⌜ Gives (λ t room. assignmentWordOf t solver) (optional 0) (r .refusal ∷ flag (r .found) ∷ r .value ∷ []) (countsOf c)
-        (quiet (countsOf c) gu ug sg gs assignment records) ⌝ }
+    ensures { λ r. ⌜ Gives (λ t room. assignmentWordOf t solver) (optional 0) (r .refusal ∷ flag (r .found) ∷ r .value ∷ []) c
+        (quiet c gu ug sg gs assignment records) ⌝ }
 {
-    let d = Counts {
-        capacity: c.capacity,
-        user: c.user,
-        global: c.global,
-        solver: c.solver,
-    };
-    let r = var_map::get_assignment(d, gu, ug, sg, gs, assignment, records, Solver(solver));
-    word_out(r, d)
+    let r = var_map::get_assignment(c, gu, ug, sg, gs, assignment, records, Solver(solver));
+    word_out(r)
 }

@@ -1,5 +1,4 @@
 // Pose.
-use answers::counts::HzCounts;
 use answers::posed::HzPosed;
 use answers::posed::posed_out;
 use scope::Counts;
@@ -8,12 +7,12 @@ ghost use lib.ListN.{length};
 ghost use Rattle.base.specs.Lent.{old, new, Fills};
 ghost use Rattle.scope.specs.Contract.{before, lent};
 ghost use Rattle.scope.specs.Pose.{poseOf};
-ghost use Rattle.answers.specs.Surface.{countsOf, plain, Gives};
+ghost use Rattle.answers.specs.Surface.{plain, Gives};
 
 // Pose (1, 3, 4, 5, 2): `poseOf`.
 #[no_mangle]
 pub extern "C" fn hz_pose(
-    c: HzCounts,
+    c: Counts,
     gu: &mut [u32],
     ug: &mut [u32],
     sg: &mut [u32],
@@ -26,19 +25,13 @@ pub extern "C" fn hz_pose(
     notes: &mut [u32],
 ) -> HzPosed
     ensures { λ r. ⌜ Gives (λ t room. poseOf t (old lits) sampling (length (old out)) room) (plain 2)
-        (r .refusal ∷ r .filled ∷ r .notes ∷ []) (countsOf (r .counts))
-        (lent (countsOf c) gu ug sg gs assignment records notes) ⌝ }
+        (r .refusal ∷ r .filled ∷ r .notes ∷ []) (r .counts)
+        (lent c gu ug sg gs assignment records notes) ⌝ }
     ensures out { λ _. ⌜ Fills out 0
-        (poseOf (before (countsOf c) gu ug sg gs assignment records) (old lits) sampling (length (old out)) (length (old notes)) .words) ⌝ }
+        (poseOf (before c gu ug sg gs assignment records) (old lits) sampling (length (old out)) (length (old notes)) .words) ⌝ }
 {
-    let d = Counts {
-        capacity: c.capacity,
-        user: c.user,
-        global: c.global,
-        solver: c.solver,
-    };
     let r = posing::solver_from_user_lits(
-        d,
+        c,
         gu,
         ug,
         sg,
@@ -50,5 +43,5 @@ pub extern "C" fn hz_pose(
         out,
         notes,
     );
-    posed_out(r, d)
+    posed_out(r, c)
 }

@@ -1,5 +1,4 @@
 // Remove and Sweep.
-use answers::counts::HzCounts;
 use answers::noted::HzNoted;
 use answers::noted::removed_out;
 use scope::Counts;
@@ -7,12 +6,12 @@ use scope::Solver;
 ghost use mathlib.Core.List.{[], _∷_};
 ghost use Rattle.scope.specs.Contract.{lent};
 ghost use Rattle.scope.specs.Remove.{removeOf, sweepOf};
-ghost use Rattle.answers.specs.Surface.{countsOf, plain, Gives};
+ghost use Rattle.answers.specs.Surface.{plain, Gives};
 
 // Remove (1, 8, 2): `removeOf`.
 #[no_mangle]
 pub extern "C" fn hz_remove(
-    c: HzCounts,
+    c: Counts,
     gu: &[u32],
     ug: &[u32],
     sg: &mut [u32],
@@ -22,17 +21,11 @@ pub extern "C" fn hz_remove(
     solver: u32,
     notes: &mut [u32],
 ) -> HzNoted
-    ensures { λ r. ⌜ Gives (λ t room. removeOf t solver room) (plain 1) (r .refusal ∷ r .notes ∷ []) (countsOf (r .counts))
-        (lent (countsOf c) gu ug sg gs assignment records notes) ⌝ }
+    ensures { λ r. ⌜ Gives (λ t room. removeOf t solver room) (plain 1) (r .refusal ∷ r .notes ∷ []) (r .counts)
+        (lent c gu ug sg gs assignment records notes) ⌝ }
 {
-    let d = Counts {
-        capacity: c.capacity,
-        user: c.user,
-        global: c.global,
-        solver: c.solver,
-    };
     let r = removal::remove_solver_var(
-        d,
+        c,
         gu,
         ug,
         sg,
@@ -42,13 +35,13 @@ pub extern "C" fn hz_remove(
         Solver(solver),
         notes,
     );
-    removed_out(r, d)
+    removed_out(r, c)
 }
 
 // Sweep (1, 2): `sweepOf`.
 #[no_mangle]
 pub extern "C" fn hz_sweep(
-    c: HzCounts,
+    c: Counts,
     gu: &[u32],
     ug: &[u32],
     sg: &mut [u32],
@@ -57,15 +50,9 @@ pub extern "C" fn hz_sweep(
     records: &mut [u32],
     notes: &mut [u32],
 ) -> HzNoted
-    ensures { λ r. ⌜ Gives (λ t room. sweepOf t room) (plain 1) (r .refusal ∷ r .notes ∷ []) (countsOf (r .counts))
-        (lent (countsOf c) gu ug sg gs assignment records notes) ⌝ }
+    ensures { λ r. ⌜ Gives (λ t room. sweepOf t room) (plain 1) (r .refusal ∷ r .notes ∷ []) (r .counts)
+        (lent c gu ug sg gs assignment records notes) ⌝ }
 {
-    let d = Counts {
-        capacity: c.capacity,
-        user: c.user,
-        global: c.global,
-        solver: c.solver,
-    };
-    let r = removal::sweep(d, gu, ug, sg, gs, assignment, records, notes);
-    removed_out(r, d)
+    let r = removal::sweep(c, gu, ug, sg, gs, assignment, records, notes);
+    removed_out(r, c)
 }

@@ -1,5 +1,4 @@
 // Set mode and Observe.
-use answers::counts::HzCounts;
 use answers::mode_set::HzModeSet;
 use answers::mode_set::mode_set_out;
 use answers::observed::observed_out;
@@ -13,13 +12,14 @@ ghost use lib.ListN.{length};
 ghost use Rattle.base.specs.Lent.{old, new, Fills};
 ghost use Rattle.scope.specs.Contract.{before, lent};
 ghost use Rattle.scope.specs.Modes.{setModeOf, observeOf};
-ghost use Rattle.numbers.specs.Numbers.{forKnown, modeAt};
-ghost use Rattle.answers.specs.Surface.{countsOf, flag, plain, optional, Gives};
+ghost use Rattle.numbers.specs.Numbers.{forKnown, modeFor};
+ghost use Rattle.scope.specs.Steps.{flag};
+ghost use Rattle.answers.specs.Surface.{plain, optional, Gives};
 
 // Set mode (1, 3, 6, 7, 2): `setModeOf`.
 #[no_mangle]
 pub extern "C" fn hz_set_mode(
-    c: HzCounts,
+    c: Counts,
     gu: &mut [u32],
     ug: &mut [u32],
     sg: &[u32],
@@ -30,9 +30,9 @@ pub extern "C" fn hz_set_mode(
     mode: u32,
     notes: &mut [u32],
 ) -> HzModeSet
-    ensures { λ r. ⌜ Gives (λ t room. forKnown (modeAt mode) t (λ m. setModeOf t global m room)) (optional 1)
-        (r .refusal ∷ flag (r .granted) ∷ r .user ∷ r .notes ∷ []) (countsOf (r .counts))
-        (lent (countsOf c) gu ug sg gs assignment records notes) ⌝ }
+    ensures { λ r. ⌜ Gives (λ t room. forKnown (modeFor mode) t (λ m. setModeOf t global m room)) (optional 1)
+        (r .refusal ∷ flag (r .granted) ∷ r .user ∷ r .notes ∷ []) (r .counts)
+        (lent c gu ug sg gs assignment records notes) ⌝ }
 {
     let ModeNumber::Known(m) = mode_in(mode) else {
         return HzModeSet {
@@ -43,14 +43,8 @@ pub extern "C" fn hz_set_mode(
             notes: 0,
         };
     };
-    let d = Counts {
-        capacity: c.capacity,
-        user: c.user,
-        global: c.global,
-        solver: c.solver,
-    };
     let r = modes::set_sampling_mode(
-        d,
+        c,
         gu,
         ug,
         sg,
@@ -61,13 +55,13 @@ pub extern "C" fn hz_set_mode(
         m,
         notes,
     );
-    mode_set_out(r, d)
+    mode_set_out(r, c)
 }
 
 // Observe (1, 7, 2): `observeOf`.
 #[no_mangle]
 pub extern "C" fn hz_observe(
-    c: HzCounts,
+    c: Counts,
     gu: &mut [u32],
     ug: &mut [u32],
     sg: &[u32],
@@ -77,17 +71,11 @@ pub extern "C" fn hz_observe(
     users: &mut [u32],
     notes: &mut [u32],
 ) -> HzPosed
-    ensures { λ r. ⌜ Gives (λ t room. observeOf t (length (old users)) room) (plain 2) (r .refusal ∷ r .filled ∷ r .notes ∷ []) (countsOf (r .counts))
-        (lent (countsOf c) gu ug sg gs assignment records notes) ⌝ }
+    ensures { λ r. ⌜ Gives (λ t room. observeOf t (length (old users)) room) (plain 2) (r .refusal ∷ r .filled ∷ r .notes ∷ []) (r .counts)
+        (lent c gu ug sg gs assignment records notes) ⌝ }
     ensures users { λ _. ⌜ Fills users 0
-        (observeOf (before (countsOf c) gu ug sg gs assignment records) (length (old users)) (length (old notes)) .words) ⌝ }
+        (observeOf (before c gu ug sg gs assignment records) (length (old users)) (length (old notes)) .words) ⌝ }
 {
-    let d = Counts {
-        capacity: c.capacity,
-        user: c.user,
-        global: c.global,
-        solver: c.solver,
-    };
-    let r = modes::observe_internal_vars(d, gu, ug, sg, gs, assignment, records, users, notes);
-    observed_out(r, d)
+    let r = modes::observe_internal_vars(c, gu, ug, sg, gs, assignment, records, users, notes);
+    observed_out(r, c)
 }

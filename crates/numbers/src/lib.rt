@@ -6,8 +6,13 @@ use scope::Global;
 use scope::Mark;
 use scope::ProofStep;
 use scope::SamplingMode;
+use scope::Solver;
+use scope::SolverName;
+use scope::User;
+use scope::UserName;
 ghost use mathlib.Core.Path.{_≡_};
-ghost use Rattle.numbers.specs.Numbers.{asMode, asMark, asFormat, asKind, asCause, asStep, modeAt, markAt, formatAt, kindAt, causeAt, stepAt};
+ghost use Rattle.numbers.specs.Meant.{meantMode, meantMark, meantFormat, meantKind, meantCause, meantStep};
+ghost use Rattle.numbers.specs.Numbers.{modeFor, markFor, formatFor, kindFor, causeFor, solverNameFor, userNameFor, stepFor};
 
 pub enum ModeNumber {
     Known(SamplingMode),
@@ -39,7 +44,7 @@ pub enum StepNumber {
     Unknown,
 }
 
-// A step's kind, and what it carries of its own.
+// A step's kind, and what it carries of its own: in a naming step `b` is index + 1, or 0 where the name is withdrawn.
 #[repr(C)]
 pub struct HzStep {
     pub kind: u32,
@@ -48,7 +53,7 @@ pub struct HzStep {
 }
 
 pub fn mode_in(n: u32) -> ModeNumber
-    ensures { λ r. ⌜ asMode r ≡ modeAt n ⌝ }
+    ensures { λ r. ⌜ meantMode r ≡ modeFor n ⌝ }
 {
     match n {
         0 => ModeNumber::Known(SamplingMode::Sample),
@@ -59,7 +64,7 @@ pub fn mode_in(n: u32) -> ModeNumber
 }
 
 pub fn mark_in(n: u32) -> MarkNumber
-    ensures { λ r. ⌜ asMark r ≡ markAt n ⌝ }
+    ensures { λ r. ⌜ meantMark r ≡ markFor n ⌝ }
 {
     match n {
         0 => MarkNumber::Known(Mark::Used),
@@ -70,7 +75,7 @@ pub fn mark_in(n: u32) -> MarkNumber
 }
 
 pub fn format_in(n: u32) -> FormatNumber
-    ensures { λ r. ⌜ asFormat r ≡ formatAt n ⌝ }
+    ensures { λ r. ⌜ meantFormat r ≡ formatFor n ⌝ }
 {
     match n {
         0 => FormatNumber::Known(Format::Text),
@@ -80,7 +85,7 @@ pub fn format_in(n: u32) -> FormatNumber
 }
 
 pub fn kind_in(n: u32) -> KindNumber
-    ensures { λ r. ⌜ asKind r ≡ kindAt n ⌝ }
+    ensures { λ r. ⌜ meantKind r ≡ kindFor n ⌝ }
 {
     match n {
         0 => KindNumber::Known(Kind::Add),
@@ -90,7 +95,7 @@ pub fn kind_in(n: u32) -> KindNumber
 }
 
 pub fn cause_in(n: u32) -> CauseNumber
-    ensures { λ r. ⌜ asCause r ≡ causeAt n ⌝ }
+    ensures { λ r. ⌜ meantCause r ≡ causeFor n ⌝ }
 {
     match n {
         0 => CauseNumber::Known(DeleteClauseProof::Redundant),
@@ -100,8 +105,26 @@ pub fn cause_in(n: u32) -> CauseNumber
     }
 }
 
+fn solver_name_in(n: u32) -> SolverName
+    ensures { λ r. ⌜ r ≡ solverNameFor n ⌝ }
+{
+    if n == 0 {
+        return SolverName::Withdrawn;
+    }
+    SolverName::Granted(Solver(n - 1))
+}
+
+fn user_name_in(n: u32) -> UserName
+    ensures { λ r. ⌜ r ≡ userNameFor n ⌝ }
+{
+    if n == 0 {
+        return UserName::Withdrawn;
+    }
+    UserName::Granted(User(n - 1))
+}
+
 fn delete_in(a: u32) -> StepNumber
-    ensures { λ r. ⌜ asStep r ≡ stepAt 3 a 0 ⌝ }
+    ensures { λ r. ⌜ meantStep r ≡ stepFor 3 a 0 ⌝ }
 {
     let CauseNumber::Known(cause) = cause_in(a) else {
         return StepNumber::Unknown;
@@ -110,7 +133,7 @@ fn delete_in(a: u32) -> StepNumber
 }
 
 pub fn step_in(step: HzStep) -> StepNumber
-    ensures { λ r. ⌜ asStep r ≡ stepAt (step .kind) (step .a) (step .b) ⌝ }
+    ensures { λ r. ⌜ meantStep r ≡ stepFor (step .kind) (step .a) (step .b) ⌝ }
 {
     let a = step.a;
     let b = step.b;
@@ -123,8 +146,8 @@ pub fn step_in(step: HzStep) -> StepNumber
         4 => StepNumber::Known(ProofStep::Model),
         5 => StepNumber::Known(ProofStep::Assumptions),
         6 => StepNumber::Known(ProofStep::FailedAssumptions),
-        7 => StepNumber::Known(ProofStep::SolverVarName(Global(a), b)),
-        8 => StepNumber::Known(ProofStep::UserVarName(Global(a), b)),
+        7 => StepNumber::Known(ProofStep::SolverVarName(Global(a), solver_name_in(b))),
+        8 => StepNumber::Known(ProofStep::UserVarName(Global(a), user_name_in(b))),
         9 => StepNumber::Known(ProofStep::DeleteVar(Global(a))),
         10 => StepNumber::Known(ProofStep::ChangeSamplingMode(Global(a), b != 0)),
         11 => StepNumber::Known(ProofStep::ChangeHashBits(a)),

@@ -3,7 +3,6 @@ use crate::answer::Answer;
 use crate::answer::filled;
 use crate::answer::none;
 use crate::answer::three;
-use crate::counts::counts_in;
 use crate::parts::BLANK32;
 use crate::parts::NOTES;
 use crate::parts::arg;
@@ -11,7 +10,6 @@ use crate::parts::fill32;
 use crate::parts::room;
 use crate::parts::wide;
 use answers::changed::HzChanged;
-use answers::counts::HzCounts;
 use answers::granted::HzGranted;
 use answers::noted::HzNoted;
 use capi::grants::hz_grant;
@@ -19,24 +17,25 @@ use capi::marking::hz_assign;
 use capi::marking::hz_mark;
 use capi::removing::hz_remove;
 use capi::removing::hz_sweep;
+use scope::Counts;
 
 fn granted(r: HzGranted) -> Answer {
-    let counts = counts_in(r.counts);
+    let counts = r.counts;
     three(counts, r.refusal, wide(r.solver), wide(r.notes), 0, 0)
 }
 
 fn noted(r: HzNoted) -> Answer {
-    let counts = counts_in(r.counts);
+    let counts = r.counts;
     three(counts, r.refusal, wide(r.notes), 0, 0, 0)
 }
 
 fn changed(r: HzChanged) -> Answer {
-    let counts = counts_in(r.counts);
+    let counts = r.counts;
     none(counts, r.refusal, 0)
 }
 
 fn held(
-    c: HzCounts,
+    c: Counts,
     gu: &[u32],
     ug: &[u32],
     sg: &mut [u32],
@@ -59,7 +58,7 @@ fn held(
 
 // The marks and Assign are lent no words for notes.
 pub fn hold(
-    c: HzCounts,
+    c: Counts,
     gu: &[u32],
     ug: &[u32],
     sg: &mut [u32],

@@ -3,7 +3,6 @@
 mod answer;
 mod book;
 mod codec;
-mod counts;
 mod faults;
 mod holds;
 mod judge;
@@ -17,8 +16,6 @@ mod shape;
 mod whole;
 
 use answer::Answer;
-use answers::counts::HzCounts;
-use answers::counts::counts_out;
 use book::Lengths;
 use capi::opening::hz_open;
 use faults::CUT;
@@ -63,7 +60,7 @@ fn group_of(call: u32) -> Group {
 
 // The call that takes a table, on lists of the lengths that are lent.
 fn made(
-    c: HzCounts,
+    c: Counts,
     gu: &mut [u32],
     ug: &mut [u32],
     sg: &mut [u32],
@@ -91,7 +88,7 @@ fn made(
 
 // The lists are taken from memory, lent at their lengths, and put back.
 fn on_table(
-    c: HzCounts,
+    c: Counts,
     n: Lengths,
     memory: &mut [u32; 24600],
     line: &[u64; 16524],
@@ -139,7 +136,7 @@ fn answer_of(
     match call {
         16 => codec::read(c, line),
         17 => codec::first_step(c, line),
-        _ => on_table(counts_out(c), n, memory, line, call),
+        _ => on_table(c, n, memory, line, call),
     }
 }
 

@@ -4,7 +4,6 @@ use crate::answer::filled;
 use crate::answer::first;
 use crate::answer::one;
 use crate::answer::three;
-use crate::counts::counts_in;
 use crate::parts::BLANK32;
 use crate::parts::NOTES;
 use crate::parts::WORDS;
@@ -12,7 +11,6 @@ use crate::parts::arg;
 use crate::parts::fill32;
 use crate::parts::room;
 use crate::parts::wide;
-use answers::counts::HzCounts;
 use answers::mapped::HzMapped;
 use answers::mode_set::HzModeSet;
 use answers::new_mapped::HzNewMapped;
@@ -21,14 +19,15 @@ use capi::names::hz_map;
 use capi::names::hz_new_user;
 use capi::showing::hz_observe;
 use capi::showing::hz_set_mode;
+use scope::Counts;
 
 fn mapped(r: HzMapped) -> Answer {
-    let counts = counts_in(r.counts);
+    let counts = r.counts;
     three(counts, r.refusal, wide(r.global), wide(r.notes), 0, 0)
 }
 
 fn new_mapped(r: HzNewMapped) -> Answer {
-    let counts = counts_in(r.counts);
+    let counts = r.counts;
     three(
         counts,
         r.refusal,
@@ -40,7 +39,7 @@ fn new_mapped(r: HzNewMapped) -> Answer {
 }
 
 fn mode_set(r: HzModeSet) -> Answer {
-    let counts = counts_in(r.counts);
+    let counts = r.counts;
     three(
         counts,
         r.refusal,
@@ -60,14 +59,14 @@ pub fn posed(
     n: usize,
     line: &[u64; 16524],
 ) -> Answer {
-    let counts = counts_in(r.counts);
+    let counts = r.counts;
     let fill = fill32(out, k, line, WORDS);
     let both = first(fill, fill32(notes, n, line, NOTES));
     three(counts, r.refusal, wide(r.filled), wide(r.notes), 0, both)
 }
 
 fn named(
-    c: HzCounts,
+    c: Counts,
     gu: &mut [u32],
     ug: &mut [u32],
     sg: &[u32],
@@ -88,7 +87,7 @@ fn named(
 
 // Map, New user or Set mode.
 pub fn name(
-    c: HzCounts,
+    c: Counts,
     gu: &mut [u32],
     ug: &mut [u32],
     sg: &[u32],
@@ -108,7 +107,7 @@ pub fn name(
 }
 
 pub fn observe(
-    c: HzCounts,
+    c: Counts,
     gu: &mut [u32],
     ug: &mut [u32],
     sg: &[u32],

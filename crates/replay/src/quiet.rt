@@ -3,7 +3,6 @@ use crate::answer::Answer;
 use crate::answer::first;
 use crate::answer::one;
 use crate::answer::three;
-use crate::counts::counts_in;
 use crate::parts::BLANK8;
 use crate::parts::BLANK32;
 use crate::parts::BLANK64;
@@ -21,7 +20,6 @@ use crate::parts::fill64;
 use crate::parts::given;
 use crate::parts::room;
 use crate::parts::wide;
-use answers::counts::HzCounts;
 use answers::found::HzFound;
 use answers::modelled::HzModelled;
 use answers::renamed::HzRenamed;
@@ -39,14 +37,13 @@ use capi::opening::hz_record;
 use capi::opening::hz_solver_from_global;
 use capi::opening::hz_user_from_global;
 use numbers::HzStep;
-ghost use Prim.Native.Nat.{_≤_};
+use scope::Counts;
 
-fn told(c: HzCounts, r: HzFound) -> Answer {
-    three(counts_in(c), r.refusal, one(r.found), wide(r.value), 0, 0)
+fn told(c: Counts, r: HzFound) -> Answer {
+    three(c, r.refusal, one(r.found), wide(r.value), 0, 0)
 }
 
-fn simplified(c: HzCounts, r: HzSimplified, fill: u32) -> Answer {
-    let counts = counts_in(c);
+fn simplified(counts: Counts, r: HzSimplified, fill: u32) -> Answer {
     Answer {
         refusal: r.refusal,
         counts,
@@ -59,8 +56,7 @@ fn simplified(c: HzCounts, r: HzSimplified, fill: u32) -> Answer {
     }
 }
 
-fn renamed(c: HzCounts, r: HzRenamed, fill: u32) -> Answer {
-    let counts = counts_in(c);
+fn renamed(counts: Counts, r: HzRenamed, fill: u32) -> Answer {
     let s = r.step;
     Answer {
         refusal: r.refusal,
@@ -74,23 +70,16 @@ fn renamed(c: HzCounts, r: HzRenamed, fill: u32) -> Answer {
     }
 }
 
-fn written(c: HzCounts, r: HzWritten, fill: u32) -> Answer {
-    three(counts_in(c), r.refusal, r.bytes as u64, 0, 0, fill)
+fn written(c: Counts, r: HzWritten, fill: u32) -> Answer {
+    three(c, r.refusal, r.bytes as u64, 0, 0, fill)
 }
 
-fn modelled(c: HzCounts, r: HzModelled, fill: u32) -> Answer {
-    three(
-        counts_in(c),
-        r.refusal,
-        wide(r.globals),
-        wide(r.users),
-        0,
-        fill,
-    )
+fn modelled(c: Counts, r: HzModelled, fill: u32) -> Answer {
+    three(c, r.refusal, wide(r.globals), wide(r.users), 0, fill)
 }
 
 fn found(
-    c: HzCounts,
+    c: Counts,
     gu: &[u32],
     ug: &[u32],
     sg: &[u32],
@@ -111,22 +100,18 @@ fn found(
 }
 
 fn simplify(
-    c: HzCounts,
+    c: Counts,
     gu: &[u32],
     ug: &[u32],
     sg: &[u32],
     gs: &[u32],
     assignment: &[u32],
     records: &[u32],
-    l: usize,
-    k: usize,
-    n: usize,
     line: &[u64; 16524],
-) -> Answer
-    requires { ⌜ l ≤ 8200 ⌝ }
-    requires { ⌜ k ≤ 8200 ⌝ }
-    requires { ⌜ n ≤ 8200 ⌝ }
-{
+) -> Answer {
+    let l = given(line, LITS);
+    let k = room(line, 0);
+    let n = room(line, 1);
     let format = arg(line, 0);
     let redundant = arg(line, 1) != 0;
     let lits = copy32(line, LITS);
@@ -151,7 +136,7 @@ fn simplify(
 }
 
 fn rename(
-    c: HzCounts,
+    c: Counts,
     gu: &[u32],
     ug: &[u32],
     sg: &[u32],
@@ -159,17 +144,12 @@ fn rename(
     assignment: &[u32],
     records: &[u32],
     step: HzStep,
-    l: usize,
-    h: usize,
-    k: usize,
-    n: usize,
     line: &[u64; 16524],
-) -> Answer
-    requires { ⌜ l ≤ 8200 ⌝ }
-    requires { ⌜ h ≤ 8200 ⌝ }
-    requires { ⌜ k ≤ 8200 ⌝ }
-    requires { ⌜ n ≤ 8200 ⌝ }
-{
+) -> Answer {
+    let l = given(line, LITS);
+    let h = given(line, HASHES);
+    let k = room(line, 0);
+    let n = room(line, 1);
     let solvervars = arg(line, 3) != 0;
     let lits = copy32(line, LITS);
     let hashes = copy64(line, HASHES);
@@ -195,7 +175,7 @@ fn rename(
 }
 
 fn write(
-    c: HzCounts,
+    c: Counts,
     gu: &[u32],
     ug: &[u32],
     sg: &[u32],
@@ -203,15 +183,11 @@ fn write(
     assignment: &[u32],
     records: &[u32],
     step: HzStep,
-    l: usize,
-    h: usize,
-    n: usize,
     line: &[u64; 16524],
-) -> Answer
-    requires { ⌜ l ≤ 8200 ⌝ }
-    requires { ⌜ h ≤ 8200 ⌝ }
-    requires { ⌜ n ≤ 8200 ⌝ }
-{
+) -> Answer {
+    let l = given(line, LITS);
+    let h = given(line, HASHES);
+    let n = room(line, 0);
     let format = arg(line, 0);
     let solvervars = arg(line, 4) != 0;
     let lits = copy32(line, LITS);
@@ -236,20 +212,17 @@ fn write(
 }
 
 fn model(
-    c: HzCounts,
+    c: Counts,
     gu: &[u32],
     ug: &[u32],
     sg: &[u32],
     gs: &[u32],
     assignment: &[u32],
     records: &[u32],
-    k: usize,
-    n: usize,
     line: &[u64; 16524],
-) -> Answer
-    requires { ⌜ k ≤ 8200 ⌝ }
-    requires { ⌜ n ≤ 8200 ⌝ }
-{
+) -> Answer {
+    let k = room(line, 0);
+    let n = room(line, 1);
     let mut globals = [BLANK32; 8200];
     let mut users = [BLANK32; 8200];
     let r = hz_model(
@@ -267,8 +240,8 @@ fn model(
     modelled(c, r, first(fill, fill32(&users, n, line, MORE)))
 }
 
-fn sound(c: HzCounts, is: bool) -> Answer {
-    three(counts_in(c), 0, one(is), 0, 0, 0)
+fn sound(c: Counts, is: bool) -> Answer {
+    three(c, 0, one(is), 0, 0, 0)
 }
 
 fn step(kind: u32, a: u32, b: u32) -> HzStep {
@@ -277,7 +250,7 @@ fn step(kind: u32, a: u32, b: u32) -> HzStep {
 
 // Simplify, Rename or Write.
 fn proof_line(
-    c: HzCounts,
+    c: Counts,
     gu: &[u32],
     ug: &[u32],
     sg: &[u32],
@@ -287,27 +260,23 @@ fn proof_line(
     line: &[u64; 16524],
     call: u32,
 ) -> Answer {
-    let l = given(line, LITS);
-    let h = given(line, HASHES);
-    let k = room(line, 0);
-    let n = room(line, 1);
     let x = arg(line, 1);
     let y = arg(line, 2);
     match call {
-        11 => simplify(c, gu, ug, sg, gs, assignment, records, l, k, n, line),
+        11 => simplify(c, gu, ug, sg, gs, assignment, records, line),
         12 => {
             let s = step(arg(line, 0), x, y);
-            rename(c, gu, ug, sg, gs, assignment, records, s, l, h, k, n, line)
+            rename(c, gu, ug, sg, gs, assignment, records, s, line)
         }
         _ => {
             let s = step(x, y, arg(line, 3));
-            write(c, gu, ug, sg, gs, assignment, records, s, l, h, k, line)
+            write(c, gu, ug, sg, gs, assignment, records, s, line)
         }
     }
 }
 
 pub fn ask(
-    c: HzCounts,
+    c: Counts,
     gu: &[u32],
     ug: &[u32],
     sg: &[u32],
@@ -319,11 +288,9 @@ pub fn ask(
 ) -> Answer {
     let x = arg(line, 0);
     let y = arg(line, 1);
-    let k = room(line, 0);
-    let n = room(line, 1);
     match call {
         0 => told(c, found(c, gu, ug, sg, gs, assignment, records, x, y)),
-        14 => model(c, gu, ug, sg, gs, assignment, records, k, n, line),
+        14 => model(c, gu, ug, sg, gs, assignment, records, line),
         18 => sound(c, hz_is_sound(c, gu, ug, sg, gs, assignment, records)),
         _ => proof_line(c, gu, ug, sg, gs, assignment, records, line, call),
     }

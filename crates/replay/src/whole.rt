@@ -1,7 +1,6 @@
 // Open and Pose, which may change all six lists.
 use crate::answer::Answer;
 use crate::answer::none;
-use crate::counts::counts_in;
 use crate::names::posed;
 use crate::parts::BLANK32;
 use crate::parts::COUNTS;
@@ -11,25 +10,24 @@ use crate::parts::copy32;
 use crate::parts::given;
 use crate::parts::room;
 use answers::changed::HzChanged;
-use answers::counts::HzCounts;
 use capi::poses::hz_pose;
+use scope::Counts;
 
 // The counts that a refused Open answers are the capacity and no watermarks; the table's counts stay.
-pub fn opened(r: HzChanged, c: HzCounts, capacity: u32) -> Answer {
-    let counts = counts_in(r.counts);
-    let kept = counts_in(c);
+pub fn opened(r: HzChanged, c: Counts, capacity: u32) -> Answer {
+    let counts = r.counts;
     if r.refusal == 0 {
         return none(counts, 0, 0);
     }
     let marks = (counts.user == 0) & (counts.global == 0) & (counts.solver == 0);
     if marks & (counts.capacity == capacity) {
-        return none(kept, r.refusal, 0);
+        return none(c, r.refusal, 0);
     }
-    none(kept, r.refusal, COUNTS)
+    none(c, r.refusal, COUNTS)
 }
 
 pub fn pose(
-    c: HzCounts,
+    c: Counts,
     gu: &mut [u32],
     ug: &mut [u32],
     sg: &mut [u32],

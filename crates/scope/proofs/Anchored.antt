@@ -212,7 +212,7 @@ unfolding allBelow least count anyOf keepOf word isShown giveUser takeUser giveS
 renames-hold =
     refl and refl and refl and refl and refl and refl and refl and refl and refl and refl and refl and refl and refl and refl and refl and refl and
     refl and refl and refl and refl and refl and refl and refl and refl and refl and refl and refl and refl and refl and refl and refl and refl and
-    refl and tt
+    refl and refl and refl and tt
 
 written-hold : AnchorsAgree written
 unfolding allBelow least count anyOf keepOf word isShown giveUser takeUser giveSolver takeSolver putRecord putValue dropGlobal soundb sizesb marksb

@@ -21,3 +21,4 @@ pub mod NoteWords
 pub mod RecordLaws
 pub mod Works
 pub mod WorksLists
+pub mod WordLaws

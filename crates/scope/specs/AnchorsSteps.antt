@@ -6,6 +6,10 @@ use lib.ListN.{replicate}
 use Rattle.drat.specs.declared.Format.the-variants.{Text, Binary}
 use Rattle.scope.specs.declared.Global.{Global}
 use Rattle.scope.specs.declared.DeleteClauseProof.the-variants.{Redundant, Satisfied, Simplified}
+use Rattle.scope.specs.declared.SolverName.{SolverName}
+use Rattle.scope.specs.declared.SolverName.the-variants as S
+use Rattle.scope.specs.declared.UserName.{UserName}
+use Rattle.scope.specs.declared.UserName.the-variants as U
 use Rattle.scope.specs.declared.ProofStep.the-variants.{AddClause, AtClause, UnitClauses, DeleteClause, Model, Assumptions, FailedAssumptions}
 use Rattle.scope.specs.declared.ProofStep.the-variants.{SolverVarName, UserVarName, DeleteVar, ChangeSamplingMode, ChangeHashBits, End}
 use Rattle.scope.specs.Table.{Table}
@@ -22,6 +26,12 @@ held4 = tab 4 0 4 4 (w4 0 0 0 0) (w4 0 0 0 0) (w4 3 4 2 1) (w4 4 3 1 2) (w4 0 1 
 
 abbrev pub the : ℕ → Global
 the g = record { 0 = g }
+
+abbrev pub theSolver : ℕ → SolverName
+theSolver s = S.Granted (record { 0 = s })
+
+abbrev pub theUser : ℕ → UserName
+theUser u = U.Granted (record { 0 = u })
 
 -- ---- Simplify: 1, 3, 8, 12, 2. 0 kept, 1 dropped, 2 shortened, 3 binary; literals left; the redundant flag; bytes.
 
@@ -70,7 +80,7 @@ abbrev pub kinds : List Anchor
 kinds =
     words (kindOf AddClause ∷ kindOf (AtClause true) ∷ kindOf UnitClauses ∷ kindOf (DeleteClause Satisfied) ∷ []) is words (w4 0 1 2 3)
     ∷ words (kindOf Model ∷ kindOf Assumptions ∷ kindOf FailedAssumptions ∷ []) is words (w3 4 5 6)
-    ∷ words (kindOf (SolverVarName (the 2) 3) ∷ kindOf (UserVarName (the 2) 3) ∷ kindOf (DeleteVar (the 2)) ∷ []) is words (w3 7 8 9)
+    ∷ words (kindOf (SolverVarName (the 2) (theSolver 3)) ∷ kindOf (UserVarName (the 2) (theUser 3)) ∷ kindOf (DeleteVar (the 2)) ∷ []) is words (w3 7 8 9)
     ∷ words (kindOf (ChangeSamplingMode (the 2) true) ∷ kindOf (ChangeHashBits 3) ∷ kindOf End ∷ []) is words (w3 10 11 12)
     ∷ []
 
@@ -113,8 +123,10 @@ renames =
     ∷ does (renameOf held4 Assumptions true (w2 1 6) (w1 70) 2 0) is writes (w3 2 0 5) held4 (w2 7 2) [] []
     ∷ does (renameOf held4 FailedAssumptions true (w2 1 6) (w3 70 71 72) 2 3) is writes (w3 2 3 6) held4 (w2 7 2) (w3 70 71 72) []
     -- six pass as given; what stands beside them is no part of them
-    ∷ does (renameOf held4 (SolverVarName (the 2) 3) true (w2 1 99) (w1 70) 0 0) is writes (0 ∷ 0 ∷ 7 ∷ 2 ∷ 3 ∷ []) held4 [] [] []
-    ∷ does (renameOf held4 (UserVarName (the 2) 0) true (w2 1 99) (w1 70) 0 0) is writes (0 ∷ 0 ∷ 8 ∷ 2 ∷ 0 ∷ []) held4 [] [] []
+    ∷ does (renameOf held4 (SolverVarName (the 2) (theSolver 3)) true (w2 1 99) (w1 70) 0 0) is writes (0 ∷ 0 ∷ 7 ∷ 2 ∷ 4 ∷ []) held4 [] [] []
+    ∷ does (renameOf held4 (SolverVarName (the 2) S.Withdrawn) true (w2 1 99) (w1 70) 0 0) is writes (0 ∷ 0 ∷ 7 ∷ 2 ∷ 0 ∷ []) held4 [] [] []
+    ∷ does (renameOf held4 (UserVarName (the 2) (theUser 3)) true (w2 1 99) (w1 70) 0 0) is writes (0 ∷ 0 ∷ 8 ∷ 2 ∷ 4 ∷ []) held4 [] [] []
+    ∷ does (renameOf held4 (UserVarName (the 2) U.Withdrawn) true (w2 1 99) (w1 70) 0 0) is writes (0 ∷ 0 ∷ 8 ∷ 2 ∷ 0 ∷ []) held4 [] [] []
     ∷ does (renameOf held4 (DeleteVar (the 2)) true (w2 1 99) (w1 70) 0 0) is writes (w4 0 0 9 2) held4 [] [] []
     ∷ does (renameOf held4 (ChangeSamplingMode (the 2) true) true (w1 99) (w1 70) 0 0) is writes (0 ∷ 0 ∷ 10 ∷ 2 ∷ 1 ∷ []) held4 [] [] []
     ∷ does (renameOf held4 (ChangeSamplingMode (the 2) false) false (w1 99) [] 0 0) is writes (0 ∷ 0 ∷ 10 ∷ 2 ∷ 0 ∷ []) held4 [] [] []
@@ -167,8 +179,8 @@ written =
     ∷ does (writeOf Binary held4 (DeleteClause Redundant) false (w2 1 6) [] 4) is writes (w1 4) held4 [] [] (w4 100 3 8 0)
     -- the rest write nothing
     ∷ does (writeOf Text held4 Model true (w2 1 6) [] 0) is writes (w1 0) held4 [] [] []
-    ∷ does (writeOf Text held4 (SolverVarName (the 2) 3) true (w1 99) [] 0) is writes (w1 0) held4 [] [] []
-    ∷ does (writeOf Binary held4 (UserVarName (the 2) 3) true (w1 99) [] 0) is writes (w1 0) held4 [] [] []
+    ∷ does (writeOf Text held4 (SolverVarName (the 2) (theSolver 3)) true (w1 99) [] 0) is writes (w1 0) held4 [] [] []
+    ∷ does (writeOf Binary held4 (UserVarName (the 2) (theUser 3)) true (w1 99) [] 0) is writes (w1 0) held4 [] [] []
     ∷ does (writeOf Text held4 (DeleteVar (the 2)) true (w1 99) [] 0) is writes (w1 0) held4 [] [] []
     ∷ does (writeOf Binary held4 (ChangeSamplingMode (the 2) true) true (w1 99) [] 0) is writes (w1 0) held4 [] [] []
     ∷ does (writeOf Text held4 (ChangeHashBits 64) true (w1 99) [] 0) is writes (w1 0) held4 [] [] []

@@ -1,5 +1,5 @@
 -- The thirteen step kinds (document 01, "Rename and write"), and what DRAT writes for each.
-use Prim.Native.Nat.{ℕ}
+use Prim.Native.Nat.{ℕ, _+_}
 use mathlib.Core.Bool.{Bool, true, false}
 use mathlib.Core.List.{List, [], _∷_, map}
 use Rattle.base.specs.Choice.{pick}
@@ -7,6 +7,10 @@ use Rattle.drat.specs.Grammar.{Step, stepOf}
 use Rattle.drat.specs.declared.Kind.the-variants.{Add, Delete}
 use Rattle.scope.specs.declared.DeleteClauseProof.{DeleteClauseProof}
 use Rattle.scope.specs.declared.DeleteClauseProof.the-variants.{Redundant, Satisfied, Simplified}
+use Rattle.scope.specs.declared.SolverName.{SolverName}
+use Rattle.scope.specs.declared.SolverName.the-variants as S
+use Rattle.scope.specs.declared.UserName.{UserName}
+use Rattle.scope.specs.declared.UserName.the-variants as U
 use Rattle.scope.specs.declared.ProofStep.{ProofStep}
 use Rattle.scope.specs.declared.ProofStep.the-variants.{AddClause, AtClause, UnitClauses, DeleteClause, Model, Assumptions, FailedAssumptions}
 use Rattle.scope.specs.declared.ProofStep.the-variants.{SolverVarName, UserVarName, DeleteVar, ChangeSamplingMode, ChangeHashBits, End}
@@ -55,8 +59,17 @@ causeOf Redundant = 0
 causeOf Satisfied = 1
 causeOf Simplified = 2
 
-abbrev flag : Bool → ℕ
+abbrev pub flag : Bool → ℕ
 flag b = pick b 1 0
+
+-- the word of a name that is granted or withdrawn: index + 1, or 0
+abbrev pub solverNameWord : SolverName → ℕ
+solverNameWord (S.Granted s) = s .0 + 1
+solverNameWord S.Withdrawn = 0
+
+abbrev pub userNameWord : UserName → ℕ
+userNameWord (U.Granted u) = u .0 + 1
+userNameWord U.Withdrawn = 0
 
 -- a step in words: its kind, then what it carries of its own
 abbrev pub stepWords : ProofStep → List ℕ
@@ -67,8 +80,8 @@ stepWords (DeleteClause cause) = 3 ∷ causeOf cause ∷ []
 stepWords Model = 4 ∷ []
 stepWords Assumptions = 5 ∷ []
 stepWords FailedAssumptions = 6 ∷ []
-stepWords (SolverVarName g s) = 7 ∷ g .0 ∷ s ∷ []
-stepWords (UserVarName g u) = 8 ∷ g .0 ∷ u ∷ []
+stepWords (SolverVarName g s) = 7 ∷ g .0 ∷ solverNameWord s ∷ []
+stepWords (UserVarName g u) = 8 ∷ g .0 ∷ userNameWord u ∷ []
 stepWords (DeleteVar g) = 9 ∷ g .0 ∷ []
 stepWords (ChangeSamplingMode g sample) = 10 ∷ g .0 ∷ flag sample ∷ []
 stepWords (ChangeHashBits bits) = 11 ∷ bits ∷ []

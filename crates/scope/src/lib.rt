@@ -6,7 +6,8 @@ ghost use Rattle.base.specs.Lent.{old, new};
 ghost use Rattle.scope.specs.Table.{coverUser, coverSolver};
 ghost use Rattle.scope.specs.BiMap.{indexIn, coverName, Inserts};
 
-// The capacity and the three watermarks.
+// The capacity and the three watermarks. The C surface has it as it is.
+#[repr(C)]
 pub struct Counts {
     pub capacity: u32,
     pub user: u32,
@@ -240,8 +241,19 @@ pub enum Note {
     ModeChanged(Global, bool),
 }
 
-// The thirteen step kinds. Literals and hashes stand in slices beside the step. The second word of a naming step is the index + 1,
-// or 0 where a name is withdrawn.
+// What a naming step tells of a global: the solver index granted to it, or that its index is withdrawn.
+pub enum SolverName {
+    Granted(Solver),
+    Withdrawn,
+}
+
+// The same of its user index.
+pub enum UserName {
+    Granted(User),
+    Withdrawn,
+}
+
+// The thirteen step kinds. Literals and hashes stand in slices beside the step.
 pub enum ProofStep {
     AddClause,
     AtClause(bool),
@@ -250,8 +262,8 @@ pub enum ProofStep {
     Model,
     Assumptions,
     FailedAssumptions,
-    SolverVarName(Global, u32),
-    UserVarName(Global, u32),
+    SolverVarName(Global, SolverName),
+    UserVarName(Global, UserName),
     DeleteVar(Global),
     ChangeSamplingMode(Global, bool),
     ChangeHashBits(u32),

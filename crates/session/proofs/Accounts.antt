@@ -12,6 +12,7 @@ use Rattle.drat.specs.declared.Format.the-variants.{Text}
 use Rattle.drat.specs.declared.Kind.the-variants.{Add, Delete}
 use Rattle.scope.specs.declared.Counts.{Counts}
 use Rattle.scope.specs.declared.SamplingMode.the-variants.{Hide}
+use Rattle.scope.specs.declared.SolverName.the-variants.{Granted}
 use Rattle.scope.specs.declared.ProofStep.the-variants.{AddClause, AtClause, UnitClauses, DeleteClause, Model, SolverVarName}
 use Rattle.scope.specs.declared.DeleteClauseProof.the-variants.{Redundant}
 use Rattle.scope.specs.Table.{Table, tableOf, word, isShown, giveUser, takeUser, giveSolver, takeSolver, putRecord, putValue, dropGlobal, leastFree, nextSolver}
@@ -173,7 +174,7 @@ clauses =
     ∷ turn (simplify (1 ∷ 2 ∷ []) false) (lending 0 4 0 40)
     ∷ turn (simplify (2 ∷ 4 ∷ []) false) (lending 0 4 0 40)
     ∷ turn (simplify (1 ∷ 8 ∷ []) false) (lending 0 4 0 40)
-    ∷ turn (write (SolverVarName (record { 0 = 3 }) 2) true [] []) (lending 0 0 0 40)
+    ∷ turn (write (SolverVarName (record { 0 = 3 }) (Granted (record { 0 = 1 }))) true [] []) (lending 0 0 0 40)
     ∷ turn (write UnitClauses true (2 ∷ 5 ∷ []) (9 ∷ 9 ∷ [])) (lending 0 0 0 40)
     ∷ turn (write (DeleteClause Redundant) true (4 ∷ []) []) (lending 0 0 0 40)
     ∷ turn (write (AtClause true) false (15 ∷ []) []) (lending 0 0 0 40)

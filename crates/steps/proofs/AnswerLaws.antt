@@ -7,10 +7,14 @@ use lib.Dec.{eqb}
 use lib.ListN.{getD}
 use Rattle.scope.specs.declared.Counts.{Counts}
 use Rattle.scope.specs.declared.DeleteClauseProof.the-variants.{Redundant, Satisfied, Simplified}
+use Rattle.scope.specs.declared.SolverName.the-variants as S
+use Rattle.scope.specs.declared.UserName.the-variants as U
 use Rattle.scope.specs.declared.ProofStep.{ProofStep}
 use Rattle.scope.specs.declared.ProofStep.the-variants.{AddClause, AtClause, UnitClauses, DeleteClause, Model, Assumptions, FailedAssumptions, SolverVarName}
 use Rattle.scope.specs.declared.ProofStep.the-variants.{UserVarName, DeleteVar, ChangeSamplingMode, ChangeHashBits, End}
+use Rattle.scope.specs.Table.{word}
 use Rattle.scope.specs.Steps.{stepWords}
+use Rattle.scope.proofs.WordLaws.{found-index}
 use Rattle.steps.specs.declared.rename.Renamed.{Renamed}
 use Rattle.steps.specs.declared.rename.Renamed.the-variants.{Done, Refused}
 use Rattle.steps.specs.declared.write.Recorded.{Recorded}
@@ -30,8 +34,8 @@ stepFrom ws =
     ∷ Model
     ∷ Assumptions
     ∷ FailedAssumptions
-    ∷ SolverVarName (record { 0 = a }) b
-    ∷ UserVarName (record { 0 = a }) b
+    ∷ SolverVarName (record { 0 = a }) (word S.Withdrawn (λ s. S.Granted (record { 0 = s })) b)
+    ∷ UserVarName (record { 0 = a }) (word U.Withdrawn (λ u. U.Granted (record { 0 = u })) b)
     ∷ DeleteVar (record { 0 = a })
     ∷ ChangeSamplingMode (record { 0 = a }) (eqb b 1)
     ∷ ChangeHashBits a
@@ -39,7 +43,7 @@ stepFrom ws =
     (getD ws 0 0) End
 
 from-words : (s : ProofStep) → stepFrom (stepWords s) ≡ s
-unfolding stepFrom
+unfolding stepFrom word
 from-words AddClause = refl
 from-words (AtClause true) = refl
 from-words (AtClause false) = refl
@@ -50,8 +54,10 @@ from-words (DeleteClause Simplified) = refl
 from-words Model = refl
 from-words Assumptions = refl
 from-words FailedAssumptions = refl
-from-words (SolverVarName g s) = refl
-from-words (UserVarName g u) = refl
+from-words (SolverVarName g (S.Granted s)) = ap (SolverVarName g) (found-index S.Withdrawn (λ s. S.Granted (record { 0 = s })) (s .0))
+from-words (SolverVarName g S.Withdrawn) = refl
+from-words (UserVarName g (U.Granted u)) = ap (UserVarName g) (found-index U.Withdrawn (λ u. U.Granted (record { 0 = u })) (u .0))
+from-words (UserVarName g U.Withdrawn) = refl
 from-words (DeleteVar g) = refl
 from-words (ChangeSamplingMode g true) = refl
 from-words (ChangeSamplingMode g false) = refl

@@ -4,6 +4,8 @@ use mathlib.Core.Bool.{false}
 use mathlib.Core.List.{List, [], _∷_}
 use lib.ListN.{getD}
 use Rattle.scope.specs.declared.DeleteClauseProof.the-variants.{Redundant}
+use Rattle.scope.specs.declared.SolverName.the-variants as S
+use Rattle.scope.specs.declared.UserName.the-variants as U
 use Rattle.scope.specs.declared.ProofStep.{ProofStep}
 use Rattle.scope.specs.declared.ProofStep.the-variants.{AddClause, AtClause, UnitClauses, DeleteClause, Model, Assumptions, FailedAssumptions, SolverVarName}
 use Rattle.scope.specs.declared.ProofStep.the-variants.{UserVarName, DeleteVar, ChangeSamplingMode, ChangeHashBits, End}
@@ -20,8 +22,8 @@ kinds =
     ∷ Model
     ∷ Assumptions
     ∷ FailedAssumptions
-    ∷ SolverVarName (record { 0 = 0 }) 0
-    ∷ UserVarName (record { 0 = 0 }) 0
+    ∷ SolverVarName (record { 0 = 0 }) S.Withdrawn
+    ∷ UserVarName (record { 0 = 0 }) U.Withdrawn
     ∷ DeleteVar (record { 0 = 0 })
     ∷ ChangeSamplingMode (record { 0 = 0 }) false
     ∷ ChangeHashBits 0

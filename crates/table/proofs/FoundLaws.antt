@@ -1,14 +1,14 @@
--- What a lookup answers and what the word says are the same; refusal 8 by what it answers.
-use Prim.Native.Nat.{ℕ, zero, suc, _+_, _-_}
-use mathlib.Core.Path.{_≡_, refl, sym, ap, _∙_}
-use native.Mathlib.Omega.{arith}
-use native.Mathlib.Numerals.{add-one}
+-- What a lookup's answer says of the word: for `At g` the word is g + 1, for `Nothing` it is 0; refusal 8 by what it answers.
+use Prim.Native.Nat.{ℕ, _+_}
+use mathlib.Core.Path.{_≡_, refl}
 use mathlib.Core.List.{List}
+use native.Mathlib.Omega.{arith}
 use lib.ListN.{getD}
 use borrow.Author.Tests.{ne-eqb}
 use Rattle.scope.specs.declared.Global.{Global}
-use Rattle.scope.specs.Table.{Table, word}
+use Rattle.scope.specs.Table.{Table}
 use Rattle.scope.specs.Marks.{notHeld, heldElse}
+use Rattle.scope.proofs.WordLaws.{word-read}
 use Rattle.table.specs.declared.FoundUser.{FoundUser}
 use Rattle.table.specs.declared.FoundUser.the-variants as U
 use Rattle.table.specs.declared.FoundGlobal.{FoundGlobal}
@@ -16,25 +16,6 @@ use Rattle.table.specs.declared.FoundGlobal.the-variants as G
 use Rattle.table.specs.declared.FoundSolver.{FoundSolver}
 use Rattle.table.specs.declared.FoundSolver.the-variants as S
 use Rattle.table.specs.Found.{foundUser, foundGlobal, foundSolver}
-
-pub found-none : {A : Type 0} (none : A) (some : ℕ → A) (w v : ℕ) → w ≡ v → w ≡ 0 → none ≡ word none some v
-unfolding word
-found-none none some w v e z = rw (← e, z)
-
-pub found-some : {A : Type 0} (none : A) (some : ℕ → A) (w v : ℕ) → w ≡ v → (w ≡ 0 → ⊥) → some (w - 1) ≡ word none some v
-unfolding word
-found-some none some w zero e n = absurd (n e)
-found-some none some w (suc i) e n =
-    let q : w - 1 ≡ i = omega arith in
-    ap some q
-
--- ---- what an answer says of the word: for `At g` the word is g + 1, for `Nothing` it is 0
-
-word-read : {A : Type 0} (read : A → ℕ) (none : A) (some : ℕ → A) → read none ≡ 0 → ((i : ℕ) → read (some i) ≡ i + 1) → (w : ℕ) (f : A) → f ≡ word none some w
-    → w ≡ read f
-unfolding word
-word-read read none some z s zero f e = sym (ap read e ∙ z)
-word-read read none some z s (suc i) f e = sym (ap read e ∙ s i ∙ add-one i)
 
 abbrev pub userWord : FoundUser → ℕ
 userWord (U.At u) = u .0 + 1

@@ -1,5 +1,6 @@
 use mathlib.Core.Path.{sym, ap, _∙_}
-use Rattle.numbers.specs.Numbers.{delete, asCause, stepAt}
+use Rattle.numbers.specs.Numbers.{delete, stepFor}
+use Rattle.numbers.specs.Meant.{meantCause}
 use borrow.Author.Needs.{needs}
 use Rattle.numbers.proofs.delete_in.Statement.{statement}
 use Rattle.numbers.proofs.delete_in.Tie as tie
@@ -14,12 +15,12 @@ enum-told : tie.Need-enum-told
 enum-told c = search needs
 
 returns : tie.Need-returns
-unfolding stepAt
-returns c = sym (ap delete (sym (c .before .before .cause-in .ensures) ∙ ap asCause (c .enum-told .given .1)))
+unfolding stepFor
+returns c = sym (ap delete (sym (c .before .before .cause-in .ensures) ∙ ap meantCause (c .enum-told .given .1)))
 
 returns-2 : tie.Need-returns-2
-unfolding stepAt
-returns-2 c = sym (ap delete (sym (c .before .before .before .cause-in .ensures) ∙ ap asCause (c .before .cause .given .1)))
+unfolding stepFor
+returns-2 c = sym (ap delete (sym (c .before .before .before .cause-in .ensures) ∙ ap meantCause (c .before .cause .given .1)))
 
 pub delete-in-spec : {M : Type 1} → statement M
 delete-in-spec =

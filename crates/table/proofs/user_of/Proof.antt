@@ -1,4 +1,4 @@
-use Rattle.table.proofs.FoundLaws.{found-none, found-some}
+use Rattle.scope.proofs.WordLaws.{found-none, found-some}
 use borrow.Author.Needs.{needs}
 use Rattle.table.proofs.user_of.Statement.{statement}
 use Rattle.table.proofs.user_of.Tie as tie

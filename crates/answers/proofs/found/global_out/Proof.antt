@@ -1,7 +1,7 @@
 use mathlib.Core.Path.{refl, ap}
 use Rattle.var_map.specs.declared.GotGlobal.{GotGlobal}
 use Rattle.var_map.specs.Answers.{gotGlobal}
-use Rattle.answers.proofs.SurfaceLaws.{told-by}
+use Rattle.answers.proofs.SurfaceLaws.{numbered-by}
 use borrow.Author.Needs.{needs}
 use Rattle.answers.proofs.found.global_out.Statement.{statement}
 use Rattle.answers.proofs.found.global_out.Tie as tie
@@ -22,13 +22,13 @@ absent-requires-2 : tie.Need-absent-requires-2
 absent-requires-2 c κs = search needs
 
 returns : tie.Need-returns
-returns c = told-by (ap (λ (r : GotGlobal). gotGlobal r (c .before .before .before .args .c)) (c .before .r .given .1)) refl refl
+returns c = λ d. numbered-by (ap (λ (r : GotGlobal). gotGlobal r d) (c .before .r .given .1)) refl refl
 
 returns-2 : tie.Need-returns-2
-returns-2 c = told-by (ap (λ (r : GotGlobal). gotGlobal r (c .before .before .before .args .c)) (c .before .enum-told .given .1)) (c .absent .ensures) refl
+returns-2 c = λ d. numbered-by (ap (λ (r : GotGlobal). gotGlobal r d) (c .before .enum-told .given .1)) (c .absent .ensures) refl
 
 returns-3 : tie.Need-returns-3
-returns-3 c = told-by (ap (λ (r : GotGlobal). gotGlobal r (c .before .before .before .before .args .c)) (c .before .before .r2 .given .1)) (c .absent2 .ensures) refl
+returns-3 c = λ d. numbered-by (ap (λ (r : GotGlobal). gotGlobal r d) (c .before .before .r2 .given .1)) (c .absent2 .ensures) refl
 
 pub global-out-spec : {M : Type 1} → statement M
 global-out-spec =

@@ -1,7 +1,7 @@
 use mathlib.Core.Path.{refl, ap}
 use Rattle.modes.specs.declared.ModeSet.{ModeSet}
 use Rattle.modes.specs.Answers.{modeSet}
-use Rattle.answers.proofs.SurfaceLaws.{told-by}
+use Rattle.answers.proofs.SurfaceLaws.{numbered-by}
 use borrow.Author.Needs.{needs}
 use Rattle.answers.proofs.mode_set.mode_set_out.Statement.{statement}
 use Rattle.answers.proofs.mode_set.mode_set_out.Tie as tie
@@ -9,40 +9,28 @@ use Rattle.answers.proofs.mode_set.mode_set_out.Tie as tie
 enum-known-r : tie.Need-enum-known-r
 enum-known-r c = search needs
 
-counts-out-requires : tie.Need-counts-out-requires
-counts-out-requires c κs = search needs
-
 enum-known-r-2 : tie.Need-enum-known-r-2
 enum-known-r-2 c = search needs
-
-counts-out-requires-2 : tie.Need-counts-out-requires-2
-counts-out-requires-2 c κs = search needs
 
 enum-known-r-3 : tie.Need-enum-known-r-3
 enum-known-r-3 c = search needs
 
-counts-out-requires-3 : tie.Need-counts-out-requires-3
-counts-out-requires-3 c κs = search needs
-
 returns : tie.Need-returns
-returns c = told-by (ap (λ (r : ModeSet). modeSet r (c .before .before .before .before .args .c)) (c .before .before .r .given .1)) refl (c .counts-out .ensures)
+returns c = numbered-by (ap (λ (r : ModeSet). modeSet r (c .before .before .before .args .c)) (c .before .r .given .1)) refl refl
 
 returns-2 : tie.Need-returns-2
-returns-2 c = told-by (ap (λ (r : ModeSet). modeSet r (c .before .before .before .before .args .c)) (c .before .before .r2 .given .1)) refl (c .counts-out2 .ensures)
+returns-2 c = numbered-by (ap (λ (r : ModeSet). modeSet r (c .before .before .before .args .c)) (c .before .r2 .given .1)) refl refl
 
 returns-3 : tie.Need-returns-3
-returns-3 c = told-by (ap (λ (r : ModeSet). modeSet r (c .before .before .before .before .args .c)) (c .before .before .r3 .given .1)) refl (c .counts-out3 .ensures)
+returns-3 c = numbered-by (ap (λ (r : ModeSet). modeSet r (c .before .before .before .args .c)) (c .before .r3 .given .1)) refl refl
 
 pub mode-set-out-spec : {M : Type 1} → statement M
 mode-set-out-spec =
     tie.close
     (tie.spec
     enum-known-r
-    counts-out-requires
     enum-known-r-2
-    counts-out-requires-2
     enum-known-r-3
-    counts-out-requires-3
     returns
     returns-2
     returns-3)

@@ -1,7 +1,7 @@
 use mathlib.Core.Path.{refl, ap}
 use Rattle.model.specs.declared.Modelled.{Modelled}
 use Rattle.model.specs.Answers.{modelled}
-use Rattle.answers.proofs.SurfaceLaws.{told-by}
+use Rattle.answers.proofs.SurfaceLaws.{numbered-by}
 use borrow.Author.Needs.{needs}
 use Rattle.answers.proofs.modelled.modelled_out.Statement.{statement}
 use Rattle.answers.proofs.modelled.modelled_out.Tie as tie
@@ -15,14 +15,10 @@ enum-known-r-2 : tie.Need-enum-known-r-2
 enum-known-r-2 c = search needs
 
 returns : tie.Need-returns
-returns c =
-    let a = c .before .before .before .args in
-    told-by (ap (λ (r : Modelled). modelled r (a .c)) (c .before .r .given .1)) refl refl
+returns c = λ d. numbered-by (ap (λ (r : Modelled). modelled r d) (c .before .r .given .1)) refl refl
 
 returns-2 : tie.Need-returns-2
-returns-2 c =
-    let a = c .before .before .before .args in
-    told-by (ap (λ (r : Modelled). modelled r (a .c)) (c .before .r2 .given .1)) refl refl
+returns-2 c = λ d. numbered-by (ap (λ (r : Modelled). modelled r d) (c .before .r2 .given .1)) refl refl
 
 pub modelled-out-spec : {M : Type 1} → statement M
 modelled-out-spec = tie.close (tie.spec enum-known-r enum-known-r-2 returns returns-2)

@@ -1,6 +1,6 @@
 use mathlib.Core.Path.{sym, ap}
 use Rattle.drat.specs.Filled.{read}
-use Rattle.answers.specs.Surface.{placed}
+use Rattle.answers.specs.Surface.{located}
 use borrow.Author.Needs.{needs}
 use Rattle.answers.proofs.reading.read_out.Statement.{statement}
 use Rattle.answers.proofs.reading.read_out.Tie as tie
@@ -15,13 +15,13 @@ enum-told : tie.Need-enum-told
 enum-told c = search needs
 
 returns : tie.Need-returns
-returns c = sym (ap (placed 2) (ap read (c .before .r .given .1)))
+returns c = sym (ap (located 2) (ap read (c .before .r .given .1)))
 
 returns-2 : tie.Need-returns-2
-returns-2 c = sym (ap (placed 2) (ap read (c .before .r2 .given .1)))
+returns-2 c = sym (ap (located 2) (ap read (c .before .r2 .given .1)))
 
 returns-3 : tie.Need-returns-3
-returns-3 c = sym (ap (placed 2) (ap read (c .enum-told .given .1)))
+returns-3 c = sym (ap (located 2) (ap read (c .enum-told .given .1)))
 
 pub read-out-spec : {M : Type 1} → statement M
 read-out-spec =

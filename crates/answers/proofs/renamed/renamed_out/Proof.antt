@@ -1,7 +1,7 @@
 use mathlib.Core.Path.{refl, ap}
 use Rattle.steps.specs.declared.rename.Renamed.{Renamed}
 use Rattle.steps.specs.Answers.{renamed}
-use Rattle.answers.proofs.SurfaceLaws.{told-by}
+use Rattle.answers.proofs.SurfaceLaws.{numbered-by}
 use borrow.Author.Needs.{needs}
 use Rattle.answers.proofs.renamed.renamed_out.Statement.{statement}
 use Rattle.answers.proofs.renamed.renamed_out.Tie as tie
@@ -13,10 +13,10 @@ enum-known-r-2 : tie.Need-enum-known-r-2
 enum-known-r-2 c = search needs
 
 returns : tie.Need-returns
-returns c = (told-by (ap (λ (r : Renamed). renamed r (c .before .before .before .args .c)) (c .before .r .given .1)) refl refl, refl)
+returns c = ((λ d. numbered-by (ap (λ (r : Renamed). renamed r d) (c .before .r .given .1)) refl refl), refl)
 
 returns-2 : tie.Need-returns-2
-returns-2 c = (told-by (ap (λ (r : Renamed). renamed r (c .before .before .before .args .c)) (c .before .r2 .given .1)) refl refl, refl)
+returns-2 c = ((λ d. numbered-by (ap (λ (r : Renamed). renamed r d) (c .before .r2 .given .1)) refl refl), refl)
 
 pub renamed-out-spec : {M : Type 1} → statement M
 renamed-out-spec = tie.close (tie.spec enum-known-r enum-known-r-2 returns returns-2)

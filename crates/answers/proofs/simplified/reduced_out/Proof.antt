@@ -1,7 +1,7 @@
 use mathlib.Core.Path.{refl, ap}
 use Rattle.simplify.specs.declared.Reduced.{Reduced}
 use Rattle.simplify.specs.Answers.{reduced}
-use Rattle.answers.proofs.SurfaceLaws.{told-by, second-same}
+use Rattle.answers.proofs.SurfaceLaws.{numbered-by, second-same}
 use borrow.Author.Needs.{needs}
 use Rattle.answers.proofs.simplified.reduced_out.Statement.{statement}
 use Rattle.answers.proofs.simplified.reduced_out.Tie as tie
@@ -16,10 +16,10 @@ enum-known-r-2 : tie.Need-enum-known-r-2
 enum-known-r-2 c = search needs
 
 returns : tie.Need-returns
-returns c = told-by (ap (λ (r : Reduced). reduced r (c .before .before .before .before .args .c)) (c .before .before .r .given .1)) (second-same (c .made-out .ensures)) refl
+returns c = λ d. numbered-by (ap (λ (r : Reduced). reduced r d) (c .before .before .r .given .1)) (second-same (c .made-out .ensures)) refl
 
 returns-2 : tie.Need-returns-2
-returns-2 c = told-by (ap (λ (r : Reduced). reduced r (c .before .before .before .args .c)) (c .before .r2 .given .1)) refl refl
+returns-2 c = λ d. numbered-by (ap (λ (r : Reduced). reduced r d) (c .before .r2 .given .1)) refl refl
 
 pub reduced-out-spec : {M : Type 1} → statement M
 reduced-out-spec =

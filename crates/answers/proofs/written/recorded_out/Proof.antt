@@ -1,7 +1,7 @@
 use mathlib.Core.Path.{refl, ap}
 use Rattle.steps.specs.declared.write.Recorded.{Recorded}
 use Rattle.steps.specs.Answers.{recorded}
-use Rattle.answers.proofs.SurfaceLaws.{told-by}
+use Rattle.answers.proofs.SurfaceLaws.{numbered-by}
 use borrow.Author.Needs.{needs}
 use Rattle.answers.proofs.written.recorded_out.Statement.{statement}
 use Rattle.answers.proofs.written.recorded_out.Tie as tie
@@ -13,10 +13,10 @@ enum-known-r-2 : tie.Need-enum-known-r-2
 enum-known-r-2 c = search needs
 
 returns : tie.Need-returns
-returns c = told-by (ap (λ (r : Recorded). recorded r (c .before .before .before .args .c)) (c .before .r .given .1)) refl refl
+returns c = λ d. numbered-by (ap (λ (r : Recorded). recorded r d) (c .before .r .given .1)) refl refl
 
 returns-2 : tie.Need-returns-2
-returns-2 c = told-by (ap (λ (r : Recorded). recorded r (c .before .before .before .args .c)) (c .before .r2 .given .1)) refl refl
+returns-2 c = λ d. numbered-by (ap (λ (r : Recorded). recorded r d) (c .before .r2 .given .1)) refl refl
 
 pub recorded-out-spec : {M : Type 1} → statement M
 recorded-out-spec = tie.close (tie.spec enum-known-r enum-known-r-2 returns returns-2)

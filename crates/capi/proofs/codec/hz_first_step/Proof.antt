@@ -1,7 +1,7 @@
 use mathlib.Core.Path.{refl, sym, ap, _∙_}
 use Rattle.base.specs.Answer.{Answer}
-use Rattle.numbers.specs.Numbers.{asFormat}
-use Rattle.answers.specs.Surface.{placed, partOf, measured}
+use Rattle.numbers.specs.Meant.{meantFormat}
+use Rattle.answers.specs.Surface.{located, partOf, measured}
 use Rattle.capi.proofs.CodecLaws.{first-is, no-first-format, first-taken, same-numbers}
 use borrow.Author.Needs.{needs}
 use Rattle.capi.proofs.codec.hz_first_step.Statement.{statement}
@@ -18,8 +18,8 @@ enum-told c = search needs
 
 returns : tie.Need-returns
 returns c =
-    let e = no-first-format _ _ (sym (c .before .before .format-in .ensures) ∙ ap asFormat (c .enum-told .given .1)) in
-    (same-numbers (λ (w : Answer). placed 1 (measured w)) e refl, sym (ap partOf e))
+    let e = no-first-format _ _ (sym (c .before .before .format-in .ensures) ∙ ap meantFormat (c .enum-told .given .1)) in
+    (same-numbers (λ (w : Answer). located 1 (measured w)) e refl, sym (ap partOf e))
 
 first-step-requires : tie.Need-first-step-requires
 first-step-requires c κs = search needs
@@ -30,8 +30,8 @@ first-out-requires c κs = search needs
 returns-2 : tie.Need-returns-2
 returns-2 c =
     let p = c .before .first-step in
-    let e = first-is _ _ (sym (c .before .before .before .before .before .format-in .ensures) ∙ ap asFormat (c .before .before .before .f .given .1)) in (
-      same-numbers (λ (w : Answer). placed 1 (measured w)) (e ∙ sym (p .ensures)) (c .first-out .ensures),
+    let e = first-is _ _ (sym (c .before .before .before .before .before .format-in .ensures) ∙ ap meantFormat (c .before .before .before .f .given .1)) in (
+      same-numbers (λ (w : Answer). located 1 (measured w)) (e ∙ sym (p .ensures)) (c .first-out .ensures),
       first-taken _ (p .result .now) _ (p .ensures) (c .first-out .ensures) ∙ sym (ap partOf e),
     )
 

@@ -1,9 +1,9 @@
 use mathlib.Core.Path.{refl, sym, ap, _∙_}
 use lib.ListN.{length}
 use Rattle.drat.specs.Filled.{Filling}
-use Rattle.answers.specs.Surface.{placed}
+use Rattle.answers.specs.Surface.{located}
 use Rattle.capi.proofs.CodecLaws.{read-is, no-read-format, filled-same, same-numbers}
-use Rattle.numbers.specs.Numbers.{asFormat}
+use Rattle.numbers.specs.Meant.{meantFormat}
 use borrow.Author.Needs.{needs}
 use Rattle.capi.proofs.codec.hz_read.Statement.{statement}
 use Rattle.capi.proofs.codec.hz_read.Tie as tie
@@ -20,8 +20,8 @@ enum-told c = search needs
 returns : tie.Need-returns
 returns c =
     let a = c .before .before .before .before .before .before .before .args in
-    let e = no-read-format (a .format) (a .bytes .now) (length (a .codes .now)) (length (a .ends .now)) (length (a .kinds .now)) (sym (c .before .before .format-in .ensures) ∙ ap asFormat (c .enum-told .given .1)) in (
-      same-numbers (placed 2) (ap (λ (w : Filling). w .answer) e) refl,
+    let e = no-read-format (a .format) (a .bytes .now) (length (a .codes .now)) (length (a .ends .now)) (length (a .kinds .now)) (sym (c .before .before .format-in .ensures) ∙ ap meantFormat (c .enum-told .given .1)) in (
+      same-numbers (located 2) (ap (λ (w : Filling). w .answer) e) refl,
       (
         filled-same (a .codes .now) 0 (ap (λ (w : Filling). w .codes) e) refl,
         (
@@ -50,8 +50,8 @@ returns-2 : tie.Need-returns-2
 returns-2 c =
     let a = c .before .before .before .before .before .before .before .before .before .before .before .before .before .before .before .before .before .before .before .args in
     let w = c .before .before .before .before .before .before .before .read-proof .ensures in
-    let e = read-is (a .format) (a .bytes .now) (length (a .codes .now)) (length (a .ends .now)) (length (a .kinds .now)) (sym (c .before .before .before .before .before .before .before .before .before .before .before .before .before .before .format-in .ensures) ∙ ap asFormat (c .before .before .before .before .before .before .before .before .before .before .before .before .f .given .1)) in (
-      same-numbers (placed 2) (ap (λ (w : Filling). w .answer) e ∙ sym (w .0)) (c .read-out .ensures),
+    let e = read-is (a .format) (a .bytes .now) (length (a .codes .now)) (length (a .ends .now)) (length (a .kinds .now)) (sym (c .before .before .before .before .before .before .before .before .before .before .before .before .before .before .format-in .ensures) ∙ ap meantFormat (c .before .before .before .before .before .before .before .before .before .before .before .before .f .given .1)) in (
+      same-numbers (located 2) (ap (λ (w : Filling). w .answer) e ∙ sym (w .0)) (c .read-out .ensures),
       (
         filled-same (a .codes .now) 0 (ap (λ (w : Filling). w .codes) e) (w .1 .0),
         (

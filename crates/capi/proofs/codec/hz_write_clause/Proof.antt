@@ -3,7 +3,7 @@ use lib.ListN.{length}
 use Rattle.drat.specs.Writing.{Writing}
 use Rattle.answers.specs.Surface.{plain}
 use Rattle.capi.proofs.CodecLaws.{write-clause-is, no-clause-format, no-clause-kind, filled-same, same-numbers}
-use Rattle.numbers.specs.Numbers.{asFormat, asKind}
+use Rattle.numbers.specs.Meant.{meantFormat, meantKind}
 use borrow.Author.Needs.{needs}
 use Rattle.capi.proofs.codec.hz_write_clause.Statement.{statement}
 use Rattle.capi.proofs.codec.hz_write_clause.Tie as tie
@@ -20,7 +20,7 @@ enum-told c = search needs
 returns : tie.Need-returns
 returns c =
     let a = c .before .before .before .before .before .args in
-    let e = no-clause-format (a .format) (a .kind) (a .buf .now) (a .a) (a .b) (length (a .out .now)) (a .at) (sym (c .before .before .format-in .ensures) ∙ ap asFormat (c .enum-told .given .1)) in
+    let e = no-clause-format (a .format) (a .kind) (a .buf .now) (a .a) (a .b) (length (a .out .now)) (a .at) (sym (c .before .before .format-in .ensures) ∙ ap meantFormat (c .enum-told .given .1)) in
     (same-numbers (plain 1) (ap (λ (w : Writing). w .answer) e) refl, filled-same (a .out .now) (a .at) (ap (λ (w : Writing). w .bytes) e) refl)
 
 kind-in-requires : tie.Need-kind-in-requires
@@ -35,7 +35,7 @@ enum-told-2 c = search needs
 returns-2 : tie.Need-returns-2
 returns-2 c =
     let a = c .before .before .before .before .before .before .before .before .before .args in
-    let e = no-clause-kind (a .format) (a .kind) (a .buf .now) (a .a) (a .b) (length (a .out .now)) (a .at) (sym (c .before .before .before .before .before .before .format-in .ensures) ∙ ap asFormat (c .before .before .before .before .f .given .1)) (sym (c .before .before .kind-in .ensures) ∙ ap asKind (c .enum-told2 .given .1)) in
+    let e = no-clause-kind (a .format) (a .kind) (a .buf .now) (a .a) (a .b) (length (a .out .now)) (a .at) (sym (c .before .before .before .before .before .before .format-in .ensures) ∙ ap meantFormat (c .before .before .before .before .f .given .1)) (sym (c .before .before .kind-in .ensures) ∙ ap meantKind (c .enum-told2 .given .1)) in
     (same-numbers (plain 1) (ap (λ (w : Writing). w .answer) e) refl, filled-same (a .out .now) (a .at) (ap (λ (w : Writing). w .bytes) e) refl)
 
 write-clause-requires : tie.Need-write-clause-requires
@@ -51,7 +51,7 @@ returns-3 : tie.Need-returns-3
 returns-3 c =
     let a = c .before .before .before .before .before .before .before .before .before .before .before .before .before .before .before .args in
     let w = c .before .before .before .write-clause .ensures in
-    let e = write-clause-is (a .format) (a .kind) (a .buf .now) (a .a) (a .b) (length (a .out .now)) (a .at) (sym (c .before .before .before .before .before .before .before .before .before .before .before .before .format-in .ensures) ∙ ap asFormat (c .before .before .before .before .before .before .before .before .before .before .f .given .1)) (sym (c .before .before .before .before .before .before .before .before .kind-in .ensures) ∙ ap asKind (c .before .before .before .before .before .before .k .given .1)) in
+    let e = write-clause-is (a .format) (a .kind) (a .buf .now) (a .a) (a .b) (length (a .out .now)) (a .at) (sym (c .before .before .before .before .before .before .before .before .before .before .before .before .format-in .ensures) ∙ ap meantFormat (c .before .before .before .before .before .before .before .before .before .before .f .given .1)) (sym (c .before .before .before .before .before .before .before .before .kind-in .ensures) ∙ ap meantKind (c .before .before .before .before .before .before .k .given .1)) in
     (same-numbers (plain 1) (ap (λ (w : Writing). w .answer) e ∙ sym (w .0)) (c .wrote-out .ensures), filled-same (a .out .now) (a .at) (ap (λ (w : Writing). w .bytes) e) (w .1))
 
 pub hz-write-clause-spec : {M : Type 1} → statement M

@@ -3,7 +3,7 @@ use lib.ListN.{length}
 use Rattle.drat.specs.Writing.{Writing}
 use Rattle.answers.specs.Surface.{plain}
 use Rattle.capi.proofs.CodecLaws.{write-proof-is, no-proof-format, filled-same, same-numbers}
-use Rattle.numbers.specs.Numbers.{asFormat}
+use Rattle.numbers.specs.Meant.{meantFormat}
 use borrow.Author.Needs.{needs}
 use Rattle.capi.proofs.codec.hz_write_proof.Statement.{statement}
 use Rattle.capi.proofs.codec.hz_write_proof.Tie as tie
@@ -20,7 +20,7 @@ enum-told c = search needs
 returns : tie.Need-returns
 returns c =
     let a = c .before .before .before .before .before .before .before .args in
-    let e = no-proof-format (a .format) (a .codes .now) (a .ends .now) (a .kinds .now) (length (a .out .now)) (sym (c .before .before .format-in .ensures) ∙ ap asFormat (c .enum-told .given .1)) in
+    let e = no-proof-format (a .format) (a .codes .now) (a .ends .now) (a .kinds .now) (length (a .out .now)) (sym (c .before .before .format-in .ensures) ∙ ap meantFormat (c .enum-told .given .1)) in
     (same-numbers (plain 1) (ap (λ (w : Writing). w .answer) e) refl, filled-same (a .out .now) 0 (ap (λ (w : Writing). w .bytes) e) refl)
 
 write-proof-requires : tie.Need-write-proof-requires
@@ -36,7 +36,7 @@ returns-2 : tie.Need-returns-2
 returns-2 c =
     let a = c .before .before .before .before .before .before .before .before .before .before .before .before .before .args in
     let w = c .before .before .before .write-proof .ensures in
-    let e = write-proof-is (a .format) (a .codes .now) (a .ends .now) (a .kinds .now) (length (a .out .now)) (sym (c .before .before .before .before .before .before .before .before .format-in .ensures) ∙ ap asFormat (c .before .before .before .before .before .before .f .given .1)) in
+    let e = write-proof-is (a .format) (a .codes .now) (a .ends .now) (a .kinds .now) (length (a .out .now)) (sym (c .before .before .before .before .before .before .before .before .format-in .ensures) ∙ ap meantFormat (c .before .before .before .before .before .before .f .given .1)) in
     (same-numbers (plain 1) (ap (λ (w : Writing). w .answer) e ∙ sym (w .0)) (c .wrote-out .ensures), filled-same (a .out .now) 0 (ap (λ (w : Writing). w .bytes) e) (w .1))
 
 pub hz-write-proof-spec : {M : Type 1} → statement M

@@ -1,4 +1,4 @@
-use Rattle.answers.proofs.SurfaceLaws.{told-given}
+use Rattle.answers.proofs.SurfaceLaws.{numbered-given}
 use borrow.Author.Needs.{needs}
 use Rattle.capi.proofs.marking.hz_assign.Statement.{statement}
 use Rattle.capi.proofs.marking.hz_assign.Tie as tie
@@ -13,7 +13,7 @@ same-length : tie.Need-same-length
 same-length c = search needs
 
 returns : tie.Need-returns
-returns c = told-given (c .before .before .before .assign-lit .ensures) (c .changed-out .ensures)
+returns c = numbered-given (c .before .before .before .assign-lit .ensures) (c .changed-out .ensures)
 
 pub hz-assign-spec : {M : Type 1} → statement M
 hz-assign-spec = tie.close (tie.spec assign-lit-requires changed-out-requires same-length returns)

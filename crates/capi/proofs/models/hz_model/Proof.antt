@@ -1,4 +1,4 @@
-use Rattle.answers.proofs.SurfaceLaws.{told-given}
+use Rattle.answers.proofs.SurfaceLaws.{numbered-given}
 use borrow.Author.Needs.{needs}
 use Rattle.capi.proofs.models.hz_model.Statement.{statement}
 use Rattle.capi.proofs.models.hz_model.Tie as tie
@@ -18,7 +18,7 @@ same-length-2 c = search needs
 returns : tie.Need-returns
 returns c =
     let e = c .before .before .before .before .before .model .ensures in
-    (told-given (e .0) (c .modelled-out .ensures), e .1)
+    (numbered-given (e .0) (c .modelled-out .ensures _), e .1)
 
 pub hz-model-spec : {M : Type 1} → statement M
 hz-model-spec =

@@ -1,4 +1,4 @@
-use Rattle.answers.proofs.SurfaceLaws.{told-given}
+use Rattle.answers.proofs.SurfaceLaws.{numbered-given}
 use borrow.Author.Needs.{needs}
 use Rattle.capi.proofs.names.hz_map.Statement.{statement}
 use Rattle.capi.proofs.names.hz_map.Tie as tie
@@ -22,7 +22,7 @@ same-length-4 : tie.Need-same-length-4
 same-length-4 c = search needs
 
 returns : tie.Need-returns
-returns c = told-given (c .before .before .before .before .before .before .before .before .before .global-from-user .ensures) (c .mapped-out .ensures)
+returns c = numbered-given (c .before .before .before .before .before .before .before .before .before .global-from-user .ensures) (c .mapped-out .ensures)
 
 pub hz-map-spec : {M : Type 1} → statement M
 hz-map-spec =

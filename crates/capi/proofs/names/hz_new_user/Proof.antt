@@ -1,4 +1,4 @@
-use Rattle.answers.proofs.SurfaceLaws.{told-given}
+use Rattle.answers.proofs.SurfaceLaws.{numbered-given}
 use borrow.Author.Needs.{needs}
 use Rattle.capi.proofs.names.hz_new_user.Statement.{statement}
 use Rattle.capi.proofs.names.hz_new_user.Tie as tie
@@ -22,7 +22,7 @@ same-length-4 : tie.Need-same-length-4
 same-length-4 c = search needs
 
 returns : tie.Need-returns
-returns c = told-given (c .before .before .before .before .before .before .before .before .before .new-user-var .ensures) (c .new-mapped-out .ensures)
+returns c = numbered-given (c .before .before .before .before .before .before .before .before .before .new-user-var .ensures) (c .new-mapped-out .ensures)
 
 pub hz-new-user-spec : {M : Type 1} → statement M
 hz-new-user-spec =

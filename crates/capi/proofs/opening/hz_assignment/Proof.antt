@@ -1,4 +1,4 @@
-use Rattle.answers.proofs.SurfaceLaws.{told-given}
+use Rattle.answers.proofs.SurfaceLaws.{numbered-given}
 use borrow.Author.Needs.{needs}
 use Rattle.capi.proofs.opening.hz_assignment.Statement.{statement}
 use Rattle.capi.proofs.opening.hz_assignment.Tie as tie
@@ -10,7 +10,7 @@ word-out-requires : tie.Need-word-out-requires
 word-out-requires c κs = search needs
 
 returns : tie.Need-returns
-returns c = told-given (c .before .get-assignment .ensures) (c .word-out .ensures)
+returns c = numbered-given (c .before .get-assignment .ensures) (c .word-out .ensures _)
 
 pub hz-assignment-spec : {M : Type 1} → statement M
 hz-assignment-spec = tie.close (tie.spec get-assignment-requires word-out-requires returns)

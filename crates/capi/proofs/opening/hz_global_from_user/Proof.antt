@@ -1,4 +1,4 @@
-use Rattle.answers.proofs.SurfaceLaws.{told-given}
+use Rattle.answers.proofs.SurfaceLaws.{numbered-given}
 use borrow.Author.Needs.{needs}
 use Rattle.capi.proofs.opening.hz_global_from_user.Statement.{statement}
 use Rattle.capi.proofs.opening.hz_global_from_user.Tie as tie
@@ -10,7 +10,7 @@ global-out-requires : tie.Need-global-out-requires
 global-out-requires c κs = search needs
 
 returns : tie.Need-returns
-returns c = told-given (c .before .get-global-from-user .ensures) (c .global-out .ensures)
+returns c = numbered-given (c .before .get-global-from-user .ensures) (c .global-out .ensures _)
 
 pub hz-global-from-user-spec : {M : Type 1} → statement M
 hz-global-from-user-spec =

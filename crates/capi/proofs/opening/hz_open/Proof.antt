@@ -1,4 +1,4 @@
-use Rattle.answers.proofs.SurfaceLaws.{told-given}
+use Rattle.answers.proofs.SurfaceLaws.{numbered-given}
 use borrow.Author.Needs.{needs}
 use Rattle.capi.proofs.opening.hz_open.Statement.{statement}
 use Rattle.capi.proofs.opening.hz_open.Tie as tie
@@ -28,7 +28,7 @@ same-length-6 : tie.Need-same-length-6
 same-length-6 c = search needs
 
 returns : tie.Need-returns
-returns c = told-given (c .before .before .before .before .before .before .before .before .before .before .before .before .before .open-table .ensures) (c .opened-out .ensures)
+returns c = numbered-given (c .before .before .before .before .before .before .before .before .before .before .before .before .before .open-table .ensures) (c .opened-out .ensures)
 
 pub hz-open-spec : {M : Type 1} → statement M
 hz-open-spec =

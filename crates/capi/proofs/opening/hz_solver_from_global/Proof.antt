@@ -1,4 +1,4 @@
-use Rattle.answers.proofs.SurfaceLaws.{told-given}
+use Rattle.answers.proofs.SurfaceLaws.{numbered-given}
 use borrow.Author.Needs.{needs}
 use Rattle.capi.proofs.opening.hz_solver_from_global.Statement.{statement}
 use Rattle.capi.proofs.opening.hz_solver_from_global.Tie as tie
@@ -10,7 +10,7 @@ solver-out-requires : tie.Need-solver-out-requires
 solver-out-requires c κs = search needs
 
 returns : tie.Need-returns
-returns c = told-given (c .before .get-solver-from-global .ensures) (c .solver-out .ensures)
+returns c = numbered-given (c .before .get-solver-from-global .ensures) (c .solver-out .ensures _)
 
 pub hz-solver-from-global-spec : {M : Type 1} → statement M
 hz-solver-from-global-spec =

@@ -1,4 +1,4 @@
-use Rattle.answers.proofs.SurfaceLaws.{told-given}
+use Rattle.answers.proofs.SurfaceLaws.{numbered-given}
 use borrow.Author.Needs.{needs}
 use Rattle.capi.proofs.opening.hz_user_from_global.Statement.{statement}
 use Rattle.capi.proofs.opening.hz_user_from_global.Tie as tie
@@ -10,7 +10,7 @@ user-out-requires : tie.Need-user-out-requires
 user-out-requires c κs = search needs
 
 returns : tie.Need-returns
-returns c = told-given (c .before .get-user-from-global .ensures) (c .user-out .ensures)
+returns c = numbered-given (c .before .get-user-from-global .ensures) (c .user-out .ensures _)
 
 pub hz-user-from-global-spec : {M : Type 1} → statement M
 hz-user-from-global-spec =

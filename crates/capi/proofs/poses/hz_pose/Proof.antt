@@ -1,4 +1,4 @@
-use Rattle.answers.proofs.SurfaceLaws.{told-given}
+use Rattle.answers.proofs.SurfaceLaws.{numbered-given}
 use borrow.Author.Needs.{needs}
 use Rattle.capi.proofs.poses.hz_pose.Statement.{statement}
 use Rattle.capi.proofs.poses.hz_pose.Tie as tie
@@ -36,7 +36,7 @@ same-length-8 c = search needs
 returns : tie.Need-returns
 returns c =
     let e = c .before .before .before .before .before .before .before .before .before .before .before .before .before .before .before .before .before .solver-from-user-lits .ensures in
-    (told-given (e .0) (c .posed-out .ensures), e .1)
+    (numbered-given (e .0) (c .posed-out .ensures), e .1)
 
 pub hz-pose-spec : {M : Type 1} → statement M
 hz-pose-spec =

@@ -1,4 +1,4 @@
-use Rattle.answers.proofs.SurfaceLaws.{told-given}
+use Rattle.answers.proofs.SurfaceLaws.{numbered-given}
 use borrow.Author.Needs.{needs}
 use Rattle.capi.proofs.showing.hz_observe.Statement.{statement}
 use Rattle.capi.proofs.showing.hz_observe.Tie as tie
@@ -27,7 +27,7 @@ same-length-5 c = search needs
 returns : tie.Need-returns
 returns c =
     let e = c .before .before .before .before .before .before .before .before .before .before .before .observe-internal-vars .ensures in
-    (told-given (e .0) (c .observed-out .ensures), e .1)
+    (numbered-given (e .0) (c .observed-out .ensures), e .1)
 
 pub hz-observe-spec : {M : Type 1} → statement M
 hz-observe-spec =

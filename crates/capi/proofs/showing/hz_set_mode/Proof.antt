@@ -1,7 +1,7 @@
 use mathlib.Core.Path.{refl, sym, ap, _∙_}
-use Rattle.numbers.specs.Numbers.{asMode}
+use Rattle.numbers.specs.Meant.{meantMode}
 use Rattle.numbers.proofs.NumberLaws.{known-is, unknown-is}
-use Rattle.answers.proofs.SurfaceLaws.{same-given, refused-given, told-given}
+use Rattle.answers.proofs.SurfaceLaws.{same-given, refused-given, numbered-given}
 use borrow.Author.Needs.{needs}
 use Rattle.capi.proofs.showing.hz_set_mode.Statement.{statement}
 use Rattle.capi.proofs.showing.hz_set_mode.Tie as tie
@@ -16,7 +16,7 @@ enum-told : tie.Need-enum-told
 enum-told c = search needs
 
 returns : tie.Need-returns
-returns c = same-given (unknown-is _ _ (sym (c .before .before .mode-in .ensures) ∙ ap asMode (c .enum-told .given .1))) (refused-given refl)
+returns c = same-given (unknown-is _ _ (sym (c .before .before .mode-in .ensures) ∙ ap meantMode (c .enum-told .given .1))) (refused-given refl)
 
 set-sampling-mode-requires : tie.Need-set-sampling-mode-requires
 set-sampling-mode-requires c κs = search needs
@@ -38,8 +38,8 @@ same-length-4 c = search needs
 
 returns-2 : tie.Need-returns-2
 returns-2 c =
-    same-given (known-is _ _ (sym (c .before .before .before .before .before .before .before .before .before .before .before .before .before .before .before .before .before .mode-in .ensures) ∙ ap asMode (c .before .before .before .before .before .before .before .before .before .before .before .before .before .before .before .m .given .1)))
-    (told-given (c .before .before .before .before .before .before .before .before .before .set-sampling-mode .ensures) (c .mode-set-out .ensures))
+    same-given (known-is _ _ (sym (c .before .before .before .before .before .before .before .before .before .before .before .before .before .before .before .before .before .mode-in .ensures) ∙ ap meantMode (c .before .before .before .before .before .before .before .before .before .before .before .before .before .before .before .m .given .1)))
+    (numbered-given (c .before .before .before .before .before .before .before .before .before .set-sampling-mode .ensures) (c .mode-set-out .ensures))
 
 pub hz-set-mode-spec : {M : Type 1} → statement M
 hz-set-mode-spec =
