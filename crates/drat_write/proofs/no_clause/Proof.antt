@@ -35,7 +35,8 @@ all-below-requires c κs = search needs
 returns-4 : tie.Need-returns-4
 returns-4 c =
     let a = c .before .before .before .before .before .before .args in
-    ap not (c .all-below .ensures) ∙ sym (outside-codes (a .buf .now) (a .a) (a .b) (c .before .before .before .before .if1 .left) (c .before .before .before .if2 .left) (c .before .before .if3 .left))
+    ap not (c .all-below .ensures) ∙ sym (outside-codes (a .buf .now) (a .a) (a .b) (c .before .before .before .before .if1 .left)
+    (c .before .before .before .if2 .left) (c .before .before .if3 .left))
 
 pub no-clause-spec : {M : Type 1} → statement M
 no-clause-spec =
