@@ -9,55 +9,40 @@ use Rattle.drat.specs.Filled.{codesOf, endsFrom, kindsOf, answerOf, firs
 use Rattle.drat.specs.Listed.{listed, risesTo}
 use Rattle.drat.specs.Anchors.{Agree, literals, written, reads, firsts, answers, parts, wholes}
 
-infixr 20 _and_
-_and_ : {A B : Type 0} → A → B → A × B
-x and y = (x, y)
-
 literals-hold : Agree literals
 unfolding allBelow spell further bytesOf number numbers encodeStep encode digitsFrom signedFrom thenBlank lebFrom endFrom lineFrom token blankFrom opening
     consPart body asStep oneStep consStep stepsFrom readProof codesOf endsFrom kindsOf answerOf firstBy listed risesTo
-literals-hold =
-    refl and refl and refl and refl and refl and refl and refl and refl and refl and refl and refl and refl and refl and refl and refl and
-    tt
+literals-hold = (refl, (refl, (refl, (refl, (refl, (refl, (refl, (refl, (refl, (refl, (refl, (refl, (refl, (refl, (refl, tt)))))))))))))))
 
 written-hold : Agree written
 unfolding allBelow spell further bytesOf number numbers encodeStep encode digitsFrom signedFrom thenBlank lebFrom endFrom lineFrom token blankFrom opening
     consPart body asStep oneStep consStep stepsFrom readProof codesOf endsFrom kindsOf answerOf firstBy listed risesTo
-written-hold =
-    refl and refl and refl and refl and refl and refl and refl and refl and refl and refl and refl and tt
+written-hold = (refl, (refl, (refl, (refl, (refl, (refl, (refl, (refl, (refl, (refl, (refl, tt)))))))))))
 
 reads-hold : Agree reads
 unfolding allBelow spell further bytesOf number numbers encodeStep encode digitsFrom signedFrom thenBlank lebFrom endFrom lineFrom token blankFrom opening
     consPart body asStep oneStep consStep stepsFrom readProof codesOf endsFrom kindsOf answerOf firstBy listed risesTo
-reads-hold =
-    refl and refl and refl and refl and refl and refl and refl and refl and refl and refl and refl and refl and refl and refl and refl and
-    refl and refl and refl and refl and refl and refl and refl and refl and refl and refl and refl and refl and refl and refl and refl and
-    refl and refl and refl and refl and refl and refl and refl and refl and refl and refl and refl and refl and refl and refl and refl and
-    refl and refl and refl and refl and refl and tt
+reads-hold = (refl, (refl, (refl, (refl, (refl, (refl, (refl, (refl, (refl, (refl, (refl, (refl, (refl, (refl, (refl, (refl, (refl, (refl, (refl, (refl, (refl, (refl, (refl, (refl, (refl, (refl, (refl, (refl, (refl, (refl, (refl, (refl, (refl, (refl, (refl, (refl, (refl, (refl, (refl, (refl, (refl, (refl, (refl, (refl, (refl, (refl, (refl, (refl, (refl, (refl, tt))))))))))))))))))))))))))))))))))))))))))))))))))
 
 firsts-hold : Agree firsts
 unfolding allBelow spell further bytesOf number numbers encodeStep encode digitsFrom signedFrom thenBlank lebFrom endFrom lineFrom token blankFrom opening
     consPart body asStep oneStep consStep stepsFrom readProof codesOf endsFrom kindsOf answerOf firstBy listed risesTo
-firsts-hold =
-    refl and refl and refl and refl and refl and refl and refl and refl and refl and refl and tt
+firsts-hold = (refl, (refl, (refl, (refl, (refl, (refl, (refl, (refl, (refl, (refl, tt))))))))))
 
 answers-hold : Agree answers
 unfolding allBelow spell further bytesOf number numbers encodeStep encode digitsFrom signedFrom thenBlank lebFrom endFrom lineFrom token blankFrom opening
     consPart body asStep oneStep consStep stepsFrom readProof codesOf endsFrom kindsOf answerOf firstBy listed risesTo
-answers-hold =
-    refl and refl and refl and refl and refl and refl and refl and refl and tt
+answers-hold = (refl, (refl, (refl, (refl, (refl, (refl, (refl, (refl, tt))))))))
 
 parts-hold : Agree parts
 unfolding allBelow spell further bytesOf number numbers encodeStep encode digitsFrom signedFrom thenBlank lebFrom endFrom lineFrom token blankFrom opening
     consPart body asStep oneStep consStep stepsFrom readProof codesOf endsFrom kindsOf answerOf firstBy listed risesTo
-parts-hold =
-    refl and refl and refl and refl and refl and refl and refl and refl and refl and tt
+parts-hold = (refl, (refl, (refl, (refl, (refl, (refl, (refl, (refl, (refl, tt)))))))))
 
 wholes-hold : Agree wholes
 unfolding allBelow spell further bytesOf number numbers encodeStep encode digitsFrom signedFrom thenBlank lebFrom endFrom lineFrom token blankFrom opening
     consPart body asStep oneStep consStep stepsFrom readProof codesOf endsFrom kindsOf answerOf firstBy listed risesTo
-wholes-hold =
-    refl and refl and refl and refl and refl and refl and refl and refl and refl and refl and refl and tt
+wholes-hold = (refl, (refl, (refl, (refl, (refl, (refl, (refl, (refl, (refl, (refl, (refl, tt)))))))))))
 
 pub anchored : Agree literals × Agree written × Agree reads × Agree firsts × Agree answers × Agree parts × Agree wholes
 anchored = (literals-hold, written-hold, reads-hold, firsts-hold, answers-hold, parts-hold, wholes-hold)
