@@ -120,16 +120,16 @@ token-ends Text i l = ap Stop (omega arith)
 token-ends Binary i l = refl
 
 -- a text step's first byte after its opening is no `d`
-text-first : {bs cs : List ℕ} → Body Text bs cs → (b : ℕ) × (m : List ℕ) × (bs ≡ b ∷ m) × (b < 100)
-text-first last = (48, 10 ∷ [], refl, omega arith)
-text-first (lit {rest = r} (spaced n) t) =
+body-first : {bs cs : List ℕ} → Body Text bs cs → (b : ℕ) × (m : List ℕ) × (bs ≡ b ∷ m) × (b < 100)
+body-first last = (48, 10 ∷ [], refl, omega arith)
+body-first (lit {rest = r} (spaced n) t) =
     let f = signed-first n in
     (f .0, (f .1 ++ 32 ∷ []) ++ r, ap (λ (m : List ℕ). (m ++ 32 ∷ []) ++ r) (f .2), f .3)
 
 pub opening-read : (f : Format) (k : Kind) {bs cs : List ℕ} → Body f bs cs → (i : ℕ) (l : List ℕ)
     → opening f i ((opens f k ++ bs) ++ l) ≡ Opens k (i + length (opens f k))
 unfolding opening blankFrom
-opening-read Text Add h i l = let f = text-first h in rw (f .2) (simp (ne-eqb (f .0) 100 (omega arith)) (ap (Opens Add) (omega arith)))
+opening-read Text Add h i l = let f = body-first h in rw (f .2) (simp (ne-eqb (f .0) 100 (omega arith)) (ap (Opens Add) (omega arith)))
 opening-read Text Delete h i l = ap (Opens Delete) (omega arith)
 opening-read Binary Add h i l = refl
 opening-read Binary Delete h i l = refl

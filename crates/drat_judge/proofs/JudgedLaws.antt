@@ -242,9 +242,9 @@ module _ (x : ℕ) (l : List ℕ) (h : TextHere l) where
       (λ (z : (digit x ≡ true) × (over a b c p x ≡ false)). absurd (no-fifth a b c p x ha hb hc (z .1)))
       (digit-next a b c p x (i .0) (i .1) (not-closing-after c p hc) (r .0))
 
-text-here : (l : List ℕ) → TextHere l
-text-here [] = text-none
-text-here (x ∷ l) = text-more (text-here l)
+text-judged : (l : List ℕ) → TextHere l
+text-judged [] = text-none
+text-judged (x ∷ l) = text-more (text-judged l)
   where
     text-more : TextHere l → TextHere (x ∷ l)
     text-more h =
@@ -312,14 +312,14 @@ module _ (x : ℕ) (l : List ℕ) (hx : x < 256) (h : BinaryHere l) where
       with-number Binary (p ∷ x ∷ []) l (p - 128 + 128 * x - 2) (code (omega arith) (subst₂ (λ (y m : ℕ). Numeral leb128 (y ∷ x ∷ []) m) w v n))
       (h .item b c p x (omega arith) (omega arith) (r .1))
 
-binary-here : (l : List ℕ) → Bytes l → BinaryHere l
-binary-here [] hb = binary-none
-binary-here (x ∷ l) hb = binary-more (binary-here l (λ k. hb (suc k)))
+binary-judged : (l : List ℕ) → Bytes l → BinaryHere l
+binary-judged [] hb = binary-none
+binary-judged (x ∷ l) hb = binary-more (binary-judged l (λ k. hb (suc k)))
   where
     binary-more : BinaryHere l → BinaryHere (x ∷ l)
     binary-more h = record { start = binary-start x l (hb 0) h; item = binary-item x l (hb 0) h; second = binary-second x l (hb 0) h }
 
 -- bytes that are judged whole spell steps
 pub judged-spells : (f : Format) (l : List ℕ) → Bytes l → judged f l ≡ true → StepsHere f l
-judged-spells Text l hb e = text-here l .start 10 10 10 e
-judged-spells Binary l hb e = binary-here l hb .start 0 0 0 e
+judged-spells Text l hb e = text-judged l .start 10 10 10 e
+judged-spells Binary l hb e = binary-judged l hb .start 0 0 0 e

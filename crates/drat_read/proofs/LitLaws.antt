@@ -75,8 +75,8 @@ pub token-inside : (f : Format) (s : List ℕ) (i c j : ℕ) → token f i (drop
 token-inside f s i c j e = standing s i (token f i (drop i s)) c j e (λ h. token-past s i h f)
 
 -- a byte above 0 stands in the input
-filled : (s : List ℕ) (i : ℕ) → 0 < getD s i 0 → i < length s
-filled s i h = ⊎-elim (λ (k : i < length s). k) (λ (k : length s ≤ i). absurd (omega (arith, List·getD-eq-default s 0 k))) (split i (length s))
+byte-inside : (s : List ℕ) (i : ℕ) → 0 < getD s i 0 → i < length s
+byte-inside s i h = ⊎-elim (λ (k : i < length s). k) (λ (k : length s ≤ i). absurd (omega (arith, List·getD-eq-default s 0 k))) (split i (length s))
 
 -- a number: an optional minus, then digits
 pub signed-digits : (s : List ℕ) (i sign : ℕ) → i < length s → sign ≡ pick (eqb (getD s i 0) 45) 1 0
@@ -107,7 +107,7 @@ text-number s i sign c j h n q e =
     let m = signed-moves i (drop i s) c (r .0) (r .1) in
     let k : i + (r .0 - i) ≡ r .0 = omega (arith, m .0) in
     let b : getD s (r .0) 0 ≡ 32 = sym (getD-drop i s (r .0 - i) 0 ∙ ap (λ (x : ℕ). getD s x 0) k) ∙ r .3 in
-    record { code = c; next = r .0; is = sym (signed-digits s i sign h q) ∙ r .1; inside = filled s (r .0) (omega arith); below = omega arith }
+    record { code = c; next = r .0; is = sym (signed-digits s i sign h q) ∙ r .1; inside = byte-inside s (r .0) (omega arith); below = omega arith }
 
 pub text-read : (s : List ℕ) (i sign c k : ℕ) (t : IsLit (token Text i (drop i s))) → i < length s → (getD s i 0 ≡ 48 → ⊥)
     → sign ≡ pick (eqb (getD s i 0) 45) 1 0
