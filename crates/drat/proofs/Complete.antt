@@ -10,9 +10,11 @@ use lib.Seq.{drop-at, getD-append-add}
 use borrow.Author.Tests.{ne-eqb, lt-ltb, le-ltb}
 use Rattle.drat.proofs.Numerals.{numeral-pos, is-in-range}
 use Rattle.drat.specs.Numeral.{digit, decimal, leb128, Numeral, one, more}
-use Rattle.drat.specs.Grammar.{Step, opens, ends, Signed, plus, minus, Number, spaced, code, Body, last, lit, Spells, none, step, encodeStep, encode, Valid}
+use Rattle.drat.specs.Grammar.{Step, opens, ends, Signed, plus, minus, Number, spaced, code, Body, last, lit, Spells, none, step, encodeStep, encode}
+use Rattle.drat.specs.Grammar.{Valid}
 use Rattle.drat.proofs.Written.{encode-spells}
-use Rattle.drat.specs.Reading.{digitsFrom, signedFrom, thenBlank, lebFrom, endFrom, lineFrom, token, blankFrom, opening, whole, broken, consPart, body, got, fault, asStep, oneStep, steps, faultAt, consStep, stepsFrom, readProof}
+use Rattle.drat.specs.Reading.{digitsFrom, signedFrom, thenBlank, lebFrom, endFrom, lineFrom, token, blankFrom, opening, whole, broken, consPart, body}
+use Rattle.drat.specs.Reading.{got, fault, asStep, oneStep, steps, faultAt, consStep, stepsFrom, readProof}
 use Rattle.drat.specs.declared.Kind.{Kind}
 use Rattle.drat.specs.declared.Kind.the-variants.{Add, Delete}
 use Rattle.drat.specs.declared.Format.{Format}
@@ -21,13 +23,15 @@ use Rattle.drat.specs.declared.Token.the-variants.{Lit, Stop, Bad}
 use Rattle.drat.specs.declared.Opening.the-variants.{Opens, Wrong}
 
 -- one decimal digit
-pub digit-read : (sign v d i : ℕ) (l : List ℕ) → d < 10 → 0 < 10 * v + d → 10 * v + d ≤ 4096 → digitsFrom sign v i ((48 + d) ∷ l) ≡ digitsFrom sign (10 * v + d) (i + 1) l
+pub digit-read : (sign v d i : ℕ) (l : List ℕ) → d < 10 → 0 < 10 * v + d → 10 * v + d ≤ 4096
+    → digitsFrom sign v i ((48 + d) ∷ l) ≡ digitsFrom sign (10 * v + d) (i + 1) l
 unfolding digitsFrom
 digit-read sign v d i l hd h0 h1 =
     let e : 48 + d - 48 ≡ d = omega arith in
     simp (e, is-in-range 48 57 (48 + d) (omega arith) (omega arith), ne-eqb (10 * v + d) 0 (omega arith), le-ltb 4096 (10 * v + d) h1)
 
-pub decimal-read : {bs : List ℕ} {v : ℕ} → Numeral decimal bs v → v ≤ 4096 → (sign i : ℕ) (l : List ℕ) → digitsFrom sign 0 i (bs ++ l) ≡ digitsFrom sign v (i + length bs) l
+pub decimal-read : {bs : List ℕ} {v : ℕ} → Numeral decimal bs v → v ≤ 4096 → (sign i : ℕ) (l : List ℕ)
+    → digitsFrom sign 0 i (bs ++ l) ≡ digitsFrom sign v (i + length bs) l
 decimal-read (one {d = d} p q) h sign i l = digit-read sign 0 d i l q (omega arith) (omega arith) ∙ ap (λ (x : ℕ). digitsFrom sign x (i + 1) l) (omega arith)
 decimal-read (more {d = d} {v = v} {bs = bs} p n) h sign i l =
     ap (digitsFrom sign 0 i) (append-assoc bs ((48 + d) ∷ []) l)
@@ -35,7 +39,8 @@ decimal-read (more {d = d} {v = v} {bs = bs} p n) h sign i l =
     ∙ digit-read sign v d (i + length bs) l p (omega (arith, numeral-pos decimal n)) (omega arith)
     ∙ ap₂ (λ (x j : ℕ). digitsFrom sign x j l) (omega arith) (simp length-append (omega arith))
 
-pub leb-read : {bs : List ℕ} {n : ℕ} → Numeral leb128 bs n → (v w i : ℕ) (l : List ℕ) → 0 < w → 2 ≤ v + w * n → v + w * n ≤ 8193 → lebFrom v w i (bs ++ l) ≡ Lit (v + w * n - 2) (i + length bs)
+pub leb-read : {bs : List ℕ} {n : ℕ} → Numeral leb128 bs n → (v w i : ℕ) (l : List ℕ) → 0 < w → 2 ≤ v + w * n → v + w * n ≤ 8193
+    → lebFrom v w i (bs ++ l) ≡ Lit (v + w * n - 2) (i + length bs)
 unfolding lebFrom
 leb-read (one {d = d} p q) v w i l hw h2 h = simp (lt-ltb d 128 q, ne-eqb d 0 (omega arith), le-ltb (v + w * d) 2 h2, le-ltb 8193 (v + w * d) h)
 leb-read (more {d = d} {v = x} {bs = bs} p n) v w i l hw h2 h =
@@ -115,15 +120,16 @@ token-ends Text i l = ap Stop (omega arith)
 token-ends Binary i l = refl
 
 -- a text step's first byte after its opening is no `d`
-text-first : {bs cs : List ℕ} → Body Text bs cs → (b : ℕ) × (m : List ℕ) × (bs ≡ b ∷ m) × (b < 100)
-text-first last = (48, 10 ∷ [], refl, omega arith)
-text-first (lit {rest = r} (spaced n) t) =
+body-first : {bs cs : List ℕ} → Body Text bs cs → (b : ℕ) × (m : List ℕ) × (bs ≡ b ∷ m) × (b < 100)
+body-first last = (48, 10 ∷ [], refl, omega arith)
+body-first (lit {rest = r} (spaced n) t) =
     let f = signed-first n in
     (f .0, (f .1 ++ 32 ∷ []) ++ r, ap (λ (m : List ℕ). (m ++ 32 ∷ []) ++ r) (f .2), f .3)
 
-pub opening-read : (f : Format) (k : Kind) {bs cs : List ℕ} → Body f bs cs → (i : ℕ) (l : List ℕ) → opening f i ((opens f k ++ bs) ++ l) ≡ Opens k (i + length (opens f k))
+pub opening-read : (f : Format) (k : Kind) {bs cs : List ℕ} → Body f bs cs → (i : ℕ) (l : List ℕ)
+    → opening f i ((opens f k ++ bs) ++ l) ≡ Opens k (i + length (opens f k))
 unfolding opening blankFrom
-opening-read Text Add h i l = let f = text-first h in rw (f .2) (simp (ne-eqb (f .0) 100 (omega arith)) (ap (Opens Add) (omega arith)))
+opening-read Text Add h i l = let f = body-first h in rw (f .2) (simp (ne-eqb (f .0) 100 (omega arith)) (ap (Opens Add) (omega arith)))
 opening-read Text Delete h i l = ap (Opens Delete) (omega arith)
 opening-read Binary Add h i l = refl
 opening-read Binary Delete h i l = refl
@@ -173,7 +179,8 @@ body-read {f} (lit {bs = bs} {rest = r} {cs = cs} {c = c} p t) (suc n) i l h =
     ∙ ap (consPart c) (body-read t n (i + length bs) l (omega arith))
     ∙ ap (whole (c ∷ cs)) (simp length-append (omega arith))
 
-pub one-opens : (f : Format) (i : ℕ) (l : List ℕ) (k : Kind) (j : ℕ) → opening f i l ≡ Opens k j → oneStep f i l ≡ asStep k (body f (length l) j (drop (j - i) l))
+pub one-opens : (f : Format) (i : ℕ) (l : List ℕ) (k : Kind) (j : ℕ) → opening f i l ≡ Opens k j
+    → oneStep f i l ≡ asStep k (body f (length l) j (drop (j - i) l))
 unfolding oneStep
 one-opens f i l k j e = rw (e, oneStep)
 
@@ -181,7 +188,8 @@ pub one-wrong : (f : Format) (i : ℕ) (l : List ℕ) → opening f i l ≡ Wron
 unfolding oneStep
 one-wrong f i l e = rw (e, oneStep)
 
-pub step-read : {f : Format} {bs cs : List ℕ} (k : Kind) → Body f bs cs → (i : ℕ) (l : List ℕ) → oneStep f i ((opens f k ++ bs) ++ l) ≡ got (record { kind = k; lits = cs }) (i + length (opens f k ++ bs))
+pub step-read : {f : Format} {bs cs : List ℕ} (k : Kind) → Body f bs cs → (i : ℕ) (l : List ℕ)
+    → oneStep f i ((opens f k ++ bs) ++ l) ≡ got (record { kind = k; lits = cs }) (i + length (opens f k ++ bs))
 unfolding asStep
 step-read {f} {bs} {cs} k h i l =
     let o = opens f k in
@@ -191,7 +199,8 @@ step-read {f} {bs} {cs} k h i l =
     ∙ ap (asStep k) (body-read h (length ((o ++ bs) ++ l)) (i + length o) l (simp length-append (omega (arith, body-length h))))
     ∙ ap (got (record { kind = k; lits = cs })) (simp length-append (omega arith))
 
-pub steps-got : (f : Format) (n i : ℕ) (l : List ℕ) (s : Step) (j : ℕ) → oneStep f i l ≡ got s j → stepsFrom f (suc n) i l ≡ consStep s (stepsFrom f n j (drop (j - i) l))
+pub steps-got : (f : Format) (n i : ℕ) (l : List ℕ) (s : Step) (j : ℕ) → oneStep f i l ≡ got s j
+    → stepsFrom f (suc n) i l ≡ consStep s (stepsFrom f n j (drop (j - i) l))
 unfolding stepsFrom oneStep opening
 steps-got f n i [] s j e = cc
 steps-got f n i (b ∷ l) s j e = rw (e, stepsFrom)

@@ -65,7 +65,8 @@ scan-fault (faultAt j) i e = cc
 
 module _ (f : Format) (s codes ends kinds : List ℕ) where
   -- a call that refuses fills nothing
-  refuses : (r : Read) (n : ℕ) (vs : List ℕ) → read r ≡ refused n vs → readOf f s (length codes) (length ends) (length kinds) ≡ refusing n vs → ReadCall f s codes ends kinds codes ends kinds r
+  refuses : (r : Read) (n : ℕ) (vs : List ℕ) → read r ≡ refused n vs → readOf f s (length codes) (length ends) (length kinds) ≡ refusing n vs
+      → ReadCall f s codes ends kinds codes ends kinds r
   refuses r n vs e h =
       record {
         answer = e ∙ sym (ap (λ (x : Filling). x .answer) h);
@@ -76,7 +77,8 @@ module _ (f : Format) (s codes ends kinds : List ℕ) where
 
   pub call-broken : (i : ℕ) → Fault i ≡ counted (readProof f s) → ReadCall f s codes ends kinds codes ends kinds (Broken i)
   unfolding answerOf
-  call-broken i e = refuses (Broken i) 13 (i ∷ []) refl (ap (λ (p : Proof). answerOf p (length codes) (length ends) (length kinds)) (scan-fault (readProof f s) i e))
+  call-broken i e = refuses (Broken i) 13 (i ∷ []) refl (ap (λ (p : Proof). answerOf p (length codes) (length ends) (length kinds))
+      (scan-fault (readProof f s) i e))
 
   answer-is : (ss : List Step) → readProof f s ≡ steps ss → readOf f s (length codes) (length ends) (length kinds) ≡
       pick (ltb (length codes) (length (codesOf ss)) || ltb (length ends) (length ss) || ltb (length kinds) (length ss)) (refusing 2 []) (filling ss)
@@ -85,7 +87,8 @@ module _ (f : Format) (s codes ends kinds : List ℕ) where
 
   module _ (n m : ℕ) (e : Whole n m ≡ counted (readProof f s)) where
     -- one slice is too short
-    short : (ss : List Step) → readProof f s ≡ steps ss → ltb (length codes) (length (codesOf ss)) || ltb (length ends) (length ss) || ltb (length kinds) (length ss) ≡ true → ReadCall f s codes ends kinds codes ends kinds Short
+    short : (ss : List Step) → readProof f s ≡ steps ss → ltb (length codes) (length (codesOf ss)) || ltb (length ends) (length ss) || ltb (length kinds)
+        (length ss) ≡ true → ReadCall f s codes ends kinds codes ends kinds Short
     short ss h t = refuses Short 2 [] refl (answer-is ss h ∙ ap (λ (b : Bool). pick b (refusing 2 []) (filling ss)) t)
 
     pub call-short₁ : length codes < n → ReadCall f s codes ends kinds codes ends kinds Short
@@ -101,13 +104,24 @@ module _ (f : Format) (s codes ends kinds : List ℕ) where
     pub call-short₃ : n ≤ length codes → m ≤ length ends → length kinds < m → ReadCall f s codes ends kinds codes ends kinds Short
     call-short₃ g h k =
         let w = scan-whole (readProof f s) n m e in
-        short (w .0) (w .1) (simp (le-ltb (length codes) (length (codesOf (w .0))) (omega arith), le-ltb (length ends) (length (w .0)) (omega arith), lt-ltb (length kinds) (length (w .0)) (omega arith)))
+        short (w .0) (w .1) (simp (
+          le-ltb (length codes) (length (codesOf (w .0))) (omega arith),
+          le-ltb (length ends) (length (w .0)) (omega arith),
+          lt-ltb
+              (length kinds) (length (w .0)) (omega arith),
+        ))
 
-    pub call-filled : n ≤ length codes → m ≤ length ends → m ≤ length kinds → (codes′ ends′ kinds′ : List ℕ) (r : Scanned) → Scan f s codes ends kinds codes′ ends′ kinds′ r → ReadCall f s codes ends kinds codes′ ends′ kinds′ (Filled n m)
+    pub call-filled : n ≤ length codes → m ≤ length ends → m ≤ length kinds → (codes′ ends′ kinds′ : List ℕ) (r : Scanned)
+        → Scan f s codes ends kinds codes′ ends′ kinds′ r → ReadCall f s codes ends kinds codes′ ends′ kinds′ (Filled n m)
     call-filled g h k codes′ ends′ kinds′ r q =
         let w = scan-whole (readProof f s) n m e in
         let l = q .filled (w .0) (w .1) in
-        let a : readOf f s (length codes) (length ends) (length kinds) ≡ filling (w .0) = answer-is (w .0) (w .1) ∙ simp (le-ltb (length codes) (length (codesOf (w .0))) (omega arith), le-ltb (length ends) (length (w .0)) (omega arith), le-ltb (length kinds) (length (w .0)) (omega arith)) in
+        let a : readOf f s (length codes) (length ends) (length kinds) ≡ filling (w .0) =
+        answer-is (w .0) (w .1) ∙ simp (
+          le-ltb (length codes) (length (codesOf (w .0))) (omega arith),
+          le-ltb (length ends) (length (w .0)) (omega arith),
+          le-ltb (length kinds) (length (w .0)) (omega arith),
+        ) in
         record {
           answer = ap₂ (λ (x y : ℕ). accepted (x ∷ y ∷ [])) (w .2) (w .3) ∙ sym (ap (λ (x : Filling). x .answer) a);
           codes-after = l .0 ∙ sym (ap (λ (x : Filling). sets codes 0 (x .codes)) a);

@@ -38,7 +38,8 @@ steps-fault-read f zero i (b ∷ l) p hb h e = absurd (omega arith)
 steps-fault-read f (suc n) i [] p hb h e = absurd (steps-fault [] p (sym e))
 steps-fault-read f (suc n) i (b ∷ l) p hb h e = go (oneStep f i (b ∷ l)) refl (λ j m. steps-fault-read f n j m p)
   where
-    go : (o : One) → oneStep f i (b ∷ l) ≡ o → ((j : ℕ) (m : List ℕ) → Bytes m → length m ≤ n → stepsFrom f n j m ≡ faultAt p → FaultRead f j m p) → FaultRead f i (b ∷ l) p
+    go : (o : One) → oneStep f i (b ∷ l) ≡ o → ((j : ℕ) (m : List ℕ) → Bytes m → length m ≤ n → stepsFrom f n j m ≡ faultAt p → FaultRead f j m p)
+        → FaultRead f i (b ∷ l) p
     go (got s j) o ih =
         let r = step-sound f i (b ∷ l) s j hb o in
         let bs = opens f (s .kind) ++ r .bytes in

@@ -40,12 +40,14 @@ rises-le m n [] h = omega (arith, eqb-true n m h)
 rises-le m n (e ∷ es) h = omega (arith, leb-true n e (and-left (leb n e) (risesTo m e es) h), rises-le m e es (and-right (leb n e) (risesTo m e es) h))
 
 -- the flag of a pass over the ends
-pub rises-more : (ok : Bool) (m n : ℕ) (es : List ℕ) (i : ℕ) → i < length es → (ok && leb n (getD es i 0)) && risesTo m (getD es i 0) (drop (i + 1) es) ≡ ok && risesTo m n (drop i es)
+pub rises-more : (ok : Bool) (m n : ℕ) (es : List ℕ) (i : ℕ) → i < length es
+    → (ok && leb n (getD es i 0)) && risesTo m (getD es i 0) (drop (i + 1) es) ≡ ok && risesTo m n (drop i es)
 rises-more true m n es i h = sym (rises-next m n es i h)
 rises-more false m n es i h = refl
 
 -- the next end lies between, and the ends after it rise
-pub rises-at : (m n : ℕ) (es : List ℕ) (i : ℕ) → i < length es → risesTo m n (drop i es) ≡ true → (n ≤ getD es i 0) × (getD es i 0 ≤ m) × (risesTo m (getD es i 0) (drop (i + 1) es) ≡ true)
+pub rises-at : (m n : ℕ) (es : List ℕ) (i : ℕ) → i < length es → risesTo m n (drop i es) ≡ true → (n ≤ getD es i 0) × (getD es i 0 ≤ m)
+    × (risesTo m (getD es i 0) (drop (i + 1) es) ≡ true)
 rises-at m n es i h r =
     let e = getD es i 0 in
     let x = sym (rises-next m n es i h) ∙ r in
@@ -55,7 +57,8 @@ rises-at m n es i h r =
 -- ---- steps, one more
 
 pub listed-next : (codes : List ℕ) (n : ℕ) (es ks : List ℕ) (i : ℕ) → i < length es → i < length ks
-    → listed codes n (drop i es) (drop i ks) ≡ stepOf (kindAt (getD ks i 0)) (part n (getD es i 0) codes) ∷ listed codes (getD es i 0) (drop (i + 1) es) (drop (i + 1) ks)
+    → listed codes n (drop i es) (drop i ks) ≡ stepOf (kindAt (getD ks i 0)) (part n (getD es i 0) codes) ∷ listed codes (getD es i 0) (drop (i + 1) es)
+    (drop (i + 1) ks)
 unfolding listed
 listed-next codes n es ks i h k = ap₂ (listed codes n) (next es i h) (next ks i k)
 
@@ -93,7 +96,8 @@ unfoldable pub frames : Format → List ℕ → ℕ
 frames f [] = 0
 frames f (k ∷ ks) = length (opens f (kindAt k)) + length (ends f) + frames f ks
 
-pub frames-next : (f : Format) (ks : List ℕ) (i : ℕ) → i < length ks → frames f (drop i ks) ≡ length (opens f (kindAt (getD ks i 0))) + length (ends f) + frames f (drop (i + 1) ks)
+pub frames-next : (f : Format) (ks : List ℕ) (i : ℕ) → i < length ks
+    → frames f (drop i ks) ≡ length (opens f (kindAt (getD ks i 0))) + length (ends f) + frames f (drop (i + 1) ks)
 unfolding frames
 frames-next f ks i h = ap (frames f) (next ks i h)
 
@@ -138,7 +142,8 @@ listed-length f codes n (e ∷ es) (k ∷ ks) l h =
     ∙ omega (arith, p, q, step-length f (kindAt k) (part n e codes), listed-length f codes e es ks (omega arith) b)
 
 -- at most six a literal and four a step
-pub listed-le : (f : Format) (codes es ks : List ℕ) → Codes codes → length es ≡ length ks → risesTo (length codes) 0 es ≡ true → length (encode f (listed codes 0 es ks)) ≤ 6 * length codes + 4 * length es
+pub listed-le : (f : Format) (codes es ks : List ℕ) → Codes codes → length es ≡ length ks → risesTo (length codes) 0 es ≡ true
+    → length (encode f (listed codes 0 es ks)) ≤ 6 * length codes + 4 * length es
 listed-le f codes es ks h l r = omega (arith, listed-length f codes 0 es ks l r, numbers-le f codes h, frames-le f ks)
 
 -- ---- the reader gives the lists back
@@ -149,7 +154,8 @@ listed-valid codes n [] ks h = tt
 listed-valid codes n (e ∷ es) [] h = tt
 listed-valid codes n (e ∷ es) (k ∷ ks) h = (codes-part n e codes h, listed-valid codes e es ks h)
 
-listed-codes : (codes : List ℕ) (n : ℕ) (es ks : List ℕ) → length es ≡ length ks → risesTo (length codes) n es ≡ true → codesOf (listed codes n es ks) ≡ drop n codes
+listed-codes : (codes : List ℕ) (n : ℕ) (es ks : List ℕ) → length es ≡ length ks → risesTo (length codes) n es ≡ true
+    → codesOf (listed codes n es ks) ≡ drop n codes
 unfolding listed risesTo codesOf
 listed-codes codes n [] [] l h = sym (rest-none n codes h)
 listed-codes codes n [] (k ∷ ks) l h = absurd (omega arith)
@@ -180,12 +186,14 @@ kind-back k h = go (eqb k 0) refl
     go true e = sym (eqb-true k 0 e)
     go false e = omega (arith, eqb-false k 0 e)
 
-listed-kinds : (codes : List ℕ) (n : ℕ) (es ks : List ℕ) → length es ≡ length ks → ((i : ℕ) → i < length ks → getD ks i 0 < 2) → kindsOf (listed codes n es ks) ≡ ks
+listed-kinds : (codes : List ℕ) (n : ℕ) (es ks : List ℕ) → length es ≡ length ks → ((i : ℕ) → i < length ks → getD ks i 0 < 2)
+    → kindsOf (listed codes n es ks) ≡ ks
 unfolding listed kindsOf
 listed-kinds codes n [] [] l h = refl
 listed-kinds codes n [] (k ∷ ks) l h = absurd (omega arith)
 listed-kinds codes n (e ∷ es) [] l h = absurd (omega arith)
-listed-kinds codes n (e ∷ es) (k ∷ ks) l h = ap₂ (λ (x : ℕ) (y : List ℕ). x ∷ y) (kind-back k (h 0 (omega arith))) (listed-kinds codes e es ks (omega arith) (λ i j. h (suc i) (omega arith)))
+listed-kinds codes n (e ∷ es) (k ∷ ks) l h = ap₂ (λ (x : ℕ) (y : List ℕ). x ∷ y) (kind-back k (h 0 (omega arith)))
+    (listed-kinds codes e es ks (omega arith) (λ i j. h (suc i) (omega arith)))
 
 pub listed-count : (codes : List ℕ) (n : ℕ) (es ks : List ℕ) → length es ≡ length ks → length (listed codes n es ks) ≡ length es
 unfolding listed
@@ -206,7 +214,8 @@ module _ (codes es ks : List ℕ) where
   pub unlisted-ends : codesTest codes ≡ true → eqb (length es) (length ks) ≡ true → risesTo (length codes) 0 es ≡ false → unlisted codes es ks ≡ true
   unlisted-ends h k l = rw (h, k, l)
 
-  pub unlisted-kinds : codesTest codes ≡ true → eqb (length es) (length ks) ≡ true → risesTo (length codes) 0 es ≡ true → unlisted codes es ks ≡ not (kindsTest ks)
+  pub unlisted-kinds : codesTest codes ≡ true → eqb (length es) (length ks) ≡ true → risesTo (length codes) 0 es ≡ true
+      → unlisted codes es ks ≡ not (kindsTest ks)
   unlisted-kinds h k l = rw (h, k, l)
 
   pub record Listed : Type 0 where
@@ -232,16 +241,27 @@ module _ (codes es ks : List ℕ) where
     pub all-unlisted : unlisted codes es ks ≡ true → writeAllOf f codes es ks room ≡ record { answer = refused 3 []; bytes = [] }
     all-unlisted h = rw h
 
-    pub all-lacking : unlisted codes es ks ≡ false → room < length (encode f (listed codes 0 es ks)) → writeAllOf f codes es ks room ≡ record { answer = refused 2 []; bytes = [] }
+    pub all-lacking : unlisted codes es ks ≡ false → room < length (encode f (listed codes 0 es ks))
+        → writeAllOf f codes es ks room ≡ record { answer = refused 2 []; bytes = [] }
     all-lacking h l = rw (h, lt-ltb room (0 + length (encode f (listed codes 0 es ks))) (omega (arith, l)))
 
     pub all-done : unlisted codes es ks ≡ false → length (encode f (listed codes 0 es ks)) ≤ room
-        → writeAllOf f codes es ks room ≡ record { answer = accepted ((0 + length (encode f (listed codes 0 es ks))) ∷ []); bytes = encode f (listed codes 0 es ks) }
+        → writeAllOf f codes es ks room ≡ record {
+          answer = accepted ((0 + length (encode f (listed codes 0 es ks))) ∷ []);
+          bytes =
+              encode f (listed codes 0 es ks);
+        }
     all-done h l = rw (h, le-ltb room (0 + length (encode f (listed codes 0 es ks))) (omega (arith, l)))
 
   -- What is written is read back as the three lists, in slices that just hold them.
   pub read-back : (f : Format) → unlisted codes es ks ≡ false
-      → readOf f (encode f (listed codes 0 es ks)) (length codes) (length es) (length ks) ≡ record { answer = accepted (length codes ∷ length es ∷ []); codes = codes; ends = es; kinds = ks }
+      → readOf f (encode f (listed codes 0 es ks)) (length codes) (length es) (length ks) ≡ record {
+        answer = accepted (length codes ∷ length es ∷ []);
+        codes =
+            codes;
+        ends = es;
+        kinds = ks;
+      }
   unfolding answerOf
   read-back f h =
       let l = is-listed h in
@@ -251,4 +271,13 @@ module _ (codes es ks : List ℕ) where
       let k = listed-kinds codes 0 es ks (l .paired) (l .kinded) in
       let n = listed-count codes 0 es ks (l .paired) in
       ap (λ p. answerOf p (length codes) (length es) (length ks)) (round-trip f ss (listed-valid codes 0 es ks (l .coded)))
-      ∙ rw (c, e, k, n, le-ltb (length codes) (length codes) (omega arith), le-ltb (length es) (length es) (omega arith), le-ltb (length ks) (length es) (omega (arith, l .paired)))
+      ∙ rw (
+        c,
+        e,
+        k,
+        n,
+        le-ltb (length codes) (length codes) (omega arith),
+        le-ltb (length es) (length es) (omega arith),
+        le-ltb (length ks) (length es)
+            (omega (arith, l .paired)),
+      )

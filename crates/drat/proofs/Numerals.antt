@@ -4,7 +4,8 @@ use mathlib.Core.Path.{_≡_, refl, sym, ap, _∙_, subst}
 use mathlib.Core.List.{List}
 use mathlib.Core.Bool.{Bool, true, false}
 use native.Mathlib.Omega.{arith}
-use native.Mathlib.Nat.{mod-add-div, mod-lt, mod-eq-of-lt, div-lt-self, div-eq-of-lt, le-div-iff-mul-le, pos-of-div-pos, add-mul-div-left, add-mul-mod-self-left}
+use native.Mathlib.Nat.{mod-add-div, mod-lt, mod-eq-of-lt, div-lt-self, div-eq-of-lt, le-div-iff-mul-le, pos-of-div-pos, add-mul-div-left}
+use native.Mathlib.Nat.{add-mul-mod-self-left}
 use lib.Dec.{leb, ltb}
 use borrow.Author.Tests.{leb-true, le-leb, lt-leb, ltb-true, ltb-false}
 use Rattle.base.proofs.BelowLaws.{and-left, and-right, and-both, and-not-left, and-not-right}
@@ -83,7 +84,8 @@ pub numeral-bytes : (r : Radix) → 1 < r .base → {bs : List ℕ} {n : ℕ} �
 unfolding bytesOf
 numeral-bytes r hb {bs} {n} h =
     let s = numeral-spell r h in
-    let e = digits-once (r .base) (s .0) (further (r .base) n n) n (s .1 .0) (further-digits (r .base) hb n n (omega arith) (digits-pos (r .base) (s .0) n (s .1 .0))) in
+    let e = digits-once (r .base) (s .0) (further (r .base) n n) n (s .1 .0)
+    (further-digits (r .base) hb n n (omega arith) (digits-pos (r .base) (s .0) n (s .1 .0))) in
     s .1 .1 ∙ ap (λ (k : ℕ). spell r k n) e
 
 pub numeral-pos : (r : Radix) {bs : List ℕ} {n : ℕ} → Numeral r bs n → 0 < n

@@ -6,13 +6,15 @@ use native.Mathlib.Omega.{arith}
 use lib.ListN.{length, getD, drop, length-append, length-drop, drop-of-length-le}
 use lib.Seq.{drop-drop, getD-drop}
 use Rattle.drat.specs.Grammar.{Step, opens, ends}
-use Rattle.drat.specs.Reading.{signedFrom, token, opening, Part, whole, broken, consPart, body, One, got, fault, asStep, oneStep, Proof, steps, faultAt, consStep, stepsFrom, readProof}
+use Rattle.drat.specs.Reading.{signedFrom, token, opening, Part, whole, broken, consPart, body, One, got, fault, asStep, oneStep, Proof, steps, faultAt}
+use Rattle.drat.specs.Reading.{consStep, stepsFrom, readProof}
 use Rattle.drat.specs.declared.Kind.{Kind}
 use Rattle.drat.specs.declared.Format.{Format}
 use Rattle.drat.specs.declared.Token.{Token}
 use Rattle.drat.specs.declared.Token.the-variants.{Lit, Stop, Bad}
 use Rattle.drat.specs.declared.Opening.the-variants.{Opens, Wrong}
-use Rattle.drat.proofs.Complete.{signed-first, number-length, body-length, ends-some, body-lit, body-stop, body-bad, one-opens, one-wrong, steps-got, steps-not}
+use Rattle.drat.proofs.Complete.{signed-first, number-length, body-length, ends-some, body-lit, body-stop, body-bad, one-opens, one-wrong, steps-got}
+use Rattle.drat.proofs.Complete.{steps-not}
 use Rattle.drat.proofs.Steps.{next}
 use Rattle.drat.proofs.Sound.{Bytes, signed-sound, token-sound, token-stop, opening-sound, step-sound}
 
@@ -46,7 +48,14 @@ open-moves f i l k j e =
 pub step-moves : (f : Format) (i : ℕ) (l : List ℕ) (s : Step) (j : ℕ) → Bytes l → oneStep f i l ≡ got s j → (i < j) × (j ≤ i + length l)
 step-moves f i l s j hb e =
     let r = step-sound f i l s j hb e in
-    omega (arith, r .place, body-length (r .spelled), length-append (opens f (s .kind)) (r .bytes), ap length (r .split) ∙ length-append (opens f (s .kind) ++ r .bytes) (r .rest))
+    omega (
+      arith,
+      r .place,
+      body-length (r .spelled),
+      length-append (opens f (s .kind)) (r .bytes),
+      ap length (r .split)
+          ∙ length-append (opens f (s .kind) ++ r .bytes) (r .rest),
+    )
 
 bytes-drop : (n : ℕ) (l : List ℕ) → Bytes l → Bytes (drop n l)
 bytes-drop n l h k = rw getD-drop (h (n + k))
@@ -64,7 +73,8 @@ body-depth f (suc n) zero i [] hb p q = refl
 body-depth f (suc n) zero i (b ∷ l) hb p q = absurd (omega arith)
 body-depth f (suc n) (suc m) i l hb p q = go (token f i l) refl (λ j. body-depth f n m j (drop (j - i) l) (bytes-drop (j - i) l hb))
   where
-    go : (t : Token) → token f i l ≡ t → ((j : ℕ) → length (drop (j - i) l) ≤ n → length (drop (j - i) l) ≤ m → body f n j (drop (j - i) l) ≡ body f m j (drop (j - i) l)) → body f (suc n) i l ≡ body f (suc m) i l
+    go : (t : Token) → token f i l ≡ t → ((j : ℕ) → length (drop (j - i) l) ≤ n → length (drop (j - i) l) ≤ m
+        → body f n j (drop (j - i) l) ≡ body f m j (drop (j - i) l)) → body f (suc n) i l ≡ body f (suc m) i l
     go (Lit c j) t ih =
         let v = lit-moves f i l c j hb t in
         let w = shorter i j l (v .0) (v .1) in
@@ -82,7 +92,8 @@ steps-depth f (suc n) zero i (b ∷ l) hb p q = absurd (omega arith)
 steps-depth f (suc n) (suc m) i [] hb p q = refl
 steps-depth f (suc n) (suc m) i (b ∷ l) hb p q = go (oneStep f i (b ∷ l)) refl (λ j. steps-depth f n m j (drop (j - i) (b ∷ l)) (bytes-drop (j - i) (b ∷ l) hb))
   where
-    go : (o : One) → oneStep f i (b ∷ l) ≡ o → ((j : ℕ) → length (drop (j - i) (b ∷ l)) ≤ n → length (drop (j - i) (b ∷ l)) ≤ m → stepsFrom f n j (drop (j - i) (b ∷ l)) ≡ stepsFrom f m j (drop (j - i) (b ∷ l))) → stepsFrom f (suc n) i (b ∷ l) ≡ stepsFrom f (suc m) i (b ∷ l)
+    go : (o : One) → oneStep f i (b ∷ l) ≡ o → ((j : ℕ) → length (drop (j - i) (b ∷ l)) ≤ n → length (drop (j - i) (b ∷ l)) ≤ m
+        → stepsFrom f n j (drop (j - i) (b ∷ l)) ≡ stepsFrom f m j (drop (j - i) (b ∷ l))) → stepsFrom f (suc n) i (b ∷ l) ≡ stepsFrom f (suc m) i (b ∷ l)
     go (got s j) o ih =
         let v = step-moves f i (b ∷ l) s j hb o in
         let w = shorter i j (b ∷ l) (v .0) (v .1) in
@@ -122,14 +133,20 @@ module _ (f : Format) (s : List ℕ) (hb : Bytes s) where
   unfolding bodyAt
   stop-at i h j e =
       let v = stop-moves f i (drop i s) j e in
-      let w = length-drop i s in
-      (body-depth f (length s) (suc (length s)) i (drop i s) (bytes-drop i s hb) (rest-le i) (omega (arith, rest-le i)) ∙ body-stop f (length s) i (drop i s) j e, v .0, omega (arith, v .1))
+      let w = length-drop i s in (
+        body-depth f (length s) (suc (length s)) i (drop i s) (bytes-drop i s hb) (rest-le i) (omega (arith, rest-le i))
+            ∙ body-stop f (length s) i (drop i s) j e,
+        v .0,
+        omega (arith, v .1),
+      )
 
   pub bad-at : (i : ℕ) → token f i (drop i s) ≡ Bad → bodyAt f s i ≡ broken
   unfolding bodyAt
-  bad-at i e = body-depth f (length s) (suc (length s)) i (drop i s) (bytes-drop i s hb) (rest-le i) (omega (arith, rest-le i)) ∙ body-bad f (length s) i (drop i s) e
+  bad-at i e = body-depth f (length s) (suc (length s)) i (drop i s) (bytes-drop i s hb) (rest-le i) (omega (arith, rest-le i))
+      ∙ body-bad f (length s) i (drop i s) e
 
-  pub opens-at : (i : ℕ) → i ≤ length s → (k : Kind) (j : ℕ) → opening f i (drop i s) ≡ Opens k j → (stepAt f s i ≡ asStep k (bodyAt f s j)) × (i ≤ j) × (j ≤ length s)
+  pub opens-at : (i : ℕ) → i ≤ length s → (k : Kind) (j : ℕ) → opening f i (drop i s) ≡ Opens k j → (stepAt f s i ≡ asStep k (bodyAt f s j)) × (i ≤ j)
+      × (j ≤ length s)
   unfolding bodyAt stepAt
   opens-at i h k j e =
       let v = open-moves f i (drop i s) k j e in

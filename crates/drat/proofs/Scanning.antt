@@ -101,9 +101,19 @@ pub record Outer (f : Format) (s codes₀ ends₀ kinds₀ codes ends kinds : Li
   pub kinds-held : kinds ≡ sets kinds₀ 0 (kindsOf ss)
 
 pub inner-start : (f : Format) (s codes : List ℕ) (at n : ℕ) → at ≤ length s → n ≤ at → Inner f s codes at n codes at n
-inner-start f s codes at n h g = record { ds = []; within = h; after = omega arith; small = g; read = prepend-nil (bodyAt f s at); count = omega arith; held = refl }
+inner-start f s codes at n h g = record {
+  ds = [];
+  within = h;
+  after = omega arith;
+  small = g;
+  read = prepend-nil (bodyAt f s at);
+  count = omega arith;
+  held =
+      refl;
+}
 
-pub inner-more : (f : Format) (s codes₀ codes : List ℕ) (at₀ n₀ at n c j : ℕ) → Bytes s → Inner f s codes₀ at₀ n₀ codes at n → token f at (drop at s) ≡ Lit c j → Inner f s codes₀ at₀ n₀ (set codes n c) j (n + 1)
+pub inner-more : (f : Format) (s codes₀ codes : List ℕ) (at₀ n₀ at n c j : ℕ) → Bytes s → Inner f s codes₀ at₀ n₀ codes at n → token f at (drop at s) ≡ Lit c j
+    → Inner f s codes₀ at₀ n₀ (set codes n c) j (n + 1)
 inner-more f s codes₀ codes at₀ n₀ at n c j hb r e =
     let l = lit-at f s hb at (r .within) c j e in
     record {
@@ -118,17 +128,30 @@ inner-more f s codes₀ codes at₀ n₀ at n c j hb r e =
 
 pub outer-start : (f : Format) (s codes ends kinds : List ℕ) → Outer f s codes ends kinds codes ends kinds 0 0 0
 unfolding codesOf endsFrom kindsOf
-outer-start f s codes ends kinds = record { ss = []; within = omega arith; small = omega arith; read = steps-nil (proofAt f s 0); count = (refl, refl); codes-held = refl; ends-held = refl; kinds-held = refl }
+outer-start f s codes ends kinds = record {
+  ss = [];
+  within = omega arith;
+  small = omega arith;
+  read = steps-nil (proofAt f s 0);
+  count =
+      (refl, refl);
+  codes-held = refl;
+  ends-held = refl;
+  kinds-held = refl;
+}
 
-module _ (f : Format) (s codes₀ ends₀ kinds₀ codes₁ ends kinds : List ℕ) (start n₁ m : ℕ) (hb : Bytes s) (o : Outer f s codes₀ ends₀ kinds₀ codes₁ ends kinds start n₁ m) where
+module _ (f : Format) (s codes₀ ends₀ kinds₀ codes₁ ends kinds : List ℕ) (start n₁ m : ℕ) (hb : Bytes s)
+    (o : Outer f s codes₀ ends₀ kinds₀ codes₁ ends kinds start n₁ m) where
   -- a whole step
-  pub outer-more : (k : Kind) (first : ℕ) → opening f start (drop start s) ≡ Opens k first → (codes : List ℕ) (at n j : ℕ) → Inner f s codes₁ first n₁ codes at n → token f at (drop at s) ≡ Stop j
+  pub outer-more : (k : Kind) (first : ℕ) → opening f start (drop start s) ≡ Opens k first → (codes : List ℕ) (at n j : ℕ)
+      → Inner f s codes₁ first n₁ codes at n → token f at (drop at s) ≡ Stop j
       → Outer f s codes₀ ends₀ kinds₀ codes (set ends m n) (set kinds m (kindNumber k)) j n (m + 1)
   unfolding asStep prepend
   outer-more k first e codes at n j r t =
       let a = opens-at f s hb start (o .within) k first e in
       let b = stop-at f s hb at (r .within) j t in
-      let g : stepAt f s start ≡ got (stepOf k (r .ds)) j = a .0 ∙ ap (asStep k) (r .read ∙ ap (prepend (r .ds)) (b .0)) ∙ ap (λ (x : List ℕ). got (stepOf k x) j) (append-nil (r .ds)) in
+      let g : stepAt f s start ≡ got (stepOf k (r .ds)) j = a .0 ∙ ap (asStep k) (r .read ∙ ap (prepend (r .ds)) (b .0))
+      ∙ ap (λ (x : List ℕ). got (stepOf k x) j) (append-nil (r .ds)) in
       let c = codes-snoc (o .ss) (stepOf k (r .ds)) in
       let z : n₁ ≡ length (codesOf (o .ss)) → n₁ ≡ 0 + length (codesOf (o .ss)) = λ h. omega arith in
       let v : n ≡ 0 + length (codesOf (o .ss)) + length (r .ds) = omega (arith, r .count, o .count) in
@@ -136,11 +159,18 @@ module _ (f : Format) (s codes₀ ends₀ kinds₀ codes₁ ends kinds : List �
         ss = o .ss ++ stepOf k (r .ds) ∷ [];
         within = b .2;
         small = omega (arith, r .small, r .after, o .small, a .1, b .1);
-        read = o .read ∙ ap (prependSteps (o .ss)) (got-at f s hb start (o .within) (stepOf k (r .ds)) j g) ∙ steps-snoc (o .ss) (stepOf k (r .ds)) (proofAt f s j);
-        count = (omega (arith, r .count, o .count, ap length c ∙ length-append (codesOf (o .ss)) (r .ds)), omega (arith, o .count, length-append (o .ss) (stepOf k (r .ds) ∷ [])));
-        codes-held = r .held ∙ ap₂ (λ (x : List ℕ) (i : ℕ). sets x i (r .ds)) (o .codes-held) (z (o .count .0)) ∙ sym (sets-append (codesOf (o .ss)) (r .ds) codes₀ 0) ∙ sym (ap (sets codes₀ 0) c);
-        ends-held = ap (λ (y : ℕ). set ends m y) v ∙ store-next ends₀ _ (endsFrom 0 (o .ss)) 0 m (0 + length (codesOf (o .ss)) + length (r .ds)) (o .ends-held) (omega (arith, o .count, ends-length 0 (o .ss))) ∙ sym (ap (sets ends₀ 0) (ends-snoc 0 (o .ss) (stepOf k (r .ds))));
-        kinds-held = store-next kinds₀ _ (kindsOf (o .ss)) 0 m (kindNumber k) (o .kinds-held) (omega (arith, o .count, kinds-length (o .ss))) ∙ sym (ap (sets kinds₀ 0) (kinds-snoc (o .ss) (stepOf k (r .ds))));
+        read = o .read ∙ ap (prependSteps (o .ss)) (got-at f s hb start (o .within) (stepOf k (r .ds)) j g)
+            ∙ steps-snoc (o .ss) (stepOf k (r .ds)) (proofAt f s j);
+        count = (
+          omega (arith, r .count, o .count, ap length c ∙ length-append (codesOf (o .ss)) (r .ds)),
+          omega (arith, o .count, length-append (o .ss) (stepOf k (r .ds) ∷ [])),
+        );
+        codes-held = r .held ∙ ap₂ (λ (x : List ℕ) (i : ℕ). sets x i (r .ds)) (o .codes-held) (z (o .count .0))
+            ∙ sym (sets-append (codesOf (o .ss)) (r .ds) codes₀ 0) ∙ sym (ap (sets codes₀ 0) c);
+        ends-held = ap (λ (y : ℕ). set ends m y) v ∙ store-next ends₀ _ (endsFrom 0 (o .ss)) 0 m (0 + length (codesOf (o .ss)) + length (r .ds)) (o .ends-held)
+            (omega (arith, o .count, ends-length 0 (o .ss))) ∙ sym (ap (sets ends₀ 0) (ends-snoc 0 (o .ss) (stepOf k (r .ds))));
+        kinds-held = store-next kinds₀ _ (kindsOf (o .ss)) 0 m (kindNumber k) (o .kinds-held) (omega (arith, o .count, kinds-length (o .ss)))
+            ∙ sym (ap (sets kinds₀ 0) (kinds-snoc (o .ss) (stepOf k (r .ds))));
       }
 
   -- a fault: the answer is the step's start
@@ -150,10 +180,12 @@ module _ (f : Format) (s codes₀ ends₀ kinds₀ codes₁ ends kinds : List �
       let p : readProof f s ≡ faultAt start = proof-at-zero f s ∙ o .read ∙ ap (prependSteps (o .ss)) e in
       record { answer = sym (ap counted p); filled = λ ss q. absurd (steps-fault ss start (sym p ∙ q)) }
 
-  pub outer-wrong : start < length s → opening f start (drop start s) ≡ Wrong → (codes ends′ kinds′ : List ℕ) → Scan f s codes₀ ends₀ kinds₀ codes ends′ kinds′ (Fault start)
+  pub outer-wrong : start < length s → opening f start (drop start s) ≡ Wrong → (codes ends′ kinds′ : List ℕ)
+      → Scan f s codes₀ ends₀ kinds₀ codes ends′ kinds′ (Fault start)
   outer-wrong h e = stopped (fault-at f s hb start h (wrong-at f s hb start e))
 
-  pub outer-bad : start < length s → (k : Kind) (first : ℕ) → opening f start (drop start s) ≡ Opens k first → (codes : List ℕ) (at n : ℕ) → Inner f s codes₁ first n₁ codes at n → token f at (drop at s) ≡ Bad
+  pub outer-bad : start < length s → (k : Kind) (first : ℕ) → opening f start (drop start s) ≡ Opens k first → (codes : List ℕ) (at n : ℕ)
+      → Inner f s codes₁ first n₁ codes at n → token f at (drop at s) ≡ Bad
       → (codes ends′ kinds′ : List ℕ) → Scan f s codes₀ ends₀ kinds₀ codes ends′ kinds′ (Fault start)
   unfolding asStep prepend
   outer-bad h k first e codes at n r t =
@@ -167,6 +199,10 @@ module _ (f : Format) (s codes₀ ends₀ kinds₀ codes₁ ends kinds : List �
       let p : readProof f s ≡ steps (o .ss) = proof-at-zero f s ∙ o .read ∙ ap (prependSteps (o .ss)) (end-at f s hb start h) ∙ ap steps (append-nil (o .ss)) in
       record {
         answer = ap₂ Whole (o .count .0) (o .count .1) ∙ sym (ap counted p);
-        filled = λ ss q. let e = steps-part (o .ss) ss (sym p ∙ q) in
-            (o .codes-held ∙ ap (λ (x : List Step). sets codes₀ 0 (codesOf x)) e, o .ends-held ∙ ap (λ (x : List Step). sets ends₀ 0 (endsFrom 0 x)) e, o .kinds-held ∙ ap (λ (x : List Step). sets kinds₀ 0 (kindsOf x)) e);
+        filled = λ ss q. let e = steps-part (o .ss) ss (sym p ∙ q) in (
+          o .codes-held ∙ ap (λ (x : List Step). sets codes₀ 0 (codesOf x)) e,
+          o .ends-held
+              ∙ ap (λ (x : List Step). sets ends₀ 0 (endsFrom 0 x)) e,
+          o .kinds-held ∙ ap (λ (x : List Step). sets kinds₀ 0 (kindsOf x)) e,
+        );
       }

@@ -38,7 +38,8 @@ digits-4 : (n : ℕ) → 1000 ≤ n → n < 10000 → bytesOf decimal n ≡ (48 
 digits-4 n h k =
     let e : n / 10 / 100 ≡ n / 1000 = omega arith in
     let d : n / 10 / 10 ≡ n / 100 = omega arith in
-    more-digit n _ (omega arith) (digits-3 (n / 10) (omega arith) (omega arith)) ∙ ap₂ (λ (x y : ℕ). (48 + x) ∷ (48 + y % 10) ∷ (48 + n / 10 % 10) ∷ (48 + n % 10) ∷ []) e d
+    more-digit n _ (omega arith) (digits-3 (n / 10) (omega arith) (omega arith))
+    ∙ ap₂ (λ (x y : ℕ). (48 + x) ∷ (48 + y % 10) ∷ (48 + n / 10 % 10) ∷ (48 + n % 10) ∷ []) e d
 
 pub blanked-1 : (n : ℕ) → 0 < n → n < 10 → blanked n ≡ (48 + n) ∷ 32 ∷ []
 blanked-1 n h k = ap (λ (bs : List ℕ). bs ++ 32 ∷ []) (digits-1 n h k)
@@ -71,7 +72,8 @@ leb-step k m h g n p q = ⊎-elim
 
 pub leb-most : (n : ℕ) → 0 < n → n < 4294967296 → length (bytesOf leb128 n) ≤ 5
 leb-most n p q =
-    leb-step 4 268435456 (leb-step 3 2097152 (leb-step 2 16384 (leb-step 1 128 (λ v h k. omega (arith, ap length (leb-1 v h k))) (omega arith)) (omega arith)) (omega arith)) (omega arith) n p (omega arith)
+    leb-step 4 268435456 (leb-step 3 2097152 (leb-step 2 16384 (leb-step 1 128 (λ v h k. omega (arith, ap length (leb-1 v h k))) (omega arith)) (omega arith))
+    (omega arith)) (omega arith) n p (omega arith)
 
 -- 10, 100 and 1000 are the numbers of the codes 18, 198 and 1998
 blanked-length : (c : ℕ) → c < 8192 → length (blanked (c / 2 + 1)) ≡ 2 + pick (leb 18 c) 1 0 + pick (leb 198 c) 1 0 + pick (leb 1998 c) 1 0
@@ -121,10 +123,18 @@ code-short c h = number-code c ∙ leb-1 (c + 2) (omega arith) (omega arith)
 pub short-length : (l : List ℕ) → Short l → length (numbers Binary l) ≡ length l
 unfolding numbers
 short-length [] h = refl
-short-length (c ∷ cs) h = omega (arith, length-append (number Binary c) (numbers Binary cs), ap length (code-short c (h 0 (omega arith))), short-length cs (λ i l. h (suc i) (omega arith)))
+short-length (c ∷ cs) h =
+    omega (
+      arith,
+      length-append (number Binary c) (numbers Binary cs),
+      ap length (code-short c (h 0 (omega arith))),
+      short-length cs
+          (λ i l. h (suc i) (omega arith)),
+    )
 
 -- one of them written, and then those after it
-pub short-sets : (l o : List ℕ) (p i : ℕ) → Short l → i < length l → sets (set o p (getD l i 0 + 2)) (p + 1) (numbers Binary (drop (i + 1) l)) ≡ sets o p (numbers Binary (drop i l))
+pub short-sets : (l o : List ℕ) (p i : ℕ) → Short l → i < length l
+    → sets (set o p (getD l i 0 + 2)) (p + 1) (numbers Binary (drop (i + 1) l)) ≡ sets o p (numbers Binary (drop i l))
 short-sets l o p i h k =
     let e = code-short (getD l i 0) (h i k) in
     ap (λ (n : List ℕ). sets (sets o p n) (p + length n) (numbers Binary (drop (i + 1) l))) (sym e) ∙ numbers-sets Binary l o p i k
@@ -141,7 +151,8 @@ number-le Binary c h = omega (arith, code-length c h, one-le (leb 126 c))
 pub numbers-le : (f : Format) (cs : List ℕ) → Codes cs → length (numbers f cs) ≤ 6 * length cs
 unfolding numbers
 numbers-le f [] h = omega arith
-numbers-le f (c ∷ cs) h = omega (arith, length-append (number f c) (numbers f cs), number-le f c (h 0 (omega arith)), numbers-le f cs (λ i l. h (suc i) (omega arith)))
+numbers-le f (c ∷ cs) h =
+    omega (arith, length-append (number f c) (numbers f cs), number-le f c (h 0 (omega arith)), numbers-le f cs (λ i l. h (suc i) (omega arith)))
 
 -- and a step at most four more
 pub step-le : (f : Format) (k : Kind) (cs : List ℕ) → Codes cs → length (encodeStep f (stepOf k cs)) ≤ 6 * length cs + 4
@@ -170,4 +181,5 @@ blanked-some n h = go (bytesOf decimal n)
 pub text-sets : (o : List ℕ) (at c : ℕ) → sets (set o at 45) (at + c % 2) (blanked (c / 2 + 1)) ≡ sets o at (number Text c)
 text-sets o at c =
     let s = blanked-some (c / 2 + 1) (omega arith) in
-    ap (sets (set o at 45) (at + c % 2)) (s .2) ∙ sign-sets o at c (s .0) (s .1) ∙ sym (ap (λ (l : List ℕ). sets o at (sign c ++ l)) (s .2)) ∙ sym (ap (sets o at) (text-parts c))
+    ap (sets (set o at 45) (at + c % 2)) (s .2) ∙ sign-sets o at c (s .0) (s .1) ∙ sym (ap (λ (l : List ℕ). sets o at (sign c ++ l)) (s .2))
+    ∙ sym (ap (sets o at) (text-parts c))

@@ -11,7 +11,8 @@ use borrow.Author.Tests.{eqb-true, eqb-false, ltb-true, ltb-false}
 use Rattle.base.specs.Choice.{pick}
 use Rattle.drat.specs.Numeral.{digit, decimal, leb128, Numeral, one, more}
 use Rattle.drat.specs.Grammar.{Step, stepOf, opens, ends, Signed, plus, minus, Number, spaced, code, Body, last, lit, Spells, none, step}
-use Rattle.drat.specs.Reading.{numbered, withDigit, digitsFrom, signedFrom, thenBlank, lebFrom, endFrom, lineFrom, token, blankFrom, opening, Part, whole, broken, consPart, body, One, got, fault, asStep, oneStep, Proof, steps, faultAt, consStep, stepsFrom, readProof}
+use Rattle.drat.specs.Reading.{numbered, withDigit, digitsFrom, signedFrom, thenBlank, lebFrom, endFrom, lineFrom, token, blankFrom, opening, Part, whole}
+use Rattle.drat.specs.Reading.{broken, consPart, body, One, got, fault, asStep, oneStep, Proof, steps, faultAt, consStep, stepsFrom, readProof}
 use Rattle.drat.specs.declared.Kind.{Kind}
 use Rattle.drat.specs.declared.Kind.the-variants.{Add, Delete}
 use Rattle.drat.specs.declared.Format.{Format}
@@ -86,8 +87,10 @@ digits-sound sign [] v i c j p s h e = run-sound sign i p [] v c j s h e
 digits-sound sign (b ∷ l) v i c j p s h e = go (digit b) refl e (digits-sound sign l (withDigit v b) (i + 1) c j)
   where
     go : (t : Bool) → digit b ≡ t
-        → pick t (pick (eqb (withDigit v b) 0) Bad (pick (ltb 4096 (withDigit v b)) Bad (digitsFrom sign (withDigit v b) (i + 1) l))) (numbered sign v i) ≡ Lit c j
-        → ((q : List ℕ) → Sofar q (withDigit v b) → withDigit v b ≤ 4096 → digitsFrom sign (withDigit v b) (i + 1) l ≡ Lit c j → DigitsRead sign (i + 1) q l c j)
+        → pick t (pick (eqb (withDigit v b) 0) Bad (pick (ltb 4096 (withDigit v b)) Bad (digitsFrom sign (withDigit v b) (i + 1) l))) (numbered sign v i) ≡ Lit
+        c j
+        → ((q : List ℕ) → Sofar q (withDigit v b) → withDigit v b ≤ 4096 → digitsFrom sign (withDigit v b) (i + 1) l ≡ Lit c j
+        → DigitsRead sign (i + 1) q l c j)
         → DigitsRead sign i p (b ∷ l) c j
     go true t e ih =
         let z₁ = passed (eqb (withDigit v b) 0) _ c j e in
@@ -183,7 +186,8 @@ leb-sound [] v w i c j hb e = absurd (lit-bad c j (sym e))
 leb-sound (b ∷ l) v w i c j hb e = go (ltb b 128) refl e (leb-sound l (v + w * (b - 128)) (w * 128) (i + 1) c j (λ k. hb (suc k)))
   where
     go : (t : Bool) → ltb b 128 ≡ t
-        → pick t (pick (eqb b 0) Bad (pick (ltb (v + w * b) 2) Bad (pick (ltb 8193 (v + w * b)) Bad (Lit (v + w * b - 2) (i + 1))))) (pick (ltb 64 w) Bad (lebFrom (v + w * (b - 128)) (w * 128) (i + 1) l)) ≡ Lit c j
+        → pick t (pick (eqb b 0) Bad (pick (ltb (v + w * b) 2) Bad (pick (ltb 8193 (v + w * b)) Bad (Lit (v + w * b - 2) (i + 1)))))
+        (pick (ltb 64 w) Bad (lebFrom (v + w * (b - 128)) (w * 128) (i + 1) l)) ≡ Lit c j
         → (lebFrom (v + w * (b - 128)) (w * 128) (i + 1) l ≡ Lit c j → LebRead (v + w * (b - 128)) (w * 128) (i + 1) l c j)
         → LebRead v w i (b ∷ l) c j
     go true t e ih =
@@ -194,7 +198,17 @@ leb-sound (b ∷ l) v w i c j hb e = go (ltb b 128) refl e (leb-sound l (v + w *
         let h₂ = ltb-false (v + w * b) 2 (z₂ .0) in
         let h₃ = ltb-false 8193 (v + w * b) (z₃ .0) in
         let q = lit-parts (v + w * b - 2) (i + 1) c j (z₃ .1) in
-        record { bytes = b ∷ []; rest = l; number = b; split = refl; spelled = one {d = b} (omega arith) (ltb-true b 128 t); isCode = omega arith; small = h₃; place = omega arith }
+        record {
+          bytes = b ∷ [];
+          rest = l;
+          number = b;
+          split = refl;
+          spelled = one {d = b} (omega arith) (ltb-true b 128 t);
+          isCode = omega arith;
+          small =
+              h₃;
+          place = omega arith;
+        }
     go false t e ih =
         let z = passed (ltb 64 w) _ c j e in
         let r = ih (z .1) in
@@ -260,7 +274,14 @@ token-sound Binary i (b ∷ l) c j hb e = go (eqb b 0) e
     go false e =
         let r = leb-sound (b ∷ l) 0 1 i c j hb e in
         let en : r .number ≡ c + 2 = omega (arith, r .isCode) in
-        record { bytes = r .bytes; rest = r .rest; split = r .split; spelled = code {c = c} (omega (arith, r .isCode, r .small)) (subst (λ (x : ℕ). Numeral leb128 (r .bytes) x) en (r .spelled)); place = r .place }
+        record {
+          bytes = r .bytes;
+          rest = r .rest;
+          split = r .split;
+          spelled =
+              code {c = c} (omega (arith, r .isCode, r .small)) (subst (λ (x : ℕ). Numeral leb128 (r .bytes) x) en (r .spelled));
+          place = r .place;
+        }
 
 -- a step's end that was read
 blank-no-stop : (i : ℕ) (l : List ℕ) (t : Token) (j : ℕ) → thenBlank i l t ≡ Stop j → ⊥
@@ -279,7 +300,8 @@ leb-no-stop [] v w i j e = stop-bad j (sym e)
 leb-no-stop (b ∷ l) v w i j e = go (ltb b 128) e (leb-no-stop l (v + w * (b - 128)) (w * 128) (i + 1) j)
   where
     go : (t : Bool)
-        → pick t (pick (eqb b 0) Bad (pick (ltb (v + w * b) 2) Bad (pick (ltb 8193 (v + w * b)) Bad (Lit (v + w * b - 2) (i + 1))))) (pick (ltb 64 w) Bad (lebFrom (v + w * (b - 128)) (w * 128) (i + 1) l)) ≡ Stop j
+        → pick t (pick (eqb b 0) Bad (pick (ltb (v + w * b) 2) Bad (pick (ltb 8193 (v + w * b)) Bad (Lit (v + w * b - 2) (i + 1)))))
+        (pick (ltb 64 w) Bad (lebFrom (v + w * (b - 128)) (w * 128) (i + 1) l)) ≡ Stop j
         → (lebFrom (v + w * (b - 128)) (w * 128) (i + 1) l ≡ Stop j → ⊥) → ⊥
     go true e ih =
         let z₁ = not-bad (eqb b 0) _ (Stop j) (stop-bad j) e in
@@ -337,7 +359,8 @@ opens-wrong k j e = let z : _≡_ {A = ℕ} 0 1 = cc in omega arith
 opens-parts : (a b : Kind) (i j : ℕ) → Opens a i ≡ Opens b j → (a ≡ b) × (i ≡ j)
 opens-parts a b i j e = (cc, cc)
 
-open-at : (f : Format) (i : ℕ) (l : List ℕ) (a k : Kind) (i′ j : ℕ) (rest : List ℕ) → l ≡ opens f a ++ rest → i′ ≡ i + length (opens f a) → Opens a i′ ≡ Opens k j → OpenRead f i l k j
+open-at : (f : Format) (i : ℕ) (l : List ℕ) (a k : Kind) (i′ j : ℕ) (rest : List ℕ) → l ≡ opens f a ++ rest → i′ ≡ i + length (opens f a)
+    → Opens a i′ ≡ Opens k j → OpenRead f i l k j
 open-at f i l a k i′ j rest s p e =
     let q = opens-parts a k i′ j e in
     record { rest = rest; split = s ∙ ap (λ (x : Kind). opens f x ++ rest) (q .0); place = sym (q .1) ∙ p ∙ ap (λ (x : Kind). i + length (opens f x)) (q .0) }
@@ -362,7 +385,8 @@ opening-sound Text i (b ∷ l) k j e = go (eqb b 100) refl e
     go false h e = open-at Text i (b ∷ l) Add k i j (b ∷ l) refl (omega arith) e
 opening-sound Binary i (b ∷ l) k j e = go (eqb b 97) refl (eqb b 100) refl e
   where
-    go : (t : Bool) → eqb b 97 ≡ t → (u : Bool) → eqb b 100 ≡ u → pick t (Opens Add (i + 1)) (pick u (Opens Delete (i + 1)) Wrong) ≡ Opens k j → OpenRead Binary i (b ∷ l) k j
+    go : (t : Bool) → eqb b 97 ≡ t → (u : Bool) → eqb b 100 ≡ u → pick t (Opens Add (i + 1)) (pick u (Opens Delete (i + 1)) Wrong) ≡ Opens k j
+        → OpenRead Binary i (b ∷ l) k j
     go true h u g e = open-at Binary i (b ∷ l) Add k (i + 1) j l (ap (λ (x : ℕ). x ∷ l) (eqb-true b 97 h)) refl e
     go false h true g e = open-at Binary i (b ∷ l) Delete k (i + 1) j l (ap (λ (x : ℕ). x ∷ l) (eqb-true b 100 g)) refl e
     go false h false g e = absurd (opens-wrong k j (sym e))
@@ -398,7 +422,8 @@ unfolding body
 body-sound f zero i l cs j hb e = absurd (broken-whole cs j e)
 body-sound f (suc n) i l cs j hb e = go (token f i l) refl (λ m i′ ds h. body-sound f n i′ m ds j h)
   where
-    go : (t : Token) → token f i l ≡ t → ((m : List ℕ) (i′ : ℕ) (ds : List ℕ) → Bytes m → body f n i′ m ≡ whole ds j → BodyRead f i′ m ds j) → BodyRead f i l cs j
+    go : (t : Token) → token f i l ≡ t → ((m : List ℕ) (i′ : ℕ) (ds : List ℕ) → Bytes m → body f n i′ m ≡ whole ds j → BodyRead f i′ m ds j)
+        → BodyRead f i l cs j
     go (Lit c i′) t ih =
         let r = token-sound f i l c i′ hb t in
         let q = cons-part c (body f n i′ (drop (i′ - i) l)) cs j (sym (body-lit f n i l c i′ t) ∙ e) in
@@ -414,7 +439,14 @@ body-sound f (suc n) i l cs j hb e = go (token f i l) refl (λ m i′ ds h. body
     go (Stop i′) t ih =
         let r = token-stop f i l i′ t in
         let q = whole-parts [] cs i′ j (sym (body-stop f n i l i′ t) ∙ e) in
-        record { bytes = ends f; rest = r .rest; split = r .split; spelled = subst (λ (x : List ℕ). Body f (ends f) x) (q .0) last; place = sym (q .1) ∙ r .place }
+        record {
+          bytes = ends f;
+          rest = r .rest;
+          split = r .split;
+          spelled = subst (λ (x : List ℕ). Body f (ends f) x) (q .0) last;
+          place =
+              sym (q .1) ∙ r .place;
+        }
     go Bad t ih = absurd (broken-whole cs j (sym (body-bad f n i l t) ∙ e))
 
 pub record StepRead (f : Format) (i : ℕ) (l : List ℕ) (s : Step) (j : ℕ) : Type 0 where
@@ -446,7 +478,14 @@ step-sound f i l s j hb e = go (opening f i l) refl
         let d = rest-is i i′ l (opens f k) (r .rest) (r .split) (r .place) in
         let b = body-sound f (length l) i′ (r .rest) (q .0) j (bytes-rest l (opens f k) (r .rest) hb (r .split)) (ap (body f (length l) i′) (sym d) ∙ q .1) in
         subst (λ (x : Step). StepRead f i l x j) (q .2)
-        (record { bytes = b .bytes; rest = b .rest; split = r .split ∙ ap (λ (m : List ℕ). opens f k ++ m) (b .split) ∙ sym (append-assoc (opens f k) (b .bytes) (b .rest)); spelled = b .spelled; place = simp length-append (omega (arith, r .place, b .place)) })
+        (record {
+          bytes = b .bytes;
+          rest = b .rest;
+          split = r .split ∙ ap (λ (m : List ℕ). opens f k ++ m) (b .split)
+              ∙ sym (append-assoc (opens f k) (b .bytes) (b .rest));
+          spelled = b .spelled;
+          place = simp length-append (omega (arith, r .place, b .place));
+        })
     go Wrong o = absurd (fault-got s j (sym (one-wrong f i l o) ∙ e))
 
 pub steps-fault : (ss : List Step) (i : ℕ) → faultAt i ≡ steps ss → ⊥
@@ -467,7 +506,8 @@ steps-sound f zero i (b ∷ l) ss hb e = absurd (steps-fault ss i e)
 steps-sound f (suc n) i [] ss hb e = subst (λ (x : List Step). Spells f [] x) (steps-part [] ss e) none
 steps-sound f (suc n) i (b ∷ l) ss hb e = go (oneStep f i (b ∷ l)) refl (λ i′ m ts. steps-sound f n i′ m ts)
   where
-    go : (o : One) → oneStep f i (b ∷ l) ≡ o → ((i′ : ℕ) (m : List ℕ) (ts : List Step) → Bytes m → stepsFrom f n i′ m ≡ steps ts → Spells f m ts) → Spells f (b ∷ l) ss
+    go : (o : One) → oneStep f i (b ∷ l) ≡ o → ((i′ : ℕ) (m : List ℕ) (ts : List Step) → Bytes m → stepsFrom f n i′ m ≡ steps ts → Spells f m ts)
+        → Spells f (b ∷ l) ss
     go (got s j) o ih =
         let r = step-sound f i (b ∷ l) s j hb o in
         let q = cons-step s (stepsFrom f n j (drop (j - i) (b ∷ l))) ss (sym (steps-got f n i (b ∷ l) s j o) ∙ e) in

@@ -21,7 +21,8 @@ pub numbers-next : (f : Format) (l : List ℕ) (i : ℕ) → i < length l → nu
 unfolding numbers
 numbers-next f l i h = ap (numbers f) (next l i h)
 
-pub numbers-next-length : (f : Format) (l : List ℕ) (i : ℕ) → i < length l → length (numbers f (drop i l)) ≡ length (number f (getD l i 0)) + length (numbers f (drop (i + 1) l))
+pub numbers-next-length : (f : Format) (l : List ℕ) (i : ℕ) → i < length l
+    → length (numbers f (drop i l)) ≡ length (number f (getD l i 0)) + length (numbers f (drop (i + 1) l))
 numbers-next-length f l i h = ap length (numbers-next f l i h) ∙ length-append (number f (getD l i 0)) (numbers f (drop (i + 1) l))
 
 pub numbers-done : (f : Format) (l : List ℕ) (i : ℕ) → length l ≤ i → numbers f (drop i l) ≡ []
@@ -38,9 +39,12 @@ unfolding encodeStep
 step-length f k l = length-append (opens f k) (numbers f l ++ ends f) ∙ ap (λ (n : ℕ). length (opens f k) + n) (length-append (numbers f l) (ends f))
 
 -- a step is written part by part
-pub step-sets : (f : Format) (k : Kind) (l o : List ℕ) (at : ℕ) → sets (sets (sets o at (opens f k)) (at + length (opens f k)) (numbers f l)) (at + length (opens f k) + length (numbers f l)) (ends f) ≡ sets o at (encodeStep f (stepOf k l))
+pub step-sets : (f : Format) (k : Kind) (l o : List ℕ) (at : ℕ)
+    → sets (sets (sets o at (opens f k)) (at + length (opens f k)) (numbers f l)) (at + length (opens f k) + length (numbers f l)) (ends f) ≡ sets o at
+    (encodeStep f (stepOf k l))
 unfolding encodeStep
-step-sets f k l o at = sym (sets-append (opens f k) (numbers f l ++ ends f) o at ∙ sets-append (numbers f l) (ends f) (sets o at (opens f k)) (at + length (opens f k)))
+step-sets f k l o at = sym (sets-append (opens f k) (numbers f l ++ ends f) o at
+    ∙ sets-append (numbers f l) (ends f) (sets o at (opens f k)) (at + length (opens f k)))
 
 pub opens-le : (f : Format) (k : Kind) → length (opens f k) ≤ 2
 opens-le Text Add = omega arith

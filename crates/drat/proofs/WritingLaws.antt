@@ -24,7 +24,8 @@ pub test-none : (b : ℕ) (l : List ℕ) → true ≡ allBelow 0 (λ i. ltb (get
 unfolding allBelow
 test-none b l = refl
 
-pub test-more : (b : ℕ) (l : List ℕ) (i : ℕ) (t : Bool) → t ≡ allBelow i (λ j. ltb (getD l j 0) b) → t && ltb (getD l i 0) b ≡ allBelow (i + 1) (λ j. ltb (getD l j 0) b)
+pub test-more : (b : ℕ) (l : List ℕ) (i : ℕ) (t : Bool) → t ≡ allBelow i (λ j. ltb (getD l j 0) b)
+    → t && ltb (getD l i 0) b ≡ allBelow (i + 1) (λ j. ltb (getD l j 0) b)
 unfolding allBelow
 test-more b l i t e = rw add-one (ap (λ (x : Bool). x && ltb (getD l i 0) b) e)
 
@@ -65,11 +66,16 @@ module _ (f : Format) (k : Kind) (buf : List ℕ) (a b room at : ℕ) where
   pub write-outside : outside buf a b ≡ true → writeOf f k buf a b room at ≡ record { answer = refused 3 []; bytes = [] }
   write-outside h = rw h
 
-  pub write-lacking : outside buf a b ≡ false → room < at + length (encodeStep f (stepOf k (part a b buf))) → writeOf f k buf a b room at ≡ record { answer = refused 2 []; bytes = [] }
+  pub write-lacking : outside buf a b ≡ false → room < at + length (encodeStep f (stepOf k (part a b buf)))
+      → writeOf f k buf a b room at ≡ record { answer = refused 2 []; bytes = [] }
   write-lacking h l = rw (h, lt-ltb room (at + length (encodeStep f (stepOf k (part a b buf)))) l)
 
   pub write-done : outside buf a b ≡ false → at + length (encodeStep f (stepOf k (part a b buf))) ≤ room
-      → writeOf f k buf a b room at ≡ record { answer = accepted ((at + length (encodeStep f (stepOf k (part a b buf)))) ∷ []); bytes = encodeStep f (stepOf k (part a b buf)) }
+      → writeOf f k buf a b room at ≡ record {
+        answer = accepted ((at + length (encodeStep f (stepOf k (part a b buf)))) ∷ []);
+        bytes =
+            encodeStep f (stepOf k (part a b buf));
+      }
   write-done h l = rw (h, le-ltb room (at + length (encodeStep f (stepOf k (part a b buf)))) l)
 
 -- the answer's reading loses nothing

@@ -8,7 +8,8 @@ use lib.Dec.{eqb}
 use borrow.Author.Tests.{eqb-true, eqb-false}
 use Rattle.base.specs.Choice.{pick}
 use Rattle.drat.specs.Numeral.{decimal, leb128, Numeral, bytesOf}
-use Rattle.drat.specs.Grammar.{Step, ends, Signed, plus, minus, Number, spaced, code, Body, last, lit, Spells, none, step, signed, number, numbers, encodeStep, encode, Codes, Valid}
+use Rattle.drat.specs.Grammar.{Step, ends, Signed, plus, minus, Number, spaced, code, Body, last, lit, Spells, none, step, signed, number, numbers}
+use Rattle.drat.specs.Grammar.{encodeStep, encode, Codes, Valid}
 use Rattle.drat.specs.declared.Format.{Format}
 use Rattle.drat.specs.declared.Format.the-variants.{Text, Binary}
 use Rattle.drat.proofs.Numerals.{bytes-numeral}

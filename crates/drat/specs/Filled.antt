@@ -102,4 +102,5 @@ counted (faultAt i) = Fault i
 -- its answer, and, where all is whole, what the three slices hold
 pub record Scan (f : Format) (s codes₀ ends₀ kinds₀ codes ends kinds : List ℕ) (r : Scanned) : Type 0 where
   pub answer : r ≡ counted (readProof f s)
-  pub filled : (ss : List Step) → readProof f s ≡ steps ss → (codes ≡ sets codes₀ 0 (codesOf ss)) × (ends ≡ sets ends₀ 0 (endsFrom 0 ss)) × (kinds ≡ sets kinds₀ 0 (kindsOf ss))
+  pub filled : (ss : List Step) → readProof f s ≡ steps ss → (codes ≡ sets codes₀ 0 (codesOf ss)) × (ends ≡ sets ends₀ 0 (endsFrom 0 ss))
+      × (kinds ≡ sets kinds₀ 0 (kindsOf ss))

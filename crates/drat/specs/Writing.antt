@@ -32,7 +32,8 @@ outside buf a b = ltb b a || (ltb (length buf) b || (ltb 8192 (b - a) || not (co
 
 -- Bytes written from the place `at` on of an output of `room` bytes: 2 where they do not fit, else the place after them.
 abbrev pub laid : List ℕ → ℕ → ℕ → Writing
-laid bytes room at = pick (ltb room (at + length bytes)) (record { answer = refused 2 []; bytes = [] }) (record { answer = accepted ((at + length bytes) ∷ []); bytes = bytes })
+laid bytes room at = pick (ltb room (at + length bytes)) (record { answer = refused 2 []; bytes = [] })
+    (record { answer = accepted ((at + length bytes) ∷ []); bytes = bytes })
 
 -- The literals from a to b of a buffer as one step: 3, 2.
 abbrev pub writeOf : Format → Kind → List ℕ → ℕ → ℕ → ℕ → ℕ → Writing

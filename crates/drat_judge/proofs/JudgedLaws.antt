@@ -18,7 +18,8 @@ use Rattle.drat.specs.declared.Format.{Format}
 use Rattle.drat.specs.declared.Kind.the-variants.{Add, Delete}
 use Rattle.drat.specs.declared.Kind.{Kind}
 use Rattle.drat_judge.specs.Local.{closing, over, mayFollow, runs, judged}
-use Rattle.drat_judge.proofs.NextLaws.{runs-cons, runs-end, First, closes, negative, begins, blank-next, line-next, minus-next, d-next, zero-next, digit-next, no-fifth, fourth-small, start-next, inside-next, second-next}
+use Rattle.drat_judge.proofs.NextLaws.{runs-cons, runs-end, First, closes, negative, begins, blank-next, line-next, minus-next, d-next, zero-next}
+use Rattle.drat_judge.proofs.NextLaws.{digit-next, no-fifth, fourth-small, start-next, inside-next, second-next}
 
 -- l spells steps
 pub record StepsHere (f : Format) (l : List ℕ) : Type 0 where
@@ -49,7 +50,8 @@ with-kind : (f : Format) (k : Kind) (l : List ℕ) → BodyHere f l → StepsHer
 with-kind f k l b =
     record {
       ss = stepOf k (b .cs) ∷ b .then .ss;
-      spelled = subst (λ (m : List ℕ). Spells f m (stepOf k (b .cs) ∷ b .then .ss)) (append-assoc (opens f k) (b .bytes) (b .rest) ∙ ap (λ (m : List ℕ). opens f k ++ m) (sym (b .split))) (step k (b .spelled) (b .then .spelled));
+      spelled = subst (λ (m : List ℕ). Spells f m (stepOf k (b .cs) ∷ b .then .ss))
+          (append-assoc (opens f k) (b .bytes) (b .rest) ∙ ap (λ (m : List ℕ). opens f k ++ m) (sym (b .split))) (step k (b .spelled) (b .then .spelled));
     }
 
 with-end : (f : Format) (l : List ℕ) → StepsHere f l → BodyHere f (ends f ++ l)
@@ -130,9 +132,12 @@ record TextHere (l : List ℕ) : Type 0 where
   sign : (a b c : ℕ) → runs Text a b c 45 l ≡ true → NumberHere [] l
   dee : (a b c : ℕ) → runs Text a b c 100 l ≡ true → (m : List ℕ) × (l ≡ 32 ∷ m) × BodyHere Text m
   first : (a b c p : ℕ) → 49 ≤ p → p ≤ 57 → runs Text a b c p l ≡ true → (ds : List ℕ) → Numeral decimal ds (p - 48) → NumberHere ds l
-  second : (a b c p : ℕ) → digit c ≡ true → digit p ≡ true → runs Text a b c p l ≡ true → (ds : List ℕ) → Numeral decimal ds (10 * (c - 48) + (p - 48)) → NumberHere ds l
-  third : (a b c p : ℕ) → digit b ≡ true → digit c ≡ true → digit p ≡ true → runs Text a b c p l ≡ true → (ds : List ℕ) → Numeral decimal ds (10 * (10 * (b - 48) + (c - 48)) + (p - 48)) → NumberHere ds l
-  fourth : (a b c p : ℕ) → digit a ≡ true → digit b ≡ true → digit c ≡ true → digit p ≡ true → runs Text a b c p l ≡ true → (ds : List ℕ) (v : ℕ) → Numeral decimal ds v → v ≤ 4096 → NumberHere ds l
+  second : (a b c p : ℕ) → digit c ≡ true → digit p ≡ true → runs Text a b c p l ≡ true → (ds : List ℕ) → Numeral decimal ds (10 * (c - 48) + (p - 48))
+      → NumberHere ds l
+  third : (a b c p : ℕ) → digit b ≡ true → digit c ≡ true → digit p ≡ true → runs Text a b c p l ≡ true → (ds : List ℕ)
+      → Numeral decimal ds (10 * (10 * (b - 48) + (c - 48)) + (p - 48)) → NumberHere ds l
+  fourth : (a b c p : ℕ) → digit a ≡ true → digit b ≡ true → digit c ≡ true → digit p ≡ true → runs Text a b c p l ≡ true → (ds : List ℕ) (v : ℕ)
+      → Numeral decimal ds v → v ≤ 4096 → NumberHere ds l
 
 -- the bytes end
 text-none : TextHere []
@@ -155,7 +160,8 @@ module _ (x : ℕ) (l : List ℕ) (h : TextHere l) where
   begun b c q k e (closes z) =
       let r = h .zero b c q k (subst (λ (y : ℕ). runs Text b c q y l ≡ true) z e) in
       subst₂ (λ (y : ℕ) (m : List ℕ). BodyHere Text (y ∷ m)) (sym z) (sym (r .1)) (with-end Text (r .0) (r .2))
-  begun b c q k e (negative z) = subst (λ (y : ℕ). BodyHere Text (y ∷ l)) (sym z) (negated l (h .sign b c q (subst (λ (y : ℕ). runs Text b c q y l ≡ true) z e)))
+  begun b c q k e (negative z) = subst (λ (y : ℕ). BodyHere Text (y ∷ l)) (sym z)
+      (negated l (h .sign b c q (subst (λ (y : ℕ). runs Text b c q y l ≡ true) z e)))
   begun b c q k e (begins y z) = positive (x ∷ l) (with-digit [] x l (h .first b c q x y z e (x ∷ []) (digit-one x y z)))
 
   -- x stands after a digit
@@ -202,7 +208,8 @@ module _ (x : ℕ) (l : List ℕ) (h : TextHere l) where
       with-digit ds x l (h .second b c p x (is-in-range 48 57 p (omega arith) j) (z .0) (r .1) (ds ++ x ∷ []) (digit-more ds (p - 48) x (z .0) n)))
       (digit-next a b c p x (omega arith) j (not-closing-first c p i) (r .0))
 
-  text-second : (a b c p : ℕ) → digit c ≡ true → digit p ≡ true → runs Text a b c p (x ∷ l) ≡ true → (ds : List ℕ) → Numeral decimal ds (10 * (c - 48) + (p - 48)) → NumberHere ds (x ∷ l)
+  text-second : (a b c p : ℕ) → digit c ≡ true → digit p ≡ true → runs Text a b c p (x ∷ l) ≡ true → (ds : List ℕ)
+      → Numeral decimal ds (10 * (c - 48) + (p - 48)) → NumberHere ds (x ∷ l)
   text-second a b c p hc hp e ds n =
       let r = runs-cons Text a b c p x l e in
       let i = in-range-is 48 57 p hp in
@@ -212,7 +219,8 @@ module _ (x : ℕ) (l : List ℕ) (h : TextHere l) where
       with-digit ds x l (h .third b c p x hc hp (z .0) (r .1) (ds ++ x ∷ []) (digit-more ds (10 * (c - 48) + (p - 48)) x (z .0) n)))
       (digit-next a b c p x (i .0) (i .1) (not-closing-after c p hc) (r .0))
 
-  text-third : (a b c p : ℕ) → digit b ≡ true → digit c ≡ true → digit p ≡ true → runs Text a b c p (x ∷ l) ≡ true → (ds : List ℕ) → Numeral decimal ds (10 * (10 * (b - 48) + (c - 48)) + (p - 48)) → NumberHere ds (x ∷ l)
+  text-third : (a b c p : ℕ) → digit b ≡ true → digit c ≡ true → digit p ≡ true → runs Text a b c p (x ∷ l) ≡ true → (ds : List ℕ)
+      → Numeral decimal ds (10 * (10 * (b - 48) + (c - 48)) + (p - 48)) → NumberHere ds (x ∷ l)
   text-third a b c p hb hc hp e ds n =
       let r = runs-cons Text a b c p x l e in
       let i = in-range-is 48 57 p hp in
@@ -221,10 +229,12 @@ module _ (x : ℕ) (l : List ℕ) (h : TextHere l) where
       let v = 10 * (10 * (b - 48) + (c - 48)) + (p - 48) in
       ⊎-elim (λ (z : x ≡ 32). ended b c p v ds (r .1) n (omega arith) z)
       (λ (z : (digit x ≡ true) × (over a b c p x ≡ false)).
-      with-digit ds x l (h .fourth b c p x hb hc hp (z .0) (r .1) (ds ++ x ∷ []) (10 * v + (x - 48)) (digit-more ds v x (z .0) n) (fourth-small a b c p x hb hc hp (z .0) (z .1))))
+      with-digit ds x l (h .fourth b c p x hb hc hp (z .0) (r .1) (ds ++ x ∷ []) (10 * v + (x - 48)) (digit-more ds v x (z .0) n)
+      (fourth-small a b c p x hb hc hp (z .0) (z .1))))
       (digit-next a b c p x (i .0) (i .1) (not-closing-after c p hc) (r .0))
 
-  text-fourth : (a b c p : ℕ) → digit a ≡ true → digit b ≡ true → digit c ≡ true → digit p ≡ true → runs Text a b c p (x ∷ l) ≡ true → (ds : List ℕ) (v : ℕ) → Numeral decimal ds v → v ≤ 4096 → NumberHere ds (x ∷ l)
+  text-fourth : (a b c p : ℕ) → digit a ≡ true → digit b ≡ true → digit c ≡ true → digit p ≡ true → runs Text a b c p (x ∷ l) ≡ true → (ds : List ℕ) (v : ℕ)
+      → Numeral decimal ds v → v ≤ 4096 → NumberHere ds (x ∷ l)
   text-fourth a b c p ha hb hc hp e ds v n m =
       let r = runs-cons Text a b c p x l e in
       let i = in-range-is 48 57 p hp in
@@ -232,9 +242,9 @@ module _ (x : ℕ) (l : List ℕ) (h : TextHere l) where
       (λ (z : (digit x ≡ true) × (over a b c p x ≡ false)). absurd (no-fifth a b c p x ha hb hc (z .1)))
       (digit-next a b c p x (i .0) (i .1) (not-closing-after c p hc) (r .0))
 
-text-here : (l : List ℕ) → TextHere l
-text-here [] = text-none
-text-here (x ∷ l) = text-more (text-here l)
+text-judged : (l : List ℕ) → TextHere l
+text-judged [] = text-none
+text-judged (x ∷ l) = text-more (text-judged l)
   where
     text-more : TextHere l → TextHere (x ∷ l)
     text-more h =
@@ -288,7 +298,8 @@ module _ (x : ℕ) (l : List ℕ) (hx : x < 256) (h : BinaryHere l) where
           let m = ltb-true x 128 k in
           let o = inside-next p x i j (r .0) in
           let v : x ≡ x - 2 + 2 = omega arith in
-          with-number Binary (x ∷ []) l (x - 2) (code (omega arith) (subst (λ (y : ℕ). Numeral leb128 (x ∷ []) y) v (one {d = x} (omega arith) m))) (h .item b c p x (omega arith) m (r .1))
+          with-number Binary (x ∷ []) l (x - 2) (code (omega arith) (subst (λ (y : ℕ). Numeral leb128 (x ∷ []) y) v (one {d = x} (omega arith) m)))
+          (h .item b c p x (omega arith) m (r .1))
       go false z false k = h .second b c p x (ltb-false x 128 k) hx (r .1)
 
   binary-second : (a b c p : ℕ) → 128 ≤ p → p < 256 → runs Binary a b c p (x ∷ l) ≡ true → BodyHere Binary (p ∷ x ∷ l)
@@ -298,16 +309,17 @@ module _ (x : ℕ) (l : List ℕ) (hx : x < 256) (h : BinaryHere l) where
       let w : 128 + (p - 128) ≡ p = omega arith in
       let v : p - 128 + 128 * x ≡ p - 128 + 128 * x - 2 + 2 = omega arith in
       let n : Numeral leb128 ((128 + (p - 128)) ∷ x ∷ []) (p - 128 + 128 * x) = more {d = p - 128} (omega arith) (one {d = x} (omega arith) (omega arith)) in
-      with-number Binary (p ∷ x ∷ []) l (p - 128 + 128 * x - 2) (code (omega arith) (subst₂ (λ (y m : ℕ). Numeral leb128 (y ∷ x ∷ []) m) w v n)) (h .item b c p x (omega arith) (omega arith) (r .1))
+      with-number Binary (p ∷ x ∷ []) l (p - 128 + 128 * x - 2) (code (omega arith) (subst₂ (λ (y m : ℕ). Numeral leb128 (y ∷ x ∷ []) m) w v n))
+      (h .item b c p x (omega arith) (omega arith) (r .1))
 
-binary-here : (l : List ℕ) → Bytes l → BinaryHere l
-binary-here [] hb = binary-none
-binary-here (x ∷ l) hb = binary-more (binary-here l (λ k. hb (suc k)))
+binary-judged : (l : List ℕ) → Bytes l → BinaryHere l
+binary-judged [] hb = binary-none
+binary-judged (x ∷ l) hb = binary-more (binary-judged l (λ k. hb (suc k)))
   where
     binary-more : BinaryHere l → BinaryHere (x ∷ l)
     binary-more h = record { start = binary-start x l (hb 0) h; item = binary-item x l (hb 0) h; second = binary-second x l (hb 0) h }
 
 -- bytes that are judged whole spell steps
 pub judged-spells : (f : Format) (l : List ℕ) → Bytes l → judged f l ≡ true → StepsHere f l
-judged-spells Text l hb e = text-here l .start 10 10 10 e
-judged-spells Binary l hb e = binary-here l hb .start 0 0 0 e
+judged-spells Text l hb e = text-judged l .start 10 10 10 e
+judged-spells Binary l hb e = binary-judged l hb .start 0 0 0 e

@@ -80,13 +80,24 @@ digit-next a b c p x k m o h = go (digit x) refl (simp (is-in-range 48 57 p k m,
 pub no-fifth : (a b c p x : ℕ) → digit a ≡ true → digit b ≡ true → digit c ≡ true → over a b c p x ≡ false → ⊥
 no-fifth a b c p x ha hb hc h = true≢false (simp (ha, hb, hc) at h)
 
-pub fourth-small : (a b c p x : ℕ) → digit b ≡ true → digit c ≡ true → digit p ≡ true → digit x ≡ true → over a b c p x ≡ false → 10 * (10 * (10 * (b - 48) + (c - 48)) + (p - 48)) + (x - 48) ≤ 4096
-fourth-small a b c p x hb hc hp hx h = go (eqb b 52) refl (eqb p 57) refl (or-right (digit a) (leb 53 b || (eqb b 52 && (leb 49 c || (eqb p 57 && leb 55 x)))) (simp (hb, hc) at h))
+pub fourth-small : (a b c p x : ℕ) → digit b ≡ true → digit c ≡ true → digit p ≡ true → digit x ≡ true → over a b c p x ≡ false
+    → 10 * (10 * (10 * (b - 48) + (c - 48)) + (p - 48)) + (x - 48) ≤ 4096
+fourth-small a b c p x hb hc hp hx h = go (eqb b 52) refl (eqb p 57) refl
+    (or-right (digit a) (leb 53 b || (eqb b 52 && (leb 49 c || (eqb p 57 && leb 55 x)))) (simp (hb, hc) at h))
   where
-    go : (t : Bool) → eqb b 52 ≡ t → (u : Bool) → eqb p 57 ≡ u → leb 53 b || (t && (leb 49 c || (u && leb 55 x))) ≡ false → 10 * (10 * (10 * (b - 48) + (c - 48)) + (p - 48)) + (x - 48) ≤ 4096
+    go : (t : Bool) → eqb b 52 ≡ t → (u : Bool) → eqb p 57 ≡ u → leb 53 b || (t && (leb 49 c || (u && leb 55 x))) ≡ false
+        → 10 * (10 * (10 * (b - 48) + (c - 48)) + (p - 48)) + (x - 48) ≤ 4096
     go true e true g h =
         let k = or-right (leb 53 b) (leb 49 c || leb 55 x) h in
-        omega (arith, eqb-true b 52 e, eqb-true p 57 g, leb-false 49 c (or-left (leb 49 c) (leb 55 x) k), leb-false 55 x (or-right (leb 49 c) (leb 55 x) k), in-range-is 48 57 c hc, in-range-is 48 57 x hx)
+        omega (
+          arith,
+          eqb-true b 52 e,
+          eqb-true p 57 g,
+          leb-false 49 c (or-left (leb 49 c) (leb 55 x) k),
+          leb-false 55 x (or-right (leb 49 c) (leb 55 x) k),
+          in-range-is 48 57 c hc,
+          in-range-is 48 57 x hx,
+        )
     go true e false g h =
         let k = or-left (leb 49 c) false (or-right (leb 53 b) (leb 49 c || false) h) in
         omega (arith, eqb-true b 52 e, eqb-false p 57 g, leb-false 49 c k, in-range-is 48 57 c hc, in-range-is 48 57 p hp, in-range-is 48 57 x hx)
@@ -113,4 +124,10 @@ second-next p x k m h = go (ltb x 64) refl (simp (le-ltb p 128 k) at h)
   where
     go : (t : Bool) → ltb x 64 ≡ t → inRange 1 64 x && (t || leb p 129) ≡ true → (1 ≤ x) × (x ≤ 64) × (p - 128 + 128 * x ≤ 8193)
     go true e h = omega (arith, ltb-true x 64 e, in-range-is 1 64 x (and-left (inRange 1 64 x) true h))
-    go false e h = omega (arith, ltb-false x 64 e, in-range-is 1 64 x (and-left (inRange 1 64 x) (leb p 129) h), leb-true p 129 (and-right (inRange 1 64 x) (leb p 129) h))
+    go false e h = omega (
+      arith,
+      ltb-false x 64 e,
+      in-range-is 1 64 x (and-left (inRange 1 64 x) (leb p 129) h),
+      leb-true p 129
+          (and-right (inRange 1 64 x) (leb p 129) h),
+    )

@@ -33,7 +33,8 @@ back-one f s i = let e : i + 1 - 1 ≡ i = omega arith in back-at f s (i + 1) 1 
 
 module _ (f : Format) (s : List ℕ) where
   -- one byte more
-  pub runs-next : (i : ℕ) → i < length s → runsAt f s i ≡ mayFollow f (byteBack f s i 4) (byteBack f s i 3) (byteBack f s i 2) (byteBack f s i 1) (getD s i 0) && runsAt f s (i + 1)
+  pub runs-next : (i : ℕ) → i < length s → runsAt f s i ≡ mayFollow f (byteBack f s i 4) (byteBack f s i 3) (byteBack f s i 2) (byteBack f s i 1)
+      (getD s i 0) && runsAt f s (i + 1)
   unfolding runs
   runs-next i h =
       ap (runs f (byteBack f s i 4) (byteBack f s i 3) (byteBack f s i 2) (byteBack f s i 1)) (next s i h)
@@ -49,33 +50,42 @@ module _ (f : Format) (s : List ℕ) where
   runs-done i h = ap (runs f (byteBack f s i 4) (byteBack f s i 3) (byteBack f s i 2) (byteBack f s i 1)) (drop-of-length-le s h)
 
   -- a turn of a loop that has `ok` for the bytes before place i
-  pub runs-turn : (j : Bool) (i : ℕ) → i < length s → (ok : Bool) → ok && runsAt f s i ≡ j → (ok && mayFollow f (byteBack f s i 4) (byteBack f s i 3) (byteBack f s i 2) (byteBack f s i 1) (getD s i 0)) && runsAt f s (i + 1) ≡ j
-  runs-turn j i h ok e = and-assoc ok (mayFollow f (byteBack f s i 4) (byteBack f s i 3) (byteBack f s i 2) (byteBack f s i 1) (getD s i 0)) (runsAt f s (i + 1)) ∙ ap (λ (t : Bool). ok && t) (sym (runs-next i h)) ∙ e
+  pub runs-turn : (j : Bool) (i : ℕ) → i < length s → (ok : Bool) → ok && runsAt f s i ≡ j
+      → (ok && mayFollow f (byteBack f s i 4) (byteBack f s i 3) (byteBack f s i 2) (byteBack f s i 1) (getD s i 0)) && runsAt f s (i + 1) ≡ j
+  runs-turn j i h ok e = and-assoc ok (mayFollow f (byteBack f s i 4) (byteBack f s i 3) (byteBack f s i 2) (byteBack f s i 1) (getD s i 0))
+      (runsAt f s (i + 1)) ∙ ap (λ (t : Bool). ok && t) (sym (runs-next i h)) ∙ e
     where
       and-assoc : (x y z : Bool) → (x && y) && z ≡ x && (y && z)
       and-assoc true y z = refl
       and-assoc false y z = refl
 
-pub head-turn : (f : Format) (s : List ℕ) (j : Bool) (i a b c p : ℕ) → i < length s → (ok r : Bool) → ok && runsAt f s i ≡ j → a ≡ byteBack f s i 4 → b ≡ byteBack f s i 3 → c ≡ byteBack f s i 2 → p ≡ byteBack f s i 1 → r ≡ mayFollow f a b c p (getD s i 0) → (ok && r) && runsAt f s (i + 1) ≡ j
+pub head-turn : (f : Format) (s : List ℕ) (j : Bool) (i a b c p : ℕ) → i < length s → (ok r : Bool) → ok && runsAt f s i ≡ j → a ≡ byteBack f s i 4
+    → b ≡ byteBack f s i 3 → c ≡ byteBack f s i 2 → p ≡ byteBack f s i 1 → r ≡ mayFollow f a b c p (getD s i 0) → (ok && r) && runsAt f s (i + 1) ≡ j
 head-turn f s j i a b c p h ok r e ea eb ec ep q =
-    ap (λ (t : Bool). (ok && t) && runsAt f s (i + 1)) (q ∙ ap₂ (λ (x y : ℕ). mayFollow f x y c p (getD s i 0)) ea eb ∙ ap₂ (λ (x y : ℕ). mayFollow f (byteBack f s i 4) (byteBack f s i 3) x y (getD s i 0)) ec ep)
+    ap (λ (t : Bool). (ok && t) && runsAt f s (i + 1)) (q ∙ ap₂ (λ (x y : ℕ). mayFollow f x y c p (getD s i 0)) ea eb
+    ∙ ap₂ (λ (x y : ℕ). mayFollow f (byteBack f s i 4) (byteBack f s i 3) x y (getD s i 0)) ec ep)
     ∙ runs-turn f s j i h ok e
 
 -- the same where the bytes before stand in the input
-pub text-turn : (s : List ℕ) (j : Bool) (i : ℕ) → i < length s → 4 ≤ i → (ok r : Bool) → ok && runsAt Text s i ≡ j → r ≡ textNext (getD s (i - 4) 0) (getD s (i - 3) 0) (getD s (i - 2) 0) (getD s (i - 1) 0) (getD s i 0) → (ok && r) && runsAt Text s (i + 1) ≡ j
+pub text-turn : (s : List ℕ) (j : Bool) (i : ℕ) → i < length s → 4 ≤ i → (ok r : Bool) → ok && runsAt Text s i ≡ j
+    → r ≡ textNext (getD s (i - 4) 0) (getD s (i - 3) 0) (getD s (i - 2) 0) (getD s (i - 1) 0) (getD s i 0) → (ok && r) && runsAt Text s (i + 1) ≡ j
 text-turn s j i h k ok r e q =
     ap (λ (t : Bool). (ok && t) && runsAt Text s (i + 1)) (q ∙ sym (here (getD s i 0))) ∙ runs-turn Text s j i h ok e
   where
-    here : (x : ℕ) → textNext (byteBack Text s i 4) (byteBack Text s i 3) (byteBack Text s i 2) (byteBack Text s i 1) x ≡ textNext (getD s (i - 4) 0) (getD s (i - 3) 0) (getD s (i - 2) 0) (getD s (i - 1) 0) x
+    here : (x : ℕ) → textNext (byteBack Text s i 4) (byteBack Text s i 3) (byteBack Text s i 2) (byteBack Text s i 1) x ≡ textNext (getD s (i - 4) 0)
+        (getD s (i - 3) 0) (getD s (i - 2) 0) (getD s (i - 1) 0) x
     here x =
         ap₂ (λ (a b : ℕ). textNext a b (byteBack Text s i 2) (byteBack Text s i 1) x) (back-at Text s i 4 k) (back-at Text s i 3 (omega arith))
         ∙ ap₂ (λ (c p : ℕ). textNext (getD s (i - 4) 0) (getD s (i - 3) 0) c p x) (back-at Text s i 2 (omega arith)) (back-at Text s i 1 (omega arith))
 
-pub binary-turn : (s : List ℕ) (j : Bool) (i : ℕ) → i < length s → 1 ≤ i → (ok r : Bool) → ok && runsAt Binary s i ≡ j → r ≡ binaryNext (getD s (i - 1) 0) (getD s i 0) → (ok && r) && runsAt Binary s (i + 1) ≡ j
+pub binary-turn : (s : List ℕ) (j : Bool) (i : ℕ) → i < length s → 1 ≤ i → (ok r : Bool) → ok && runsAt Binary s i ≡ j
+    → r ≡ binaryNext (getD s (i - 1) 0) (getD s i 0) → (ok && r) && runsAt Binary s (i + 1) ≡ j
 binary-turn s j i h k ok r e q =
-    ap (λ (t : Bool). (ok && t) && runsAt Binary s (i + 1)) (q ∙ ap (λ (p : ℕ). binaryNext p (getD s i 0)) (sym (back-at Binary s i 1 k))) ∙ runs-turn Binary s j i h ok e
+    ap (λ (t : Bool). (ok && t) && runsAt Binary s (i + 1)) (q ∙ ap (λ (p : ℕ). binaryNext p (getD s i 0)) (sym (back-at Binary s i 1 k)))
+    ∙ runs-turn Binary s j i h ok e
 
-pub runs-out : (f : Format) (s : List ℕ) (j : Bool) (i : ℕ) → length s ≤ i → 1 ≤ i → (ok : Bool) → ok && runsAt f s i ≡ j → ok && eqb (getD s (i - 1) 0) (endByte f) ≡ j
+pub runs-out : (f : Format) (s : List ℕ) (j : Bool) (i : ℕ) → length s ≤ i → 1 ≤ i → (ok : Bool) → ok && runsAt f s i ≡ j
+    → ok && eqb (getD s (i - 1) 0) (endByte f) ≡ j
 runs-out f s j i h k ok e =
     ap (λ (p : ℕ). ok && eqb p (endByte f)) (sym (back-at f s i 1 k)) ∙ ap (λ (t : Bool). ok && t) (sym (runs-done f s i h)) ∙ e
 

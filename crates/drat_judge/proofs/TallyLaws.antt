@@ -47,7 +47,11 @@ decimal-none (more {d = d} {bs = bs} q n) lo hi h =
 
 -- LEB128 has one byte below 128, its last, and that is no 0
 leb-last : {bs : List ℕ} {v : ℕ} → Numeral leb128 bs v → (tally 0 0 bs ≡ 0) × (tally 0 127 bs ≡ 1)
-leb-last (one {d = d} p q) = (tally-out 0 0 d [] (inr p) ∙ tally-none 0 0, tally-in 0 127 d [] (omega arith) (omega arith) ∙ ap (λ (x : ℕ). 1 + x) (tally-none 0 127))
+leb-last (one {d = d} p q) = (
+  tally-out 0 0 d [] (inr p) ∙ tally-none 0 0,
+  tally-in 0 127 d [] (omega arith) (omega arith)
+      ∙ ap (λ (x : ℕ). 1 + x) (tally-none 0 127),
+)
 leb-last (more {d = d} {bs = bs} q n) =
     let h = leb-last n in
     (tally-out 0 0 (128 + d) bs (inr (omega arith)) ∙ h .0, tally-out 0 127 (128 + d) bs (inr (omega arith)) ∙ h .1)
@@ -87,8 +91,11 @@ body-counts {f = Text} last = (refl, refl, refl)
 body-counts {f = Binary} last = (refl, refl)
 body-counts {f = Text} (lit {bs = bs} {rest = r} n b) =
     let h = number-counts n in
-    let k = body-counts b in
-    (omega (arith, tally-append 10 10 bs r, h .0, k .0), omega (arith, tally-append 32 32 bs r, h .1, k .1), omega (arith, tally-append 100 100 bs r, h .2, k .2))
+    let k = body-counts b in (
+      omega (arith, tally-append 10 10 bs r, h .0, k .0),
+      omega (arith, tally-append 32 32 bs r, h .1, k .1),
+      omega (arith, tally-append 100 100 bs r, h .2, k .2),
+    )
 body-counts {f = Binary} (lit {bs = bs} {rest = r} n b) =
     let h = number-counts n in
     let k = body-counts b in
@@ -100,12 +107,34 @@ steps-count {f = Text} none = (refl, refl)
 steps-count {f = Binary} none = (refl, refl)
 steps-count {f = Text} (step {bs = bs} {rest = r} {cs = cs} {ss = ss} Add b t) =
     let h = body-counts b in
-    let g = steps-count t in
-    (omega (arith, tally-append 10 10 bs r, h .0, g .0), omega (arith, tally-append 32 32 bs r, tally-append 100 100 bs r, h .1, h .2, g .1, length-append cs (codesOf ss)))
+    let g = steps-count t in (
+      omega (arith, tally-append 10 10 bs r, h .0, g .0),
+      omega (
+        arith,
+        tally-append 32 32 bs r,
+        tally-append 100 100 bs r,
+        h .1,
+        h .2,
+        g .1,
+        length-append cs
+            (codesOf ss),
+      ),
+    )
 steps-count {f = Text} (step {bs = bs} {rest = r} {cs = cs} {ss = ss} Delete b t) =
     let h = body-counts b in
-    let g = steps-count t in
-    (omega (arith, tally-append 10 10 bs r, h .0, g .0), omega (arith, tally-append 32 32 bs r, tally-append 100 100 bs r, h .1, h .2, g .1, length-append cs (codesOf ss)))
+    let g = steps-count t in (
+      omega (arith, tally-append 10 10 bs r, h .0, g .0),
+      omega (
+        arith,
+        tally-append 32 32 bs r,
+        tally-append 100 100 bs r,
+        h .1,
+        h .2,
+        g .1,
+        length-append cs
+            (codesOf ss),
+      ),
+    )
 steps-count {f = Binary} (step {bs = bs} {rest = r} {cs = cs} {ss = ss} Add b t) =
     let h = body-counts b in
     let g = steps-count t in

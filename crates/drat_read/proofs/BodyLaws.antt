@@ -84,7 +84,18 @@ pub record BodyFilling (f : Format) (s codes₀ : List ℕ) (i n : ℕ) (codes :
 
 pub filling-start : (f : Format) (s codes : List ℕ) (i n : ℕ) → BodyFits f s i n (length codes) → BodyFilling f s codes i n codes i n
 filling-start f s codes i n b =
-    record { ds = []; rest = b .cs; end = b .end; inside = b .inside; all = b .reads; ahead = body-is f s i ∙ b .reads; fits = b .fits; count = omega arith; held = refl }
+    record {
+      ds = [];
+      rest = b .cs;
+      end = b .end;
+      inside = b .inside;
+      all = b .reads;
+      ahead = body-is f s i ∙ b .reads;
+      fits = b .fits;
+      count =
+          omega arith;
+      held = refl;
+    }
 
 module _ (f : Format) (s codes₀ codes : List ℕ) (i n at m : ℕ) (hb : Bytes s) (r : BodyFilling f s codes₀ i n codes at m) where
   known : NextToken f s at (r .rest) (r .end)
@@ -118,7 +129,8 @@ module _ (f : Format) (s codes₀ codes : List ℕ) (i n at m : ℕ) (hb : Bytes
       go (goes c k ds t z b o p) = record { code = c; next = k; is = t }
 
   -- one literal more
-  pub filling-more : (c k : ℕ) → token f at (drop at s) ≡ Lit c k → (at < k) × (k ≤ length s) × (m < length codes₀) × BodyFilling f s codes₀ i n (set codes m c) k (m + 1)
+  pub filling-more : (c k : ℕ) → token f at (drop at s) ≡ Lit c k → (at < k) × (k ≤ length s) × (m < length codes₀)
+      × BodyFilling f s codes₀ i n (set codes m c) k (m + 1)
   filling-more c k e = go known
     where
       go : NextToken f s at (r .rest) (r .end) → (at < k) × (k ≤ length s) × (m < length codes₀) × BodyFilling f s codes₀ i n (set codes m c) k (m + 1)
@@ -127,7 +139,8 @@ module _ (f : Format) (s codes₀ codes : List ℕ) (i n at m : ℕ) (hb : Bytes
           let q : Lit d j ≡ Lit c k = sym t ∙ e in
           let qd : d ≡ c = cc in
           let qj : j ≡ k = cc in
-          let a : r .ds ++ r .rest ≡ (r .ds ++ c ∷ []) ++ ds = ap (λ (x : List ℕ). r .ds ++ x) (z ∙ ap (λ (x : ℕ). x ∷ ds) qd) ∙ sym (append-assoc (r .ds) (c ∷ []) ds) in
+          let a : r .ds ++ r .rest ≡ (r .ds ++ c ∷ []) ++ ds =
+          ap (λ (x : List ℕ). r .ds ++ x) (z ∙ ap (λ (x : ℕ). x ∷ ds) qd) ∙ sym (append-assoc (r .ds) (c ∷ []) ds) in
           let w : length (r .ds) + 1 + length ds ≡ length (r .ds ++ r .rest) = sym (ap length a ∙ simp length-append) in (
             omega arith,
             omega arith,

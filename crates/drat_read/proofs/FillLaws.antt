@@ -29,93 +29,105 @@ rest-steps ds (faultAt i) ss e = absurd (steps-fault ss i e)
 
 codes-more : (ss ts : List Step) (t : Step) → length (codesOf ss) + length (t .lits) ≤ length (codesOf (ss ++ t ∷ ts))
 unfolding codesOf
-codes-more ss ts t = omega (arith, ap length (codes-of-append ss (t ∷ ts)), length-append (codesOf ss) (t .lits ++ codesOf ts), length-append (t .lits) (codesOf ts))
+codes-more ss ts t =
+    omega (arith, ap length (codes-of-append ss (t ∷ ts)), length-append (codesOf ss) (t .lits ++ codesOf ts), length-append (t .lits) (codesOf ts))
 
 -- literals that were filled, one by one
-along : (f : Format) (s : List ℕ) → Bytes s → (rest codes₁ codes₂ : List ℕ) (at₁ n₁ at₂ n₂ j : ℕ) → Inner f s codes₁ at₁ n₁ codes₂ at₂ n₂ → bodyAt f s at₂ ≡ whole rest j → (z : ℕ) × Inner f s codes₁ at₁ n₁ (sets codes₂ n₂ rest) z (n₂ + length rest) × (token f z (drop z s) ≡ Stop j)
+along : (f : Format) (s : List ℕ) → Bytes s → (rest codes₁ codes₂ : List ℕ) (at₁ n₁ at₂ n₂ j : ℕ) → Inner f s codes₁ at₁ n₁ codes₂ at₂ n₂
+    → bodyAt f s at₂ ≡ whole rest j → (z : ℕ) × Inner f s codes₁ at₁ n₁ (sets codes₂ n₂ rest) z (n₂ + length rest) × (token f z (drop z s) ≡ Stop j)
 along f s hb [] codes₁ codes₂ at₁ n₁ at₂ n₂ j i e = go (next-token f s at₂ [] j hb (i .within) e)
   where
     go : NextToken f s at₂ [] j → (z : ℕ) × Inner f s codes₁ at₁ n₁ codes₂ z (n₂ + 0) × (token f z (drop z s) ≡ Stop j)
     go (stops t q k) = let z : n₂ ≡ n₂ + 0 = omega arith in (at₂, subst (Inner f s codes₁ at₁ n₁ codes₂ at₂) z i, t)
     go (goes c k ds t q b u v) = let z : _≡_ {A = ℕ} 0 1 = cc in absurd (omega arith)
-along f s hb (x ∷ rest) codes₁ codes₂ at₁ n₁ at₂ n₂ j i e = go (next-token f s at₂ (x ∷ rest) j hb (i .within) e) (λ codes k n. along f s hb rest codes₁ codes at₁ n₁ k n j)
+along f s hb (x ∷ rest) codes₁ codes₂ at₁ n₁ at₂ n₂ j i e = go (next-token f s at₂ (x ∷ rest) j hb (i .within) e)
+    (λ codes k n. along f s hb rest codes₁ codes at₁ n₁ k n j)
   where
     go : NextToken f s at₂ (x ∷ rest) j
-        → ((codes : List ℕ) (k n : ℕ) → Inner f s codes₁ at₁ n₁ codes k n → bodyAt f s k ≡ whole rest j → (z : ℕ) × Inner f s codes₁ at₁ n₁ (sets codes n rest) z (n + length rest) × (token f z (drop z s) ≡ Stop j))
+        → ((codes : List ℕ) (k n : ℕ) → Inner f s codes₁ at₁ n₁ codes k n → bodyAt f s k ≡ whole rest j → (z : ℕ)
+        × Inner f s codes₁ at₁ n₁ (sets codes n rest) z (n + length rest) × (token f z (drop z s) ≡ Stop j))
         → (z : ℕ) × Inner f s codes₁ at₁ n₁ (sets codes₂ n₂ (x ∷ rest)) z (n₂ + length (x ∷ rest)) × (token f z (drop z s) ≡ Stop j)
     go (stops t q k) ih = let z : _≡_ {A = ℕ} 0 1 = cc in absurd (omega arith)
     go (goes c k ds t q b u v) ih =
         let qx : c ≡ x = cc in
         let qr : ds ≡ rest = cc in
-        let g = ih (set codes₂ n₂ x) k (n₂ + 1) (inner-more f s codes₁ codes₂ at₁ n₁ at₂ n₂ x k hb i (t ∙ ap (λ (y : ℕ). Lit y k) qx)) (b ∙ ap (λ (y : List ℕ). whole y j) qr) in
+        let g = ih (set codes₂ n₂ x) k (n₂ + 1) (inner-more f s codes₁ codes₂ at₁ n₁ at₂ n₂ x k hb i (t ∙ ap (λ (y : ℕ). Lit y k) qx))
+        (b ∙ ap (λ (y : List ℕ). whole y j) qr) in
         let w : n₂ + 1 + length rest ≡ n₂ + length (x ∷ rest) = omega arith in
         (g .0, subst₂ (λ (y : ℕ) (l : ℕ). Inner f s codes₁ at₁ n₁ (sets (set codes₂ n₂ x) y rest) (g .0) l) (add-one n₂) w (g .1), g .2)
 
-module _ (f : Format) (s codes₀ ends₀ kinds₀ codes ends kinds : List ℕ) (at n m : ℕ) (hb : Bytes s) (o : Outer f s codes₀ ends₀ kinds₀ codes ends kinds at n m) where
-  -- the step at a place before the end, and those after it
-  record Coming (ss : List Step) : Type 0 where
-    now : Step
-    end : ℕ
-    later : List Step
-    here : stepAt f s at ≡ got now end
-    all : ss ≡ o .ss ++ now ∷ later
+module _ (f : Format) (s codes₀ ends₀ kinds₀ codes ends kinds : List ℕ) (at n m : ℕ) (hb : Bytes s) (o : Outer f s codes₀ ends₀ kinds₀ codes ends kinds at n m)
+  where
+    -- the step at a place before the end, and those after it
+    record Coming (ss : List Step) : Type 0 where
+      now : Step
+      end : ℕ
+      later : List Step
+      here : stepAt f s at ≡ got now end
+      all : ss ≡ o .ss ++ now ∷ later
 
-  coming : (ss : List Step) → readProof f s ≡ steps ss → at < length s → Coming ss
-  coming ss e h = go (stepAt f s at) refl
-    where
-      r : (ts : List Step) × (proofAt f s at ≡ steps ts) × (ss ≡ o .ss ++ ts)
-      r = rest-steps (o .ss) (proofAt f s at) ss (sym (o .read) ∙ sym (proof-at-zero f s) ∙ e)
-
-      go : (t : One) → stepAt f s at ≡ t → Coming ss
-      go (got t j) g =
-          let q = cons-step t (proofAt f s j) (r .0) (sym (got-at f s hb at (o .within) t j g) ∙ r .1) in
-          record { now = t; end = j; later = q .0; here = g; all = r .2 ∙ ap (λ (l : List Step). o .ss ++ l) (sym (q .2)) }
-      go fault g = absurd (steps-fault (r .0) at (sym (fault-at f s hb at h g) ∙ r .1))
-
-  module _ (a b c : ℕ) (w : StepsFit f s a b c) (h : at < length s) where
-    fill-wrong : opening f at (drop at s) ≡ Wrong → ⊥
-    fill-wrong e = let g = coming (w .ss) (w .reads) h in fault-got (g .now) (g .end) (sym (wrong-at f s hb at e) ∙ g .here)
-
-    pub fill-open : IsOpen (opening f at (drop at s))
-    fill-open = go (opening f at (drop at s)) refl
+    coming : (ss : List Step) → readProof f s ≡ steps ss → at < length s → Coming ss
+    coming ss e h = go (stepAt f s at) refl
       where
-        go : (t : Opening) → opening f at (drop at s) ≡ t → IsOpen (opening f at (drop at s))
-        go (Opens k j) e = record { kind = k; first = j; is = e }
-        go Wrong e = absurd (fill-wrong e)
+        r : (ts : List Step) × (proofAt f s at ≡ steps ts) × (ss ≡ o .ss ++ ts)
+        r = rest-steps (o .ss) (proofAt f s at) ss (sym (o .read) ∙ sym (proof-at-zero f s) ∙ e)
 
-    pub fill-opens : (k : Kind) (first : ℕ) → opening f at (drop at s) ≡ Opens k first → BodyFits f s first n a
-    fill-opens k first e =
-        let g = coming (w .ss) (w .reads) h in
+        go : (t : One) → stepAt f s at ≡ t → Coming ss
+        go (got t j) g =
+            let q = cons-step t (proofAt f s j) (r .0) (sym (got-at f s hb at (o .within) t j g) ∙ r .1) in
+            record { now = t; end = j; later = q .0; here = g; all = r .2 ∙ ap (λ (l : List Step). o .ss ++ l) (sym (q .2)) }
+        go fault g = absurd (steps-fault (r .0) at (sym (fault-at f s hb at h g) ∙ r .1))
+
+    module _ (a b c : ℕ) (w : StepsFit f s a b c) (h : at < length s) where
+      fill-wrong : opening f at (drop at s) ≡ Wrong → ⊥
+      fill-wrong e = let g = coming (w .ss) (w .reads) h in fault-got (g .now) (g .end) (sym (wrong-at f s hb at e) ∙ g .here)
+
+      pub fill-open : IsOpen (opening f at (drop at s))
+      fill-open = go (opening f at (drop at s)) refl
+        where
+          go : (t : Opening) → opening f at (drop at s) ≡ t → IsOpen (opening f at (drop at s))
+          go (Opens k j) e = record { kind = k; first = j; is = e }
+          go Wrong e = absurd (fill-wrong e)
+
+      pub fill-opens : (k : Kind) (first : ℕ) → opening f at (drop at s) ≡ Opens k first → BodyFits f s first n a
+      fill-opens k first e =
+          let g = coming (w .ss) (w .reads) h in
+          let x = opens-at f s hb at (o .within) k first e in
+          let p = as-step k (bodyAt f s first) (g .now) (g .end) (sym (x .0) ∙ g .here) in
+          let l : length (g .now .lits) ≡ length (p .0) = sym (ap (λ (t : Step). length (t .lits)) (p .2)) in
+          record {
+            cs = p .0;
+            end = g .end;
+            inside = x .2;
+            low = omega (arith, o .small, x .1);
+            reads = sym (body-is f s first) ∙ p .1;
+            fits = omega (arith, o .count, codes-more (o .ss) (g .later) (g .now), w .codes-fit, ap (λ (t : List Step). length (codesOf t)) (g .all));
+          }
+
+      pub fill-room : (m < b) × (m < c)
+      fill-room =
+          let g = coming (w .ss) (w .reads) h in
+          let l = ap length (g .all) ∙ length-append (o .ss) (g .now ∷ g .later) in
+          (omega (arith, o .count, w .ends-fit), omega (arith, o .count, w .kinds-fit))
+
+    -- one step more
+    pub fill-step : (k : Kind) (first : ℕ) → opening f at (drop at s) ≡ Opens k first → (codes′ : List ℕ) (at′ n′ : ℕ)
+        → BodyFilled f s first n codes codes′ at′ n′
+        → (at < at′) × Outer f s codes₀ ends₀ kinds₀ codes′ (set ends m n′) (set kinds m (kindNumber k)) at′ n′ (m + 1)
+    fill-step k first e codes′ at′ n′ b =
         let x = opens-at f s hb at (o .within) k first e in
-        let p = as-step k (bodyAt f s first) (g .now) (g .end) (sym (x .0) ∙ g .here) in
-        let l : length (g .now .lits) ≡ length (p .0) = sym (ap (λ (t : Step). length (t .lits)) (p .2)) in
-        record {
-          cs = p .0;
-          end = g .end;
-          inside = x .2;
-          low = omega (arith, o .small, x .1);
-          reads = sym (body-is f s first) ∙ p .1;
-          fits = omega (arith, o .count, codes-more (o .ss) (g .later) (g .now), w .codes-fit, ap (λ (t : List Step). length (codesOf t)) (g .all));
-        }
+        let g = along f s hb (b .cs) codes codes first n first n at′ (inner-start f s codes first n (x .2) (omega (arith, x .1, o .small)))
+        (body-is f s first ∙ b .reads) in
+        let i : Inner f s codes first n codes′ (g .0) n′ = subst₂ (λ (y : List ℕ) (l : ℕ). Inner f s codes first n y (g .0) l) (sym (b .held)) (sym (b .count))
+        (g .1) in (
+          omega (arith, x .1, i .after, stop-at f s hb (g .0) (i .within) at′ (g .2)),
+          outer-more f s codes₀ ends₀ kinds₀ codes ends kinds at n m hb o k first e
+              codes′ (g .0) n′ at′ i (g .2),
+        )
 
-    pub fill-room : (m < b) × (m < c)
-    fill-room =
-        let g = coming (w .ss) (w .reads) h in
-        let l = ap length (g .all) ∙ length-append (o .ss) (g .now ∷ g .later) in
-        (omega (arith, o .count, w .ends-fit), omega (arith, o .count, w .kinds-fit))
-
-  -- one step more
-  pub fill-step : (k : Kind) (first : ℕ) → opening f at (drop at s) ≡ Opens k first → (codes′ : List ℕ) (at′ n′ : ℕ) → BodyFilled f s first n codes codes′ at′ n′
-      → (at < at′) × Outer f s codes₀ ends₀ kinds₀ codes′ (set ends m n′) (set kinds m (kindNumber k)) at′ n′ (m + 1)
-  fill-step k first e codes′ at′ n′ b =
-      let x = opens-at f s hb at (o .within) k first e in
-      let g = along f s hb (b .cs) codes codes first n first n at′ (inner-start f s codes first n (x .2) (omega (arith, x .1, o .small))) (body-is f s first ∙ b .reads) in
-      let i : Inner f s codes first n codes′ (g .0) n′ = subst₂ (λ (y : List ℕ) (l : ℕ). Inner f s codes first n y (g .0) l) (sym (b .held)) (sym (b .count)) (g .1) in
-      (omega (arith, x .1, i .after, stop-at f s hb (g .0) (i .within) at′ (g .2)), outer-more f s codes₀ ends₀ kinds₀ codes ends kinds at n m hb o k first e codes′ (g .0) n′ at′ i (g .2))
-
-  -- no step more
-  pub fill-end : length s ≤ at → Scan f s codes₀ ends₀ kinds₀ codes ends kinds (counted (readProof f s))
-  fill-end h = let r = outer-end f s codes₀ ends₀ kinds₀ codes ends kinds at n m hb o h in record { answer = refl; filled = r .filled }
+    -- no step more
+    pub fill-end : length s ≤ at → Scan f s codes₀ ends₀ kinds₀ codes ends kinds (counted (readProof f s))
+    fill-end h = let r = outer-end f s codes₀ ends₀ kinds₀ codes ends kinds at n m hb o h in record { answer = refl; filled = r .filled }
 
 -- the numbers of literals and of steps say whether slices hold them
 pub whole-fits : (f : Format) (s : List ℕ) (n m a b c : ℕ) → Whole n m ≡ counted (readProof f s) → n ≤ a → m ≤ b → m ≤ c → StepsFit f s a b c

@@ -46,7 +46,8 @@ module _ (s : List ℕ) (sign v i : ℕ) (t : Token) (n : IsNumber s t) (e : dig
 
   pub digits-inside : i < length s
   digits-inside =
-      ⊎-elim (λ (h : i < length s). h) (λ (h : length s ≤ i). absurd (omega (arith, n .inside, run-over (sym (digits-past s i h sign v) ∙ e) .1))) (split i (length s))
+      ⊎-elim (λ (h : i < length s). h) (λ (h : length s ≤ i). absurd (omega (arith, n .inside, run-over (sym (digits-past s i h sign v) ∙ e) .1)))
+      (split i (length s))
 
   pub digits-ended : getD s i 0 < 48 → (0 < v) × (t ≡ Lit (2 * (v - 1) + sign) i)
   digits-ended h =
@@ -74,8 +75,8 @@ pub token-inside : (f : Format) (s : List ℕ) (i c j : ℕ) → token f i (drop
 token-inside f s i c j e = standing s i (token f i (drop i s)) c j e (λ h. token-past s i h f)
 
 -- a byte above 0 stands in the input
-filled : (s : List ℕ) (i : ℕ) → 0 < getD s i 0 → i < length s
-filled s i h = ⊎-elim (λ (k : i < length s). k) (λ (k : length s ≤ i). absurd (omega (arith, List·getD-eq-default s 0 k))) (split i (length s))
+byte-inside : (s : List ℕ) (i : ℕ) → 0 < getD s i 0 → i < length s
+byte-inside s i h = ⊎-elim (λ (k : i < length s). k) (λ (k : length s ≤ i). absurd (omega (arith, List·getD-eq-default s 0 k))) (split i (length s))
 
 -- a number: an optional minus, then digits
 pub signed-digits : (s : List ℕ) (i sign : ℕ) → i < length s → sign ≡ pick (eqb (getD s i 0) 45) 1 0
@@ -98,16 +99,18 @@ signed-digits s i sign h e = go (eqb (getD s i 0) 45) refl
 pub text-literal : (s : List ℕ) (i : ℕ) → i < length s → (getD s i 0 ≡ 48 → ⊥) → token Text i (drop i s) ≡ thenBlank i (drop i s) (signedFrom i (drop i s))
 text-literal s i h n = text-here s i h ∙ simp (ne-eqb (getD s i 0) 48 n)
 
-pub text-number : (s : List ℕ) (i sign c j : ℕ) → i < length s → (getD s i 0 ≡ 48 → ⊥) → sign ≡ pick (eqb (getD s i 0) 45) 1 0 → token Text i (drop i s) ≡ Lit c j
+pub text-number : (s : List ℕ) (i sign c j : ℕ) → i < length s → (getD s i 0 ≡ 48 → ⊥) → sign ≡ pick (eqb (getD s i 0) 45) 1 0
+    → token Text i (drop i s) ≡ Lit c j
     → IsNumber s (digitsFrom sign 0 (i + sign) (drop (i + sign) s))
 text-number s i sign c j h n q e =
     let r = blank-read i (drop i s) (signedFrom i (drop i s)) c j (sym (text-literal s i h n) ∙ e) in
     let m = signed-moves i (drop i s) c (r .0) (r .1) in
     let k : i + (r .0 - i) ≡ r .0 = omega (arith, m .0) in
     let b : getD s (r .0) 0 ≡ 32 = sym (getD-drop i s (r .0 - i) 0 ∙ ap (λ (x : ℕ). getD s x 0) k) ∙ r .3 in
-    record { code = c; next = r .0; is = sym (signed-digits s i sign h q) ∙ r .1; inside = filled s (r .0) (omega arith); below = omega arith }
+    record { code = c; next = r .0; is = sym (signed-digits s i sign h q) ∙ r .1; inside = byte-inside s (r .0) (omega arith); below = omega arith }
 
-pub text-read : (s : List ℕ) (i sign c k : ℕ) (t : IsLit (token Text i (drop i s))) → i < length s → (getD s i 0 ≡ 48 → ⊥) → sign ≡ pick (eqb (getD s i 0) 45) 1 0
+pub text-read : (s : List ℕ) (i sign c k : ℕ) (t : IsLit (token Text i (drop i s))) → i < length s → (getD s i 0 ≡ 48 → ⊥)
+    → sign ≡ pick (eqb (getD s i 0) 45) 1 0
     → digitsFrom sign 0 (i + sign) (drop (i + sign) s) ≡ Lit c k → (k < length s) × (token Text i (drop i s) ≡ Lit c (k + 1))
 text-read s i sign c k t h n q e =
     let r = blank-read i (drop i s) (signedFrom i (drop i s)) (t .code) (t .next) (sym (text-literal s i h n) ∙ t .is) in
@@ -130,7 +133,8 @@ module _ (s : List ℕ) (i c j : ℕ) (e : lebFrom 0 1 i (drop i s) ≡ Lit c j)
   pub leb-one : getD s i 0 < 128 → (2 ≤ getD s i 0) × (lebFrom 0 1 i (drop i s) ≡ Lit (getD s i 0 - 2) (i + 1))
   leb-one h =
       let b = getD s i 0 in
-      let d : lebFrom 0 1 i (drop i s) ≡ pick (eqb b 0) Bad (pick (ltb (0 + 1 * b) 2) Bad (pick (ltb 8193 (0 + 1 * b)) Bad (Lit (0 + 1 * b - 2) (i + 1)))) = leb-here s i leb-inside 0 1 ∙ simp (lt-ltb (getD s i 0) 128 h) in
+      let d : lebFrom 0 1 i (drop i s) ≡ pick (eqb b 0) Bad (pick (ltb (0 + 1 * b) 2) Bad (pick (ltb 8193 (0 + 1 * b)) Bad (Lit (0 + 1 * b - 2) (i + 1)))) =
+      leb-here s i leb-inside 0 1 ∙ simp (lt-ltb (getD s i 0) 128 h) in
       let z₁ = passed (eqb b 0) _ c j (sym d ∙ e) in
       let z₂ = passed (ltb (0 + 1 * b) 2) _ c j (z₁ .1) in
       let z₃ = passed (ltb 8193 (0 + 1 * b)) _ c j (z₂ .1) in
@@ -138,7 +142,8 @@ module _ (s : List ℕ) (i c j : ℕ) (e : lebFrom 0 1 i (drop i s) ≡ Lit c j)
       let w : 0 + 1 * b - 2 ≡ b - 2 = omega arith in
       (omega arith, e ∙ sym (z₃ .1) ∙ ap (λ (x : ℕ). Lit x (i + 1)) w)
 
-  pub leb-two : 128 ≤ getD s i 0 → (i + 1 < length s) × (0 < getD s (i + 1) 0) × (lebFrom 0 1 i (drop i s) ≡ Lit (128 * getD s (i + 1) 0 + getD s i 0 - 130) (i + 2))
+  pub leb-two : 128 ≤ getD s i 0 → (i + 1 < length s) × (0 < getD s (i + 1) 0)
+      × (lebFrom 0 1 i (drop i s) ≡ Lit (128 * getD s (i + 1) 0 + getD s i 0 - 130) (i + 2))
   leb-two h =
       let a = getD s i 0 in
       let b = getD s (i + 1) 0 in
@@ -146,7 +151,8 @@ module _ (s : List ℕ) (i c j : ℕ) (e : lebFrom 0 1 i (drop i s) ≡ Lit c j)
       let d : lebFrom 0 1 i (drop i s) ≡ lebFrom v (1 * 128) (i + 1) (drop (i + 1) s) = leb-here s i leb-inside 0 1 ∙ simp (le-ltb (getD s i 0) 128 h) in
       let k = standing s (i + 1) (lebFrom v (1 * 128) (i + 1) (drop (i + 1) s)) c j (sym d ∙ e) (λ o. leb-past s (i + 1) o v (1 * 128)) in
       let n = v + 1 * 128 * b in
-      let z₀ = kept (ltb b 128) (pick (eqb b 0) Bad (pick (ltb n 2) Bad (pick (ltb 8193 n) Bad (Lit (n - 2) (i + 1 + 1))))) c j (sym (leb-here s (i + 1) k v (1 * 128)) ∙ sym d ∙ e) in
+      let z₀ = kept (ltb b 128) (pick (eqb b 0) Bad (pick (ltb n 2) Bad (pick (ltb 8193 n) Bad (Lit (n - 2) (i + 1 + 1))))) c j
+      (sym (leb-here s (i + 1) k v (1 * 128)) ∙ sym d ∙ e) in
       let z₁ = passed (eqb b 0) _ c j z₀ in
       let z₂ = passed (ltb n 2) _ c j (z₁ .1) in
       let z₃ = passed (ltb 8193 n) _ c j (z₂ .1) in

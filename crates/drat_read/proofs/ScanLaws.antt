@@ -32,7 +32,8 @@ between-start f s = record { codes = []; ends = []; kinds = []; outer = outer-st
 pub inside-start : (f : Format) (s : List ℕ) (at n : ℕ) → at ≤ length s → n ≤ at → InStep f s at n at n
 inside-start f s at n h g = record { codes = []; inner = inner-start f s [] at n h g }
 
-pub inside-more : (f : Format) (s : List ℕ) (first n₀ at n c j : ℕ) → Bytes s → InStep f s first n₀ at n → token f at (drop at s) ≡ Lit c j → InStep f s first n₀ j (n + 1)
+pub inside-more : (f : Format) (s : List ℕ) (first n₀ at n c j : ℕ) → Bytes s → InStep f s first n₀ at n → token f at (drop at s) ≡ Lit c j
+    → InStep f s first n₀ j (n + 1)
 inside-more f s first n₀ at n c j hb i e = record { codes = set (i .codes) n c; inner = inner-more f s [] (i .codes) first n₀ at n c j hb (i .inner) e }
 
 -- what was read does not depend on the slice
@@ -42,16 +43,25 @@ onto f s codes first n₀ at n i =
     record { ds = r .ds; within = r .within; after = r .after; small = r .small; read = r .read; count = r .count; held = refl }
 
 module _ (f : Format) (s : List ℕ) (start n m : ℕ) (hb : Bytes s) (b : Between f s start n m) where
-  pub between-more : (k : Kind) (first at n′ j : ℕ) → opening f start (drop start s) ≡ Opens k first → InStep f s first n at n′ → token f at (drop at s) ≡ Stop j → Between f s j n′ (m + 1)
+  pub between-more : (k : Kind) (first at n′ j : ℕ) → opening f start (drop start s) ≡ Opens k first → InStep f s first n at n′
+      → token f at (drop at s) ≡ Stop j → Between f s j n′ (m + 1)
   between-more k first at n′ j e i t =
-      record { codes = _; ends = _; kinds = _; outer = outer-more f s [] [] [] (b .codes) (b .ends) (b .kinds) start n m hb (b .outer) k first e (sets (b .codes) n (i .inner .ds)) at n′ j (onto f s (b .codes) first n at n′ i) t }
+      record {
+        codes = _;
+        ends = _;
+        kinds = _;
+        outer = outer-more f s [] [] [] (b .codes) (b .ends) (b .kinds) start n m hb (b .outer) k first e
+            (sets (b .codes) n (i .inner .ds)) at n′ j (onto f s (b .codes) first n at n′ i) t;
+      }
 
   pub between-wrong : start < length s → opening f start (drop start s) ≡ Wrong → Fault start ≡ counted (readProof f s)
   between-wrong h e = outer-wrong f s [] [] [] (b .codes) (b .ends) (b .kinds) start n m hb (b .outer) h e [] [] [] .answer
 
-  pub between-bad : start < length s → (k : Kind) (first at n′ : ℕ) → opening f start (drop start s) ≡ Opens k first → InStep f s first n at n′ → token f at (drop at s) ≡ Bad → Fault start ≡ counted (readProof f s)
+  pub between-bad : start < length s → (k : Kind) (first at n′ : ℕ) → opening f start (drop start s) ≡ Opens k first → InStep f s first n at n′
+      → token f at (drop at s) ≡ Bad → Fault start ≡ counted (readProof f s)
   between-bad h k first at n′ e i t =
-      outer-bad f s [] [] [] (b .codes) (b .ends) (b .kinds) start n m hb (b .outer) h k first e (sets (b .codes) n (i .inner .ds)) at n′ (onto f s (b .codes) first n at n′ i) t [] [] [] .answer
+      outer-bad f s [] [] [] (b .codes) (b .ends) (b .kinds) start n m hb (b .outer) h k first e (sets (b .codes) n (i .inner .ds)) at n′
+      (onto f s (b .codes) first n at n′ i) t [] [] [] .answer
 
   pub between-end : length s ≤ start → Whole n m ≡ counted (readProof f s)
   between-end h = outer-end f s [] [] [] (b .codes) (b .ends) (b .kinds) start n m hb (b .outer) h .answer

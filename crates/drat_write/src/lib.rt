@@ -213,6 +213,19 @@ fn put_binary(c: u32, out: &mut [u8], at: usize) -> usize
     put_code(c + 2, out, at)
 }
 
+// Writes a literal.
+fn put_number(f: Format, c: u32, out: &mut [u8], at: usize) -> usize
+    requires { ⌜ c < 8192 ⌝ }
+    requires { ⌜ at + length (number f c) ≤ length (now out) ⌝ }
+    ensures { λ r. ⌜ r ≡ at + length (number f c) ⌝ }
+    ensures { λ _. ⌜ Fills out at (number f c) ⌝ }
+{
+    match f {
+        Format::Text => put_text(c, out, at),
+        Format::Binary => put_binary(c, out, at),
+    }
+}
+
 fn put_open(f: Format, k: Kind, out: &mut [u8], at: usize) -> usize
     requires { ⌜ at + length (opens f k) ≤ length (now out) ⌝ }
     ensures { λ r. ⌜ r ≡ at + length (opens f k) ⌝ }
@@ -258,21 +271,6 @@ fn put_end(f: Format, out: &mut [u8], at: usize) -> usize
     }
 }
 
-fn put_texts(lits: &[u32], out: &mut [u8], at: usize) -> usize
-    requires { ⌜ Codes (now lits) ⌝ }
-    requires { ⌜ at + length (numbers Text (now lits)) ≤ length (now out) ⌝ }
-    ensures { λ r. ⌜ r ≡ at + length (numbers Text (old lits)) ⌝ }
-    ensures { λ _. ⌜ Fills out at (numbers Text (old lits)) ⌝ }
-{
-    let mut p = at;
-    let mut i = 0;
-    while i < lits.len() {
-        p = put_text(lits[i], out, p);
-        i += 1;
-    }
-    p
-}
-
 fn all_below(words: &[u32], bound: u32) -> bool
     ensures { λ r. ⌜ r ≡ allBelow (length (old words)) (λ i. ltb (getD (old words) i 0) bound) ⌝ }
 {
@@ -300,16 +298,17 @@ fn put_short(lits: &[u32], out: &mut [u8], at: usize) -> usize
     at + i
 }
 
-fn put_each(lits: &[u32], out: &mut [u8], at: usize) -> usize
+// Writes literals one by one.
+fn put_each(f: Format, lits: &[u32], out: &mut [u8], at: usize) -> usize
     requires { ⌜ Codes (now lits) ⌝ }
-    requires { ⌜ at + length (numbers Binary (now lits)) ≤ length (now out) ⌝ }
-    ensures { λ r. ⌜ r ≡ at + length (numbers Binary (old lits)) ⌝ }
-    ensures { λ _. ⌜ Fills out at (numbers Binary (old lits)) ⌝ }
+    requires { ⌜ at + length (numbers f (now lits)) ≤ length (now out) ⌝ }
+    ensures { λ r. ⌜ r ≡ at + length (numbers f (old lits)) ⌝ }
+    ensures { λ _. ⌜ Fills out at (numbers f (old lits)) ⌝ }
 {
     let mut p = at;
     let mut i = 0;
     while i < lits.len() {
-        p = put_binary(lits[i], out, p);
+        p = put_number(f, lits[i], out, p);
         i += 1;
     }
     p
@@ -325,10 +324,10 @@ fn put_binaries(lits: &[u32], out: &mut [u8], at: usize) -> usize
     if all_below(lits, 126) {
         return put_short(lits, out, at);
     }
-    put_each(lits, out, at)
+    put_each(Format::Binary, lits, out, at)
 }
 
-// Writes literals. A loop for each format, so that the short one is inlined.
+// Writes literals.
 fn put_lits(f: Format, lits: &[u32], out: &mut [u8], at: usize) -> usize
     requires { ⌜ Codes (now lits) ⌝ }
     requires { ⌜ at + length (numbers f (now lits)) ≤ length (now out) ⌝ }
@@ -336,7 +335,7 @@ fn put_lits(f: Format, lits: &[u32], out: &mut [u8], at: usize) -> usize
     ensures { λ _. ⌜ Fills out at (numbers f (old lits)) ⌝ }
 {
     match f {
-        Format::Text => put_texts(lits, out, at),
+        Format::Text => put_each(Format::Text, lits, out, at),
         Format::Binary => put_binaries(lits, out, at),
     }
 }
@@ -360,7 +359,7 @@ fn put_few(k: Kind, lits: &[u32], out: &mut [u8], at: usize) -> usize
     ensures { λ _. ⌜ Fills out at (encodeStep Binary (stepOf k (old lits))) ⌝ }
 {
     let p = put_open(Format::Binary, k, out, at);
-    let q = put_each(lits, out, p);
+    let q = put_each(Format::Binary, lits, out, p);
     put_end(Format::Binary, out, q)
 }
 

@@ -45,8 +45,15 @@ loop-less c = search needs
 loop-again : tie.Need-loop-again Inv-loop μ-loop
 loop-again c =
     let s = c .before .before .before .before .before .before .before .before .before .args .s .now in
-    let l = c .before .before .before .before .before .before .before .loop in
-    (omega arith, head-turn (c .before .before .before .before .before .before .before .before .before .args .f) s (judged (c .before .before .before .before .before .before .before .before .before .args .f) s) (l .i) (c .before .before .before .before .before .byte-back .result) (c .before .before .before .before .byte-back2 .result) (c .before .before .before .byte-back3 .result) (c .before .before .byte-back4 .result) (omega arith) (l .ok) (c .next .result) (l .inv .1) (c .before .before .before .before .before .byte-back .ensures) (c .before .before .before .before .byte-back2 .ensures) (c .before .before .before .byte-back3 .ensures) (c .before .before .byte-back4 .ensures) (c .next .ensures))
+    let l = c .before .before .before .before .before .before .before .loop in (
+      omega arith,
+      head-turn (c .before .before .before .before .before .before .before .before .before .args .f) s
+          (judged (c .before .before .before .before .before .before .before .before .before .args .f) s) (l .i)
+          (c .before .before .before .before .before .byte-back .result) (c .before .before .before .before .byte-back2 .result)
+          (c .before .before .before .byte-back3 .result) (c .before .before .byte-back4 .result) (omega arith) (l .ok) (c .next .result) (l .inv .1)
+          (c .before .before .before .before .before .byte-back .ensures) (c .before .before .before .before .byte-back2 .ensures)
+          (c .before .before .before .byte-back3 .ensures) (c .before .before .byte-back4 .ensures) (c .next .ensures),
+    )
 
 returns : tie.Need-returns Inv-loop μ-loop
 returns c =

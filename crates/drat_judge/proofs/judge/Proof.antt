@@ -23,7 +23,9 @@ unfolding judgedOf
 returns c =
     let f = c .before .before .before .before .before .args .f in
     let s = c .before .before .before .before .before .args .s .now in
-    ap₂ Counts (c .lits-of .ensures) (c .before .steps-of .ensures) ∙ sym (ap (λ (t : Bool). pick t (Counts (litsBy f s) (stepsBy f s)) Unsure) (sym (c .before .before .before .is-judged .ensures) ∙ c .before .before .if1 .taken))
+    ap₂ Counts (c .lits-of .ensures) (c .before .steps-of .ensures)
+    ∙ sym (ap (λ (t : Bool). pick t (Counts (litsBy f s) (stepsBy f s)) Unsure)
+    (sym (c .before .before .before .is-judged .ensures) ∙ c .before .before .if1 .taken))
 
 returns-2 : tie.Need-returns-2
 unfolding judgedOf

@@ -27,7 +27,8 @@ sub-result : tie.Need-sub-result
 sub-result c =
     let s = c .before .before .before .before .before .args .s .now in
     let hb : Bytes s = λ i. omega (arith, c .before .before .before .before .shared-slice-known .given i) in
-    let j = judged-spells Text s hb (subst (λ (f : Format). judged f s ≡ true) (c .before .before .enum-told .given .1) (c .before .before .before .before .before .pre .0)) in
+    let j = judged-spells Text s hb (subst (λ (f : Format). judged f s ≡ true) (c .before .before .enum-told .given .1)
+    (c .before .before .before .before .before .pre .0)) in
     omega (arith, blanks-enough (j .spelled), c .before .tally-of .ensures, c .tally-of2 .ensures)
 
 enum-told-2 : tie.Need-enum-told-2
@@ -40,7 +41,8 @@ mul-result : tie.Need-mul-result
 mul-result c =
     let s = c .before .before .before .before .args .s .now in
     let hb : Bytes s = λ i. omega (arith, c .before .before .before .shared-slice-known .given i) in
-    let j = judged-spells Binary s hb (subst (λ (f : Format). judged f s ≡ true) (c .before .enum-told2 .given .1) (c .before .before .before .before .pre .0)) in
+    let j = judged-spells Binary s hb (subst (λ (f : Format). judged f s ≡ true) (c .before .enum-told2 .given .1)
+    (c .before .before .before .before .pre .0)) in
     let m = c .before .before .before .before .pre .1 ∙ ap (λ (f : Format). stepsBy f s) (c .before .enum-told2 .given .1) in
     omega (arith, lows-enough (j .spelled), tally-most 0 127 s, m)
 
@@ -48,14 +50,16 @@ sub-result-2 : tie.Need-sub-result-2
 sub-result-2 c =
     let s = c .before .before .before .before .args .s .now in
     let hb : Bytes s = λ i. omega (arith, c .before .before .before .shared-slice-known .given i) in
-    let j = judged-spells Binary s hb (subst (λ (f : Format). judged f s ≡ true) (c .before .enum-told2 .given .1) (c .before .before .before .before .pre .0)) in
+    let j = judged-spells Binary s hb (subst (λ (f : Format). judged f s ≡ true) (c .before .enum-told2 .given .1)
+    (c .before .before .before .before .pre .0)) in
     let m = c .before .before .before .before .pre .1 ∙ ap (λ (f : Format). stepsBy f s) (c .before .enum-told2 .given .1) in
     omega (arith, lows-enough (j .spelled), c .tally-of3 .ensures, m)
 
 returns : tie.Need-returns
 returns c =
     let s = c .before .before .before .before .before .args .s .now in
-    ap₂ (λ (x y : ℕ). x - y) (c .before .tally-of .ensures) (c .tally-of2 .ensures) ∙ sym (ap (λ (f : Format). litsBy f s) (c .before .before .enum-told .given .1))
+    ap₂ (λ (x y : ℕ). x - y) (c .before .tally-of .ensures) (c .tally-of2 .ensures)
+    ∙ sym (ap (λ (f : Format). litsBy f s) (c .before .before .enum-told .given .1))
 
 returns-2 : tie.Need-returns-2
 returns-2 c =

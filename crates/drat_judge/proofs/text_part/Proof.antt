@@ -59,8 +59,12 @@ loop-again : tie.Need-loop-again Inv-loop μ-loop
 loop-again c =
     let a = c .before .before .before .before .before .before .before .before .before .args in
     let s = a .s .now in
-    let l = c .before .before .before .before .before .before .before .loop in
-    (omega arith, omega arith, text-turn s (runsAt Text s (a .from)) (l .i) (omega arith) (omega arith) (l .ok) (c .text-next .result) (l .inv .2) (c .text-next .ensures))
+    let l = c .before .before .before .before .before .before .before .loop in (
+      omega arith,
+      omega arith,
+      text-turn s (runsAt Text s (a .from)) (l .i) (omega arith) (omega arith) (l .ok) (c .text-next .result) (l .inv .2)
+          (c .text-next .ensures),
+    )
 
 returns : tie.Need-returns Inv-loop μ-loop
 returns c =

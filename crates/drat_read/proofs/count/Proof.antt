@@ -24,7 +24,8 @@ returns : tie.Need-returns
 returns c =
     let s = c .before .before .before .before .before .args .bytes .now in
     let hb : Bytes s = λ i. omega (arith, c .before .before .before .before .shared-slice-known .given i) in
-    counts-are (c .before .before .before .before .before .args .f) s (c .before .n .given .0 .0) (c .before .n .given .0 .1 .0) hb (sym (c .before .n .given .1) ∙ c .before .before .before .judge .ensures)
+    counts-are (c .before .before .before .before .before .args .f) s (c .before .n .given .0 .0) (c .before .n .given .0 .1 .0) hb
+    (sym (c .before .n .given .1) ∙ c .before .before .before .judge .ensures)
 
 returns-2 : tie.Need-returns-2
 returns-2 c = search needs

@@ -30,7 +30,8 @@ returns c =
 
 returns-2 : tie.Need-returns-2
 returns-2 c =
-    let a = c .before .before .before .before .before .before .before .before .before .before .args in
+    let entry = c .before .before .before .before .before .before .before .before .before .before in
+    let a = entry .args in
     let n = c .before .before .before .n .given .0 .0 in
     let m = c .before .before .before .n .given .0 .1 .0 in
     let w = sym (c .before .before .before .n .given .1) ∙ c .before .before .before .before .before .count .ensures in
@@ -39,25 +40,31 @@ returns-2 c =
 
 returns-3 : tie.Need-returns-3
 returns-3 c =
-    let a = c .before .before .before .before .before .before .before .before .before .before .before .args in
+    let entry = c .before .before .before .before .before .before .before .before .before .before .before in
+    let a = entry .args in
     let n = c .before .before .before .before .n .given .0 .0 in
     let m = c .before .before .before .before .n .given .0 .1 .0 in
     let w = sym (c .before .before .before .before .n .given .1) ∙ c .before .before .before .before .before .before .count .ensures in
-    let k = call-short₃ (a .f) (a .bytes .now) (a .codes .now) (a .ends .now) (a .kinds .now) n m w (c .before .before .if1 .left) (c .before .if2 .left) (c .if3 .taken) in
+    let k = call-short₃ (a .f) (a .bytes .now) (a .codes .now) (a .ends .now) (a .kinds .now) n m w (c .before .before .if1 .left) (c .before .if2 .left)
+    (c .if3 .taken) in
     (k .answer, (k .codes-after, (k .ends-after, k .kinds-after)))
 
 fill-requires : tie.Need-fill-requires
 fill-requires c κs =
-    let a = c .before .before .before .before .before .before .before .before .before .before .before .before .before .before .args in
+    let entry = c .before .before .before .before .before .before .before .before .before .before .before .before .before .before in
+    let a = entry .args in
     let n = c .before .before .before .before .before .before .before .n .given .0 .0 in
     let m = c .before .before .before .before .before .before .before .n .given .0 .1 .0 in
-    let w = sym (c .before .before .before .before .before .before .before .n .given .1) ∙ c .before .before .before .before .before .before .before .before .before .count .ensures in
-    whole-fits (a .f) (a .bytes .now) n m (length (a .codes .now)) (length (a .ends .now)) (length (a .kinds .now)) w (c .before .before .before .before .before .if1 .left) (c .before .before .before .before .if2 .left) (c .before .before .before .if3 .left)
+    let w = sym (c .before .before .before .before .before .before .before .n .given .1)
+    ∙ c .before .before .before .before .before .before .before .before .before .count .ensures in
+    whole-fits (a .f) (a .bytes .now) n m (length (a .codes .now)) (length (a .ends .now)) (length (a .kinds .now)) w
+    (c .before .before .before .before .before .if1 .left) (c .before .before .before .before .if2 .left) (c .before .before .before .if3 .left)
 
 returns-4 : tie.Need-returns-4
 returns-4 c =
     let a = c .before .before .before .before .before .before .before .before .args in
-    let k = call-broken (a .f) (a .bytes .now) (a .codes .now) (a .ends .now) (a .kinds .now) (c .before .p .given .0 .0) (sym (c .before .p .given .1) ∙ c .before .before .before .count .ensures) in
+    let k = call-broken (a .f) (a .bytes .now) (a .codes .now) (a .ends .now) (a .kinds .now) (c .before .p .given .0 .0)
+    (sym (c .before .p .given .1) ∙ c .before .before .before .count .ensures) in
     (k .answer, (k .codes-after, (k .ends-after, k .kinds-after)))
 
 same-length : tie.Need-same-length
@@ -71,12 +78,19 @@ same-length-3 c = search needs
 
 returns-5 : tie.Need-returns-5
 returns-5 c =
-    let a = c .before .before .before .before .before .before .before .before .before .before .before .before .before .before .before .before .before .before .before .before .before .args in
-    let n = c .before .before .before .before .before .before .before .before .before .before .before .before .before .before .n .given .0 .0 in
-    let m = c .before .before .before .before .before .before .before .before .before .before .before .before .before .before .n .given .0 .1 .0 in
-    let w = sym (c .before .before .before .before .before .before .before .before .before .before .before .before .before .before .n .given .1) ∙ c .before .before .before .before .before .before .before .before .before .before .before .before .before .before .before .before .count .ensures in
+    let at-if3 = c .before .before .before .before .before .before .before .before .before .before in
+    let at-if2 = at-if3 .before in
+    let at-if1 = at-if2 .before in
+    let at-n = at-if1 .before .before in
+    let at-count = at-n .before .before in
+    let entry = at-count .before .before .before .before .before in
+    let a = entry .args in
+    let n = at-n .n .given .0 .0 in
+    let m = at-n .n .given .0 .1 .0 in
+    let w = sym (at-n .n .given .1) ∙ at-count .count .ensures in
     let g = c .before .before .before .before .before .before .fill in
-    let k = call-filled (a .f) (a .bytes .now) (a .codes .now) (a .ends .now) (a .kinds .now) n m w (c .before .before .before .before .before .before .before .before .before .before .before .before .if1 .left) (c .before .before .before .before .before .before .before .before .before .before .before .if2 .left) (c .before .before .before .before .before .before .before .before .before .before .if3 .left) (g .last .1 .1 .0) (g .last .1 .1 .1 .0) (g .last .1 .1 .1 .1 .0) (counted (readProof (a .f) (a .bytes .now))) (g .ensures) in
+    let k = call-filled (a .f) (a .bytes .now) (a .codes .now) (a .ends .now) (a .kinds .now) n m w (at-if1 .if1 .left) (at-if2 .if2 .left) (at-if3 .if3 .left)
+    (g .last .1 .1 .0) (g .last .1 .1 .1 .0) (g .last .1 .1 .1 .1 .0) (counted (readProof (a .f) (a .bytes .now))) (g .ensures) in
     (k .answer, (k .codes-after, (k .ends-after, k .kinds-after)))
 
 pub read-proof-spec : {M : Type 1} → statement M

@@ -1,7 +1,8 @@
 use mathlib.Core.Bool.{not}
-use mathlib.Core.Path.{sym, ap, _∙_}
+use mathlib.Core.Path.{_≡_, sym, ap, _∙_}
 use borrow.Author.Needs.{needs}
 use Rattle.drat.proofs.WritingLaws.{outside-turned, outside-past, outside-long, outside-codes}
+use Rattle.drat.specs.Writing.{part, codesTest}
 use Rattle.drat_write.proofs.no_clause.Statement.{statement}
 use Rattle.drat_write.proofs.no_clause.Tie as tie
 
@@ -35,7 +36,9 @@ all-below-requires c κs = search needs
 returns-4 : tie.Need-returns-4
 returns-4 c =
     let a = c .before .before .before .before .before .before .args in
-    ap not (c .all-below .ensures) ∙ sym (outside-codes (a .buf .now) (a .a) (a .b) (c .before .before .before .before .if1 .left) (c .before .before .before .if2 .left) (c .before .before .if3 .left))
+    let below : c .all-below .result ≡ codesTest (part (a .a) (a .b) (a .buf .now)) = c .all-below .ensures in
+    ap not below ∙ sym (outside-codes (a .buf .now) (a .a) (a .b) (c .before .before .before .before .if1 .left)
+    (c .before .before .before .if2 .left) (c .before .before .if3 .left))
 
 pub no-clause-spec : {M : Type 1} → statement M
 no-clause-spec =

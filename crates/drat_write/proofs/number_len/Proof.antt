@@ -45,7 +45,8 @@ add-result-5 c = search needs
 returns : tie.Need-returns
 returns c =
     let a = c .before .before .before .before .before .args in
-    let e = ap (λ (x : Format). length (number x (a .c))) (c .before .before .before .enum-told .given .1) ∙ text-length (a .c) (c .before .before .before .before .before .pre) in
+    let e = ap (λ (x : Format). length (number x (a .c))) (c .before .before .before .enum-told .given .1)
+    ∙ text-length (a .c) (c .before .before .before .before .before .pre) in
     (omega (arith, e, c .before .before .one .ensures .0, c .before .one2 .ensures .0, c .one3 .ensures .0), omega arith)
 
 returns-2 : tie.Need-returns-2

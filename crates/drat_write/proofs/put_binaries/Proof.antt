@@ -16,7 +16,8 @@ all-below-requires c κs = search needs
 put-short-requires : tie.Need-put-short-requires
 put-short-requires c κs =
     let l = c .before .before .before .before .before .args .lits .now in
-    let h : Short l = λ i k. ltb-true (getD l i 0) 126 (all-at (length l) (λ j. ltb (getD l j 0) 126) (sym (c .before .before .all-below .ensures) ∙ c .before .if1 .taken) i k) in
+    let h : Short l = λ i k. ltb-true (getD l i 0) 126 (all-at (length l) (λ j. ltb (getD l j 0) 126)
+    (sym (c .before .before .all-below .ensures) ∙ c .before .if1 .taken) i k) in
     (h, omega (arith, short-length l h, c .before .before .before .before .before .pre .1))
 
 same-length : tie.Need-same-length
@@ -25,7 +26,8 @@ same-length c = search needs
 returns : tie.Need-returns
 returns c =
     let l = c .before .before .before .before .before .before .before .before .args .lits .now in
-    let h : Short l = λ i k. ltb-true (getD l i 0) 126 (all-at (length l) (λ j. ltb (getD l j 0) 126) (sym (c .before .before .before .before .before .all-below .ensures) ∙ c .before .before .before .before .if1 .taken) i k) in
+    let h : Short l = λ i k. ltb-true (getD l i 0) 126 (all-at (length l) (λ j. ltb (getD l j 0) 126)
+    (sym (c .before .before .before .before .before .all-below .ensures) ∙ c .before .before .before .before .if1 .taken) i k) in
     (omega (arith, short-length l h, c .before .before .put-short .ensures .0), c .before .before .put-short .ensures .1)
 
 put-each-requires : tie.Need-put-each-requires

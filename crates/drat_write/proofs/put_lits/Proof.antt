@@ -11,8 +11,8 @@ use Rattle.drat_write.proofs.put_lits.Tie as tie
 enum-told : tie.Need-enum-told
 enum-told c = search needs
 
-put-texts-requires : tie.Need-put-texts-requires
-put-texts-requires c κs =
+put-each-requires : tie.Need-put-each-requires
+put-each-requires c κs =
     let a = c .before .before .before .before .before .args in
     let e = ap (λ (x : Format). length (numbers x (a .lits .now))) (c .before .enum-told .given .1) in
     (c .before .before .before .before .before .pre .0, omega (arith, e))
@@ -33,7 +33,7 @@ returns : tie.Need-returns
 returns c =
     let a = c .before .before .before .before .before .before .before .before .args in
     let e = ap (λ (x : Format). numbers x (a .lits .now)) (c .before .before .before .before .enum-told .given .1) in
-    let p = c .before .before .put-texts .ensures in
+    let p = c .before .before .put-each .ensures in
     (p .0 ∙ omega (arith, ap length e), p .1 ∙ sym (ap (sets (a .out .now) (a .at)) e))
 
 same-length-2 : tie.Need-same-length-2
@@ -48,4 +48,4 @@ returns-2 c =
 
 pub put-lits-spec : {M : Type 1} → statement M
 put-lits-spec =
-    tie.close (tie.spec enum-told put-texts-requires enum-told-2 put-binaries-requires same-length returns same-length-2 returns-2)
+    tie.close (tie.spec enum-told put-each-requires enum-told-2 put-binaries-requires same-length returns same-length-2 returns-2)

@@ -20,7 +20,8 @@ add-if1 c = search needs
 returns : tie.Need-returns
 returns c =
     let a = c .before .before .args in
-    sym (le-leb (length (encodeStep (a .f) (stepOf (a .k) (a .lits .now)))) (a .room) (omega (arith, step-le (a .f) (a .k) (a .lits .now) (c .before .before .pre .0), c .if1 .taken)))
+    sym (le-leb (length (encodeStep (a .f) (stepOf (a .k) (a .lits .now)))) (a .room)
+    (omega (arith, step-le (a .f) (a .k) (a .lits .now) (c .before .before .pre .0), c .if1 .taken)))
 
 step-len-requires : tie.Need-step-len-requires
 step-len-requires c κs = search needs

@@ -26,7 +26,8 @@ returns c =
 returns-2 : tie.Need-returns-2
 returns-2 c =
     let a = c .before .before .before .before .before .args in
-    let e = write-lacking (a .f) (a .k) (a .buf .now) (a .a) (a .b) (length (a .out .now)) (a .at) (sym (c .before .before .no-clause .ensures) ∙ c .before .if1 .left) (omega arith) in
+    let e = write-lacking (a .f) (a .k) (a .buf .now) (a .a) (a .b) (length (a .out .now)) (a .at)
+    (sym (c .before .before .no-clause .ensures) ∙ c .before .if1 .left) (omega arith) in
     (sym (ap (λ (w : Writing). w .answer) e), sym (ap (λ (w : Writing). sets (a .out .now) (a .at) (w .bytes)) e))
 
 mul-step-fits : tie.Need-mul-step-fits
@@ -65,47 +66,76 @@ step-fits-requires c κs =
 mul-put-step : tie.Need-mul-put-step
 mul-put-step c =
     let a = c .before .before .before .before .before .before .before .before .args in
-    let i = inside (a .buf .now) (a .a) (a .b) (sym (c .before .before .before .before .before .no-clause .ensures) ∙ c .before .before .before .before .if1 .left) in
+    let i = inside (a .buf .now) (a .a) (a .b) (sym (c .before .before .before .before .before .no-clause .ensures)
+    ∙ c .before .before .before .before .if1 .left) in
     omega (arith, i .ordered, i .within)
 
 sub-put-step : tie.Need-sub-put-step
 sub-put-step c =
     let a = c .before .before .before .before .before .before .before .before .args in
-    let i = inside (a .buf .now) (a .a) (a .b) (sym (c .before .before .before .before .before .no-clause .ensures) ∙ c .before .before .before .before .if1 .left) in
+    let i = inside (a .buf .now) (a .a) (a .b) (sym (c .before .before .before .before .before .no-clause .ensures)
+    ∙ c .before .before .before .before .if1 .left) in
     omega (arith, i .ordered, i .within)
 
 part-put-step-start : tie.Need-part-put-step-start
 part-put-step-start c =
     let a = c .before .before .before .before .before .before .before .before .args in
-    let i = inside (a .buf .now) (a .a) (a .b) (sym (c .before .before .before .before .before .no-clause .ensures) ∙ c .before .before .before .before .if1 .left) in
+    let i = inside (a .buf .now) (a .a) (a .b) (sym (c .before .before .before .before .before .no-clause .ensures)
+    ∙ c .before .before .before .before .if1 .left) in
     omega (arith, i .ordered, i .within)
 
 part-put-step-end : tie.Need-part-put-step-end
 part-put-step-end c =
     let a = c .before .before .before .before .before .before .before .before .args in
-    let i = inside (a .buf .now) (a .a) (a .b) (sym (c .before .before .before .before .before .no-clause .ensures) ∙ c .before .before .before .before .if1 .left) in
+    let i = inside (a .buf .now) (a .a) (a .b) (sym (c .before .before .before .before .before .no-clause .ensures)
+    ∙ c .before .before .before .before .if1 .left) in
     omega (arith, i .ordered, i .within)
 
 put-step-requires : tie.Need-put-step-requires
 put-step-requires c κs =
-    let a = c .before .before .before .before .before .before .before .before .before .before .args in
-    let i = inside (a .buf .now) (a .a) (a .b) (sym (c .before .before .before .before .before .before .before .no-clause .ensures) ∙ c .before .before .before .before .before .before .if1 .left) in
-    (i .codes, omega (arith, leb-true (length (encodeStep (a .f) (stepOf (a .k) (part (a .a) (a .b) (a .buf .now))))) (length (a .out .now) - a .at) (sym (c .before .before .before .step-fits .ensures) ∙ c .before .before .if3 .taken)))
+    let entry = c .before .before .before .before .before .before .before .before .before .before in
+    let a = entry .args in
+    let i = inside (a .buf .now) (a .a) (a .b) (sym (c .before .before .before .before .before .before .before .no-clause .ensures)
+    ∙ c .before .before .before .before .before .before .if1 .left) in (
+      i .codes,
+      omega (
+        arith,
+        leb-true (length (encodeStep (a .f) (stepOf (a .k) (part (a .a) (a .b) (a .buf .now))))) (length (a .out .now) - a .at)
+            (sym (c .before .before .before .step-fits .ensures) ∙ c .before .before .if3 .taken),
+      ),
+    )
 
 same-length : tie.Need-same-length
 same-length c = search needs
 
 returns-3 : tie.Need-returns-3
 returns-3 c =
-    let a = c .before .before .before .before .before .before .before .before .before .before .before .before .before .args in
+    let at-no-clause = c .before .before .before .before .before .before .before .before .before .before in
+    let entry = at-no-clause .before .before .before in
+    let a = entry .args in
     let p = c .before .before .put-step .ensures in
-    let e = write-done (a .f) (a .k) (a .buf .now) (a .a) (a .b) (length (a .out .now)) (a .at) (sym (c .before .before .before .before .before .before .before .before .before .before .no-clause .ensures) ∙ c .before .before .before .before .before .before .before .before .before .if1 .left) (omega (arith, leb-true (length (encodeStep (a .f) (stepOf (a .k) (part (a .a) (a .b) (a .buf .now))))) (length (a .out .now) - a .at) (sym (c .before .before .before .before .before .before .step-fits .ensures) ∙ c .before .before .before .before .before .if3 .taken))) in
-    (ap (λ (n : ℕ). accepted (n ∷ [])) (p .0) ∙ sym (ap (λ (w : Writing). w .answer) e), p .1 ∙ sym (ap (λ (w : Writing). sets (a .out .now) (a .at) (w .bytes)) e))
+    let e = write-done (a .f) (a .k) (a .buf .now) (a .a) (a .b) (length (a .out .now)) (a .at)
+    (sym (at-no-clause .no-clause .ensures) ∙ c .before .before .before .before .before .before .before .before .before .if1 .left)
+    (omega (
+      arith,
+      leb-true (length (encodeStep (a .f) (stepOf (a .k) (part (a .a) (a .b) (a .buf .now))))) (length (a .out .now) - a .at)
+          (sym (c .before .before .before .before .before .before .step-fits .ensures) ∙ c .before .before .before .before .before .if3 .taken),
+    )) in (
+      ap (λ (n : ℕ). accepted (n ∷ [])) (p .0) ∙ sym (ap (λ (w : Writing). w .answer) e),
+      p .1
+          ∙ sym (ap (λ (w : Writing). sets (a .out .now) (a .at) (w .bytes)) e),
+    )
 
 returns-4 : tie.Need-returns-4
 returns-4 c =
     let a = c .before .before .before .before .before .before .before .before .args in
-    let e = write-lacking (a .f) (a .k) (a .buf .now) (a .a) (a .b) (length (a .out .now)) (a .at) (sym (c .before .before .before .before .before .no-clause .ensures) ∙ c .before .before .before .before .if1 .left) (omega (arith, leb-false (length (encodeStep (a .f) (stepOf (a .k) (part (a .a) (a .b) (a .buf .now))))) (length (a .out .now) - a .at) (sym (c .before .step-fits .ensures) ∙ c .if3 .left))) in
+    let e = write-lacking (a .f) (a .k) (a .buf .now) (a .a) (a .b) (length (a .out .now)) (a .at)
+    (sym (c .before .before .before .before .before .no-clause .ensures) ∙ c .before .before .before .before .if1 .left)
+    (omega (
+      arith,
+      leb-false (length (encodeStep (a .f) (stepOf (a .k) (part (a .a) (a .b) (a .buf .now))))) (length (a .out .now) - a .at)
+          (sym (c .before .step-fits .ensures) ∙ c .if3 .left),
+    )) in
     (sym (ap (λ (w : Writing). w .answer) e), sym (ap (λ (w : Writing). sets (a .out .now) (a .at) (w .bytes)) e))
 
 pub write-clause-spec : {M : Type 1} → statement M

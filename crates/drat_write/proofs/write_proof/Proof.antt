@@ -33,7 +33,8 @@ put-proof-requires : tie.Need-put-proof-requires
 put-proof-requires c κs =
     let a = c .before .before .before .before .before .before .before .before .before .args in
     let n = length (encode (a .f) (listed (a .codes .now) 0 (a .ends .now) (a .kinds .now))) in (
-      is-listed (a .codes .now) (a .ends .now) (a .kinds .now) (sym (c .before .before .before .before .no-proof .ensures) ∙ c .before .before .before .if1 .left),
+      is-listed (a .codes .now) (a .ends .now) (a .kinds .now)
+          (sym (c .before .before .before .before .no-proof .ensures) ∙ c .before .before .before .if1 .left),
       leb-true n (length (a .out .now)) (sym (c .before .before .proof-fits .ensures) ∙ c .before .if2 .taken),
     )
 
@@ -42,17 +43,26 @@ same-length c = search needs
 
 returns-2 : tie.Need-returns-2
 returns-2 c =
-    let a = c .before .before .before .before .before .before .before .before .before .before .before .before .args in
+    let entry = c .before .before .before .before .before .before .before .before .before .before .before .before in
+    let a = entry .args in
     let p = c .before .before .put-proof .ensures in
     let n = length (encode (a .f) (listed (a .codes .now) 0 (a .ends .now) (a .kinds .now))) in
-    let e = all-done (a .codes .now) (a .ends .now) (a .kinds .now) (a .f) (length (a .out .now)) (sym (c .before .before .before .before .before .before .before .no-proof .ensures) ∙ c .before .before .before .before .before .before .if1 .left) (leb-true n (length (a .out .now)) (sym (c .before .before .before .before .before .proof-fits .ensures) ∙ c .before .before .before .before .if2 .taken)) in
-    (ap (λ (k : ℕ). accepted (k ∷ [])) (p .0 ∙ omega arith) ∙ sym (ap (λ (w : Writing). w .answer) e), p .1 ∙ sym (ap (λ (w : Writing). sets (a .out .now) 0 (w .bytes)) e))
+    let e = all-done (a .codes .now) (a .ends .now) (a .kinds .now) (a .f) (length (a .out .now))
+    (sym (c .before .before .before .before .before .before .before .no-proof .ensures) ∙ c .before .before .before .before .before .before .if1 .left)
+    (leb-true n (length (a .out .now)) (sym (c .before .before .before .before .before .proof-fits .ensures)
+    ∙ c .before .before .before .before .if2 .taken)) in (
+      ap (λ (k : ℕ). accepted (k ∷ [])) (p .0 ∙ omega arith) ∙ sym (ap (λ (w : Writing). w .answer) e),
+      p .1
+          ∙ sym (ap (λ (w : Writing). sets (a .out .now) 0 (w .bytes)) e),
+    )
 
 returns-3 : tie.Need-returns-3
 returns-3 c =
     let a = c .before .before .before .before .before .before .before .before .args in
     let n = length (encode (a .f) (listed (a .codes .now) 0 (a .ends .now) (a .kinds .now))) in
-    let e = all-lacking (a .codes .now) (a .ends .now) (a .kinds .now) (a .f) (length (a .out .now)) (sym (c .before .before .before .no-proof .ensures) ∙ c .before .before .if1 .left) (leb-false n (length (a .out .now)) (sym (c .before .proof-fits .ensures) ∙ c .if2 .left)) in
+    let e = all-lacking (a .codes .now) (a .ends .now) (a .kinds .now) (a .f) (length (a .out .now))
+    (sym (c .before .before .before .no-proof .ensures) ∙ c .before .before .if1 .left)
+    (leb-false n (length (a .out .now)) (sym (c .before .proof-fits .ensures) ∙ c .if2 .left)) in
     (sym (ap (λ (w : Writing). w .answer) e), sym (ap (λ (w : Writing). sets (a .out .now) 0 (w .bytes)) e))
 
 pub write-proof-spec : {M : Type 1} → statement M

@@ -22,7 +22,8 @@ array-borrow-prefix-kinds : tie.Need-array-borrow-prefix-kinds
 array-borrow-prefix-kinds c = search needs
 
 slice-aggregate-read-proof-3 : tie.Need-slice-aggregate-read-proof-3
-slice-aggregate-read-proof-3 c = sym (length-take-le (c .before .before .before .before .args .c) (7 ∷ 7 ∷ 7 ∷ 7 ∷ []) (c .before .before .before .before .pre .1 .1))
+slice-aggregate-read-proof-3 c =
+    sym (length-take-le (c .before .before .before .before .args .c) (7 ∷ 7 ∷ 7 ∷ 7 ∷ []) (c .before .before .before .before .pre .1 .1))
 
 read-proof-requires : tie.Need-read-proof-requires
 read-proof-requires c κs = search needs

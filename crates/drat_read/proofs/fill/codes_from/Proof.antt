@@ -44,7 +44,8 @@ mul-codes c =
     let s = a .s .now in
     let hb : Bytes s = λ i. omega (arith, c .before .before .before .before .before .shared-slice-known .given i) in
     let l = c .before .before .before .loop in
-    let d = filling-more Binary s (a .codes .now) (l .codes) (a .from) (a .first) (l .at) (l .n) hb (l .inv) (c .code-at .result .code) (c .code-at .result .next) (c .code-at .ensures) in
+    let d = filling-more Binary s (a .codes .now) (l .codes) (a .from) (a .first) (l .at) (l .n) hb (l .inv) (c .code-at .result .code)
+    (c .code-at .result .next) (c .code-at .ensures) in
     let k = d .2 in search needs
 
 slice-write-codes : tie.Need-slice-write-codes Inv-loop μ-loop
@@ -53,7 +54,8 @@ slice-write-codes c =
     let s = a .s .now in
     let hb : Bytes s = λ i. omega (arith, c .before .before .before .before .before .shared-slice-known .given i) in
     let l = c .before .before .before .loop in
-    let d = filling-more Binary s (a .codes .now) (l .codes) (a .from) (a .first) (l .at) (l .n) hb (l .inv) (c .code-at .result .code) (c .code-at .result .next) (c .code-at .ensures) in
+    let d = filling-more Binary s (a .codes .now) (l .codes) (a .from) (a .first) (l .at) (l .n) hb (l .inv) (c .code-at .result .code)
+    (c .code-at .result .next) (c .code-at .ensures) in
     let e = ap length (l .inv .held) ∙ length-sets (a .codes .now) (a .first) (l .inv .ds) in
     omega (arith, d .2)
 
@@ -63,7 +65,8 @@ add-n c =
     let s = a .s .now in
     let hb : Bytes s = λ i. omega (arith, c .before .before .before .before .before .shared-slice-known .given i) in
     let l = c .before .before .before .loop in
-    let d = filling-more Binary s (a .codes .now) (l .codes) (a .from) (a .first) (l .at) (l .n) hb (l .inv) (c .code-at .result .code) (c .code-at .result .next) (c .code-at .ensures) in
+    let d = filling-more Binary s (a .codes .now) (l .codes) (a .from) (a .first) (l .at) (l .n) hb (l .inv) (c .code-at .result .code)
+    (c .code-at .result .next) (c .code-at .ensures) in
     omega (arith, d .2)
 
 loop-less : tie.Need-loop-less Inv-loop μ-loop
@@ -72,7 +75,8 @@ loop-less c =
     let s = a .s .now in
     let hb : Bytes s = λ i. omega (arith, c .before .before .before .before .before .shared-slice-known .given i) in
     let l = c .before .before .before .loop in
-    let d = filling-more Binary s (a .codes .now) (l .codes) (a .from) (a .first) (l .at) (l .n) hb (l .inv) (c .code-at .result .code) (c .code-at .result .next) (c .code-at .ensures) in
+    let d = filling-more Binary s (a .codes .now) (l .codes) (a .from) (a .first) (l .at) (l .n) hb (l .inv) (c .code-at .result .code)
+    (c .code-at .result .next) (c .code-at .ensures) in
     omega (arith, d .0, d .1)
 
 loop-again : tie.Need-loop-again Inv-loop μ-loop
@@ -81,7 +85,8 @@ loop-again c =
     let s = a .s .now in
     let hb : Bytes s = λ i. omega (arith, c .before .before .before .before .before .shared-slice-known .given i) in
     let l = c .before .before .before .loop in
-    let d = filling-more Binary s (a .codes .now) (l .codes) (a .from) (a .first) (l .at) (l .n) hb (l .inv) (c .code-at .result .code) (c .code-at .result .next) (c .code-at .ensures) in
+    let d = filling-more Binary s (a .codes .now) (l .codes) (a .from) (a .first) (l .at) (l .n) hb (l .inv) (c .code-at .result .code)
+    (c .code-at .result .next) (c .code-at .ensures) in
     d .3
 
 add-t13 : tie.Need-add-t13 Inv-loop μ-loop

@@ -45,7 +45,8 @@ add-t7 c =
     let t = c .before .before .before .before .before .pre .1 in
     let h = token-inside Text s (a .at) (t .code) (t .next) (t .is) in
     let m = c .before .before .minus in
-    let r = text-read s (a .at) (m .result) (c .before .digits-at .result .code) (c .before .digits-at .result .next) t h (c .before .before .before .before .before .pre .0) (m .ensures .0) (c .before .digits-at .ensures) in
+    let r = text-read s (a .at) (m .result) (c .before .digits-at .result .code) (c .before .digits-at .result .next) t h
+    (c .before .before .before .before .before .pre .0) (m .ensures .0) (c .before .digits-at .ensures) in
     omega (arith, r .0)
 
 returns : tie.Need-returns
@@ -55,7 +56,8 @@ returns c =
     let t = c .before .before .before .before .before .pre .1 in
     let h = token-inside Text s (a .at) (t .code) (t .next) (t .is) in
     let m = c .before .before .minus in
-    let r = text-read s (a .at) (m .result) (c .before .digits-at .result .code) (c .before .digits-at .result .next) t h (c .before .before .before .before .before .pre .0) (m .ensures .0) (c .before .digits-at .ensures) in
+    let r = text-read s (a .at) (m .result) (c .before .digits-at .result .code) (c .before .digits-at .result .next) t h
+    (c .before .before .before .before .before .pre .0) (m .ensures .0) (c .before .digits-at .ensures) in
     r .1
 
 pub number-at-spec : {M : Type 1} → statement M

@@ -46,13 +46,15 @@ returns : tie.Need-returns
 returns c =
     let a = c .before .before .before .before .before .args in
     let k = c .before .before .kind-by .result in
-    opened (a .f) (a .s .now) (a .at) k (a .at + 2 * k) (c .before .before .before .before .before .pre) (c .before .before .kind-by .ensures .0) (sym (ap (λ (f : Format). firstPlace f (a .at) k) (c .enum-told .given .1)))
+    opened (a .f) (a .s .now) (a .at) k (a .at + 2 * k) (c .before .before .before .before .before .pre) (c .before .before .kind-by .ensures .0)
+    (sym (ap (λ (f : Format). firstPlace f (a .at) k) (c .enum-told .given .1)))
 
 returns-2 : tie.Need-returns-2
 returns-2 c =
     let a = c .before .before .before .before .before .args in
     let k = c .before .before .kind-by .result in
-    opened (a .f) (a .s .now) (a .at) k (a .at + 1) (c .before .before .before .before .before .pre) (c .before .before .kind-by .ensures .0) (sym (ap (λ (f : Format). firstPlace f (a .at) k) (c .enum-told2 .given .1)))
+    opened (a .f) (a .s .now) (a .at) k (a .at + 1) (c .before .before .before .before .before .pre) (c .before .before .kind-by .ensures .0)
+    (sym (ap (λ (f : Format). firstPlace f (a .at) k) (c .enum-told2 .given .1)))
 
 pub start-at-spec : {M : Type 1} → statement M
 start-at-spec =

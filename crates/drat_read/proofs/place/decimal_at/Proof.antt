@@ -64,7 +64,12 @@ returns-4 c =
     let a = c .before .before .before .before .before .before .before .before .args in
     let l = c .before .before .before .before .before .before .loop in
     let d = digits-here (a .s .now) (l .i) (omega arith) (a .sign) (l .v) in
-    sym (sym (l .inv .1) ∙ d ∙ simp (is-in-range 48 57 _ (c .before .before .before .if1 .left) (c .before .before .if2 .left), ne-eqb _ _ (c .before .if3 .left), lt-ltb _ _ (c .if4 .taken)))
+    sym (sym (l .inv .1) ∙ d ∙ simp (
+      is-in-range 48 57 _ (c .before .before .before .if1 .left) (c .before .before .if2 .left),
+      ne-eqb _ _
+          (c .before .if3 .left),
+      lt-ltb _ _ (c .if4 .taken),
+    ))
 
 add-i : tie.Need-add-i Inv-loop μ-loop
 add-i c = search needs
@@ -76,8 +81,15 @@ loop-again : tie.Need-loop-again Inv-loop μ-loop
 loop-again c =
     let a = c .before .before .before .before .before .before .before .before .args in
     let l = c .before .before .before .before .before .before .loop in
-    let d = digits-here (a .s .now) (l .i) (omega arith) (a .sign) (l .v) in
-    (c .if4 .left, sym (sym (l .inv .1) ∙ d ∙ simp (is-in-range 48 57 _ (c .before .before .before .if1 .left) (c .before .before .if2 .left), ne-eqb _ _ (c .before .if3 .left), le-ltb _ _ (c .if4 .left))))
+    let d = digits-here (a .s .now) (l .i) (omega arith) (a .sign) (l .v) in (
+      c .if4 .left,
+      sym (sym (l .inv .1) ∙ d ∙ simp (
+        is-in-range 48 57 _ (c .before .before .before .if1 .left) (c .before .before .if2 .left),
+        ne-eqb _ _
+            (c .before .if3 .left),
+        le-ltb _ _ (c .if4 .left),
+      )),
+    )
 
 literal-requires-3 : tie.Need-literal-requires-3 Inv-loop μ-loop
 literal-requires-3 c κs = search needs

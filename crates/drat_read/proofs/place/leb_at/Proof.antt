@@ -31,50 +31,71 @@ cast-b c = omega (arith, c .shared-slice-known .given (c .before .before .loop .
 
 returns : tie.Need-returns Inv-loop μ-loop
 returns c =
-    let a = c .before .before .before .before .before .args in let l = c .before .before .before .before .loop in let d = leb-here (a .s .now) (l .i) (omega arith) (l .v) (l .w) in
+    let a = c .before .before .before .before .before .args in let l = c .before .before .before .before .loop in
+    let d = leb-here (a .s .now) (l .i) (omega arith) (l .v) (l .w) in
     sym (sym (l .inv .2) ∙ d ∙ simp (lt-ltb _ _ (c .before .if1 .taken), eq-eqb _ _ (c .if2 .taken)))
 
 mul-n : tie.Need-mul-n Inv-loop μ-loop
 mul-n c =
-    let a = c .before .before .before .before .before .args in let l = c .before .before .before .before .loop in let b = c .before .before .shared-slice-known .given (l .i) in
+    let a = c .before .before .before .before .before .args in let l = c .before .before .before .before .loop in
+    let b = c .before .before .shared-slice-known .given (l .i) in
     omega (arith, product (l .w) (getD (a .s .now) (l .i) 0) (l .inv .1) (omega arith))
 
 add-n : tie.Need-add-n Inv-loop μ-loop
 add-n c =
-    let a = c .before .before .before .before .before .args in let l = c .before .before .before .before .loop in let b = c .before .before .shared-slice-known .given (l .i) in
+    let a = c .before .before .before .before .before .args in let l = c .before .before .before .before .loop in
+    let b = c .before .before .shared-slice-known .given (l .i) in
     omega (arith, product (l .w) (getD (a .s .now) (l .i) 0) (l .inv .1) (omega arith))
 
 returns-2 : tie.Need-returns-2 Inv-loop μ-loop
 returns-2 c =
-    let a = c .before .before .before .before .before .before .args in let l = c .before .before .before .before .before .loop in let d = leb-here (a .s .now) (l .i) (omega arith) (l .v) (l .w) in
+    let a = c .before .before .before .before .before .before .args in let l = c .before .before .before .before .before .loop in
+    let d = leb-here (a .s .now) (l .i) (omega arith) (l .v) (l .w) in
     sym (sym (l .inv .2) ∙ d ∙ simp (lt-ltb _ _ (c .before .before .if1 .taken), ne-eqb _ _ (c .before .if2 .left), lt-ltb _ _ (c .if3 .taken)))
 
 returns-3 : tie.Need-returns-3 Inv-loop μ-loop
 returns-3 c =
-    let a = c .before .before .before .before .before .before .before .args in let l = c .before .before .before .before .before .before .loop in let d = leb-here (a .s .now) (l .i) (omega arith) (l .v) (l .w) in
-    sym (sym (l .inv .2) ∙ d ∙ simp (lt-ltb _ _ (c .before .before .before .if1 .taken), ne-eqb _ _ (c .before .before .if2 .left), le-ltb _ _ (c .before .if3 .left), lt-ltb _ _ (c .if4 .taken)))
+    let a = c .before .before .before .before .before .before .before .args in let l = c .before .before .before .before .before .before .loop in
+    let d = leb-here (a .s .now) (l .i) (omega arith) (l .v) (l .w) in
+    sym (sym (l .inv .2) ∙ d ∙ simp (
+      lt-ltb _ _ (c .before .before .before .if1 .taken),
+      ne-eqb _ _ (c .before .before .if2 .left),
+      le-ltb _ _
+          (c .before .if3 .left),
+      lt-ltb _ _ (c .if4 .taken),
+    ))
 
 add-t14 : tie.Need-add-t14 Inv-loop μ-loop
 add-t14 c = search needs
 
 returns-4 : tie.Need-returns-4 Inv-loop μ-loop
 returns-4 c =
-    let a = c .before .before .before .before .before .before .before .args in let l = c .before .before .before .before .before .before .loop in let d = leb-here (a .s .now) (l .i) (omega arith) (l .v) (l .w) in
-    sym (sym (l .inv .2) ∙ d ∙ simp (lt-ltb _ _ (c .before .before .before .if1 .taken), ne-eqb _ _ (c .before .before .if2 .left), le-ltb _ _ (c .before .if3 .left), le-ltb _ _ (c .if4 .left)))
+    let a = c .before .before .before .before .before .before .before .args in let l = c .before .before .before .before .before .before .loop in
+    let d = leb-here (a .s .now) (l .i) (omega arith) (l .v) (l .w) in
+    sym (sym (l .inv .2) ∙ d ∙ simp (
+      lt-ltb _ _ (c .before .before .before .if1 .taken),
+      ne-eqb _ _ (c .before .before .if2 .left),
+      le-ltb _ _
+          (c .before .if3 .left),
+      le-ltb _ _ (c .if4 .left),
+    ))
 
 returns-5 : tie.Need-returns-5 Inv-loop μ-loop
 returns-5 c =
-    let a = c .before .before .before .before .before .args in let l = c .before .before .before .before .loop in let d = leb-here (a .s .now) (l .i) (omega arith) (l .v) (l .w) in
+    let a = c .before .before .before .before .before .args in let l = c .before .before .before .before .loop in
+    let d = leb-here (a .s .now) (l .i) (omega arith) (l .v) (l .w) in
     sym (sym (l .inv .2) ∙ d ∙ simp (le-ltb _ _ (c .before .if1 .left), lt-ltb _ _ (c .if5 .taken)))
 
 mul-v : tie.Need-mul-v Inv-loop μ-loop
 mul-v c =
-    let a = c .before .before .before .before .before .args in let l = c .before .before .before .before .loop in let b = c .before .before .shared-slice-known .given (l .i) in
+    let a = c .before .before .before .before .before .args in let l = c .before .before .before .before .loop in
+    let b = c .before .before .shared-slice-known .given (l .i) in
     omega (arith, product (l .w) (getD (a .s .now) (l .i) 0 - 128) (l .inv .1) (omega arith))
 
 add-v : tie.Need-add-v Inv-loop μ-loop
 add-v c =
-    let a = c .before .before .before .before .before .args in let l = c .before .before .before .before .loop in let b = c .before .before .shared-slice-known .given (l .i) in
+    let a = c .before .before .before .before .before .args in let l = c .before .before .before .before .loop in
+    let b = c .before .before .shared-slice-known .given (l .i) in
     omega (arith, product (l .w) (getD (a .s .now) (l .i) 0 - 128) (l .inv .1) (omega arith))
 
 mul-w : tie.Need-mul-w Inv-loop μ-loop
@@ -88,7 +109,8 @@ loop-less c = search needs
 
 loop-again : tie.Need-loop-again Inv-loop μ-loop
 loop-again c =
-    let a = c .before .before .before .before .before .args in let l = c .before .before .before .before .loop in let d = leb-here (a .s .now) (l .i) (omega arith) (l .v) (l .w) in
+    let a = c .before .before .before .before .before .args in let l = c .before .before .before .before .loop in
+    let d = leb-here (a .s .now) (l .i) (omega arith) (l .v) (l .w) in
     let b = c .before .before .shared-slice-known .given (l .i) in
     let m : l .w * (getD (a .s .now) (l .i) 0 - 128) ≤ l .w * 127 = mul-le-mul-left (l .w) (omega arith) in
     (omega arith, omega arith, sym (sym (l .inv .2) ∙ d ∙ simp (le-ltb _ _ (c .before .if1 .left), le-ltb _ _ (c .if5 .left))))

@@ -27,7 +27,8 @@ add-j c = search needs
 returns-2 : tie.Need-returns-2
 returns-2 c =
     let a = c .before .before .before .before .before .args in
-    sym (text-here (a .s .now) (a .at) (c .before .before .before .if1 .left) ∙ simp (eq-eqb _ _ (c .before .if2 .taken)) (end-past (a .s .now) (a .at + 1) (c .if3 .taken)))
+    sym (text-here (a .s .now) (a .at) (c .before .before .before .if1 .left)
+    ∙ simp (eq-eqb _ _ (c .before .if2 .taken)) (end-past (a .s .now) (a .at + 1) (c .if3 .taken)))
 
 shared-slice-read-if4 : tie.Need-shared-slice-read-if4
 shared-slice-read-if4 c = search needs
@@ -38,12 +39,16 @@ add-t15 c = search needs
 returns-3 : tie.Need-returns-3
 returns-3 c =
     let a = c .before .before .before .before .before .before .before .args in
-    sym (text-here (a .s .now) (a .at) (c .before .before .before .before .before .if1 .left) ∙ simp (eq-eqb _ _ (c .before .before .before .if2 .taken)) (end-here (a .s .now) (a .at + 1) (c .before .before .if3 .left) ∙ simp (eq-eqb _ _ (c .if4 .taken))))
+    sym (text-here (a .s .now) (a .at) (c .before .before .before .before .before .if1 .left)
+    ∙ simp (eq-eqb _ _ (c .before .before .before .if2 .taken))
+    (end-here (a .s .now) (a .at + 1) (c .before .before .if3 .left) ∙ simp (eq-eqb _ _ (c .if4 .taken))))
 
 returns-4 : tie.Need-returns-4
 returns-4 c =
     let a = c .before .before .before .before .before .before .before .args in
-    sym (text-here (a .s .now) (a .at) (c .before .before .before .before .before .if1 .left) ∙ simp (eq-eqb _ _ (c .before .before .before .if2 .taken)) (end-here (a .s .now) (a .at + 1) (c .before .before .if3 .left) ∙ simp (ne-eqb _ _ (c .if4 .left))))
+    sym (text-here (a .s .now) (a .at) (c .before .before .before .before .before .if1 .left)
+    ∙ simp (eq-eqb _ _ (c .before .before .before .if2 .taken))
+    (end-here (a .s .now) (a .at + 1) (c .before .before .if3 .left) ∙ simp (ne-eqb _ _ (c .if4 .left))))
 
 signed-at-requires : tie.Need-signed-at-requires
 signed-at-requires c κs = search needs
@@ -64,7 +69,8 @@ returns-5 : tie.Need-returns-5
 returns-5 c =
     let a = c .before .before .before .before .before .before .before .before .before .args in
     let s = a .s .now in
-    let t = text-literal s (a .at) (c .before .before .before .before .before .before .before .if1 .left) (c .before .before .before .before .before .if2 .left) in
+    let t = text-literal s (a .at) (c .before .before .before .before .before .before .before .if1 .left)
+    (c .before .before .before .before .before .if2 .left) in
     let e = sym (c .before .before .before .before .signed-at .ensures) ∙ c .before .before .code .given .1 in
     let code = c .before .before .code .given .0 .0 in
     let end = c .before .before .code .given .0 .1 .0 in
@@ -76,14 +82,16 @@ returns-6 c =
     let a = c .before .before .before .before .before .before .before .args in
     let s = a .s .now in
     let t = text-literal s (a .at) (c .before .before .before .before .before .if1 .left) (c .before .before .before .if2 .left) in
-    sym (t ∙ ap (thenBlank (a .at) (drop (a .at) s)) (sym (c .before .before .signed-at .ensures) ∙ c .enum-told .given .1) ∙ blank-stop (a .at) (drop (a .at) s) _)
+    sym (t ∙ ap (thenBlank (a .at) (drop (a .at) s)) (sym (c .before .before .signed-at .ensures) ∙ c .enum-told .given .1)
+    ∙ blank-stop (a .at) (drop (a .at) s) _)
 
 returns-7 : tie.Need-returns-7
 returns-7 c =
     let a = c .before .before .before .before .before .before .before .args in
     let s = a .s .now in
     let t = text-literal s (a .at) (c .before .before .before .before .before .if1 .left) (c .before .before .before .if2 .left) in
-    sym (t ∙ ap (thenBlank (a .at) (drop (a .at) s)) (sym (c .before .before .signed-at .ensures) ∙ c .enum-told2 .given .1) ∙ blank-bad (a .at) (drop (a .at) s))
+    sym (t ∙ ap (thenBlank (a .at) (drop (a .at) s)) (sym (c .before .before .signed-at .ensures) ∙ c .enum-told2 .given .1)
+    ∙ blank-bad (a .at) (drop (a .at) s))
 
 pub text-token-spec : {M : Type 1} → statement M
 text-token-spec =

@@ -58,10 +58,13 @@ enum-known-next c = search needs
 
 add-n : tie.Need-add-n Inv-loop μ-loop Inv-steps μ-steps
 add-n c =
-    let a = c .before .before .before .before .before .before .before .before .before .before .before .before .args in
+    let at-steps = c .before .before .before .before .before .before .before .before .before .before in
+    let at-shared-slice-known = at-steps .before in
+    let entry = at-shared-slice-known .before in
+    let a = entry .args in
     let s = a .s .now in
-    let hb : Bytes s = λ i. omega (arith, c .before .before .before .before .before .before .before .before .before .before .before .shared-slice-known .given i) in
-    let o = c .before .before .before .before .before .before .before .before .before .before .steps in
+    let hb : Bytes s = λ i. omega (arith, at-shared-slice-known .shared-slice-known .given i) in
+    let o = at-steps .steps in
     let l = c .before .before .before .before .loop in
     let ch = c .before .next .given .0 .0 in
     let nx = c .before .next .given .0 .1 .0 in
@@ -71,10 +74,13 @@ add-n c =
 
 loop-less : tie.Need-loop-less Inv-loop μ-loop Inv-steps μ-steps
 loop-less c =
-    let a = c .before .before .before .before .before .before .before .before .before .before .before .before .args in
+    let at-steps = c .before .before .before .before .before .before .before .before .before .before in
+    let at-shared-slice-known = at-steps .before in
+    let entry = at-shared-slice-known .before in
+    let a = entry .args in
     let s = a .s .now in
-    let hb : Bytes s = λ i. omega (arith, c .before .before .before .before .before .before .before .before .before .before .before .shared-slice-known .given i) in
-    let o = c .before .before .before .before .before .before .before .before .before .before .steps in
+    let hb : Bytes s = λ i. omega (arith, at-shared-slice-known .shared-slice-known .given i) in
+    let o = at-steps .steps in
     let l = c .before .before .before .before .loop in
     let ch = c .before .next .given .0 .0 in
     let nx = c .before .next .given .0 .1 .0 in
@@ -84,13 +90,17 @@ loop-less c =
 
 loop-again : tie.Need-loop-again Inv-loop μ-loop Inv-steps μ-steps
 loop-again c =
-    let a = c .before .before .before .before .before .before .before .before .before .before .before .before .args in
+    let at-steps = c .before .before .before .before .before .before .before .before .before .before in
+    let at-shared-slice-known = at-steps .before in
+    let entry = at-shared-slice-known .before in
+    let a = entry .args in
     let s = a .s .now in
-    let hb : Bytes s = λ i. omega (arith, c .before .before .before .before .before .before .before .before .before .before .before .shared-slice-known .given i) in
-    let o = c .before .before .before .before .before .before .before .before .before .before .steps in
+    let hb : Bytes s = λ i. omega (arith, at-shared-slice-known .shared-slice-known .given i) in
+    let o = at-steps .steps in
     let k = c .before .before .before .before .before .before .first .given .0 .0 in
     let first = c .before .before .before .before .before .before .first .given .0 .1 .0 in
-    let eo = sym (c .before .before .before .before .before .before .before .before .opening-at .ensures) ∙ c .before .before .before .before .before .before .first .given .1 in
+    let eo = sym (c .before .before .before .before .before .before .before .before .opening-at .ensures)
+    ∙ c .before .before .before .before .before .before .first .given .1 in
     let u = opens-at (a .f) s hb (o .at) (o .inv .outer .within) k first eo in
     let l = c .before .before .before .before .loop in
     let ch = c .before .next .given .0 .0 in
@@ -107,13 +117,17 @@ enum-told-2 c = search needs
 
 add-m : tie.Need-add-m Inv-loop μ-loop Inv-steps μ-steps
 add-m c =
-    let a = c .before .before .before .before .before .before .before .before .before .before .before .before .args in
+    let at-steps = c .before .before .before .before .before .before .before .before .before .before in
+    let at-shared-slice-known = at-steps .before in
+    let entry = at-shared-slice-known .before in
+    let a = entry .args in
     let s = a .s .now in
-    let hb : Bytes s = λ i. omega (arith, c .before .before .before .before .before .before .before .before .before .before .before .shared-slice-known .given i) in
-    let o = c .before .before .before .before .before .before .before .before .before .before .steps in
+    let hb : Bytes s = λ i. omega (arith, at-shared-slice-known .shared-slice-known .given i) in
+    let o = at-steps .steps in
     let k = c .before .before .before .before .before .before .first .given .0 .0 in
     let first = c .before .before .before .before .before .before .first .given .0 .1 .0 in
-    let eo = sym (c .before .before .before .before .before .before .before .before .opening-at .ensures) ∙ c .before .before .before .before .before .before .first .given .1 in
+    let eo = sym (c .before .before .before .before .before .before .before .before .opening-at .ensures)
+    ∙ c .before .before .before .before .before .before .first .given .1 in
     let u = opens-at (a .f) s hb (o .at) (o .inv .outer .within) k first eo in
     let l = c .before .before .before .before .loop in
     let nx = c .before .next2 .given .0 .0 in
@@ -123,13 +137,17 @@ add-m c =
 
 steps-less : tie.Need-steps-less Inv-loop μ-loop Inv-steps μ-steps
 steps-less c =
-    let a = c .before .before .before .before .before .before .before .before .before .before .before .before .args in
+    let at-steps = c .before .before .before .before .before .before .before .before .before .before in
+    let at-shared-slice-known = at-steps .before in
+    let entry = at-shared-slice-known .before in
+    let a = entry .args in
     let s = a .s .now in
-    let hb : Bytes s = λ i. omega (arith, c .before .before .before .before .before .before .before .before .before .before .before .shared-slice-known .given i) in
-    let o = c .before .before .before .before .before .before .before .before .before .before .steps in
+    let hb : Bytes s = λ i. omega (arith, at-shared-slice-known .shared-slice-known .given i) in
+    let o = at-steps .steps in
     let k = c .before .before .before .before .before .before .first .given .0 .0 in
     let first = c .before .before .before .before .before .before .first .given .0 .1 .0 in
-    let eo = sym (c .before .before .before .before .before .before .before .before .opening-at .ensures) ∙ c .before .before .before .before .before .before .first .given .1 in
+    let eo = sym (c .before .before .before .before .before .before .before .before .opening-at .ensures)
+    ∙ c .before .before .before .before .before .before .first .given .1 in
     let u = opens-at (a .f) s hb (o .at) (o .inv .outer .within) k first eo in
     let l = c .before .before .before .before .loop in
     let nx = c .before .next2 .given .0 .0 in
@@ -139,13 +157,17 @@ steps-less c =
 
 steps-again : tie.Need-steps-again Inv-loop μ-loop Inv-steps μ-steps
 steps-again c =
-    let a = c .before .before .before .before .before .before .before .before .before .before .before .before .args in
+    let at-steps = c .before .before .before .before .before .before .before .before .before .before in
+    let at-shared-slice-known = at-steps .before in
+    let entry = at-shared-slice-known .before in
+    let a = entry .args in
     let s = a .s .now in
-    let hb : Bytes s = λ i. omega (arith, c .before .before .before .before .before .before .before .before .before .before .before .shared-slice-known .given i) in
-    let o = c .before .before .before .before .before .before .before .before .before .before .steps in
+    let hb : Bytes s = λ i. omega (arith, at-shared-slice-known .shared-slice-known .given i) in
+    let o = at-steps .steps in
     let k = c .before .before .before .before .before .before .first .given .0 .0 in
     let first = c .before .before .before .before .before .before .first .given .0 .1 .0 in
-    let eo = sym (c .before .before .before .before .before .before .before .before .opening-at .ensures) ∙ c .before .before .before .before .before .before .first .given .1 in
+    let eo = sym (c .before .before .before .before .before .before .before .before .opening-at .ensures)
+    ∙ c .before .before .before .before .before .before .first .given .1 in
     let u = opens-at (a .f) s hb (o .at) (o .inv .outer .within) k first eo in
     let l = c .before .before .before .before .loop in
     let nx = c .before .next2 .given .0 .0 in
@@ -161,7 +183,8 @@ returns c =
     let o = c .before .before .steps in
     ⊎-elim (λ w. absurd (omega (arith, w .0 .taken, w .3, c .if2 .taken)))
     (⊎-elim (λ w. ap Fault (w .6) ∙ between-wrong (a .f) s (o .at) (o .n) (o .m) hb (o .inv) (w .0 .left) (sym (w .1 .ensures) ∙ w .3 .given .1))
-    (λ w. ap Fault (w .11) ∙ between-bad (a .f) s (o .at) (o .n) (o .m) hb (o .inv) (w .0 .left) (w .3 .given .0 .0) (w .3 .given .0 .1 .0) (w .5 .at) (w .5 .n) (sym (w .1 .ensures) ∙ w .3 .given .1) (w .5 .inv) (sym (w .6 .ensures) ∙ w .8 .given .1)))
+    (λ w. ap Fault (w .11) ∙ between-bad (a .f) s (o .at) (o .n) (o .m) hb (o .inv) (w .0 .left) (w .3 .given .0 .0) (w .3 .given .0 .1 .0) (w .5 .at) (w .5 .n)
+    (sym (w .1 .ensures) ∙ w .3 .given .1) (w .5 .inv) (sym (w .6 .ensures) ∙ w .8 .given .1)))
     (c .before .if1 .came)
 
 returns-2 : tie.Need-returns-2 Inv-loop μ-loop Inv-steps μ-steps

@@ -54,16 +54,19 @@ enum-known-next c = search needs
 
 loop-less : tie.Need-loop-less Inv-loop μ-loop
 loop-less c =
-    let a = c .before .before .before .before .before .before .before .before .before .before .args in
+    let entry = c .before .before .before .before .before .before .before .before .before .before in
+    let a = entry .args in
     let s = a .s .now in
     let hb : Bytes s = λ i. omega (arith, c .before .before .before .before .before .before .before .before .before .shared-slice-known .given i) in
     let l = c .before .before .before .before .loop in
-    let v = lit-at (a .f) s hb (l .at) (l .inv .0) (c .before .next .given .0 .0) (c .before .next .given .0 .1 .0) (sym (c .before .before .before .token-alone .ensures) ∙ c .before .next .given .1) in
+    let v = lit-at (a .f) s hb (l .at) (l .inv .0) (c .before .next .given .0 .0) (c .before .next .given .0 .1 .0)
+    (sym (c .before .before .before .token-alone .ensures) ∙ c .before .next .given .1) in
     omega (arith, v .1, v .2)
 
 loop-again : tie.Need-loop-again Inv-loop μ-loop
 loop-again c =
-    let a = c .before .before .before .before .before .before .before .before .before .before .args in
+    let entry = c .before .before .before .before .before .before .before .before .before .before in
+    let a = entry .args in
     let s = a .s .now in
     let hb : Bytes s = λ i. omega (arith, c .before .before .before .before .before .before .before .before .before .shared-slice-known .given i) in
     let l = c .before .before .before .before .loop in
@@ -77,7 +80,8 @@ enum-known-next-2 c = search needs
 
 returns-2 : tie.Need-returns-2 Inv-loop μ-loop
 returns-2 c =
-    let a = c .before .before .before .before .before .before .before .before .before .before .args in
+    let entry = c .before .before .before .before .before .before .before .before .before .before in
+    let a = entry .args in
     let s = a .s .now in
     let hb : Bytes s = λ i. omega (arith, c .before .before .before .before .before .before .before .before .before .shared-slice-known .given i) in
     let l = c .before .before .before .before .loop in
@@ -94,8 +98,11 @@ returns-3 c =
     let s = a .s .now in
     let hb : Bytes s = λ i. omega (arith, c .before .before .before .before .before .before .before .before .shared-slice-known .given i) in
     let l = c .before .before .before .loop in
-    let v = bad-at (a .f) s hb (l .at) (sym (c .before .before .token-alone .ensures) ∙ c .enum-told2 .given .1) in
-    (sym (end-broken (a .start)) ∙ sym (ap (endPart (a .start)) v) ∙ l .inv .1 ∙ ap (endOf (a .start)) (step-is (a .f) s (a .start)), c .before .before .before .before .before .before .before .before .before .pre)
+    let v = bad-at (a .f) s hb (l .at) (sym (c .before .before .token-alone .ensures) ∙ c .enum-told2 .given .1) in (
+      sym (end-broken (a .start)) ∙ sym (ap (endPart (a .start)) v) ∙ l .inv .1
+          ∙ ap (endOf (a .start)) (step-is (a .f) s (a .start)),
+      c .before .before .before .before .before .before .before .before .before .pre,
+    )
 
 pub step-end-spec : {M : Type 1} → statement M
 step-end-spec =

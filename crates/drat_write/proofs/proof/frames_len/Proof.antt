@@ -46,7 +46,15 @@ add-k c =
 add-k-2 : tie.Need-add-k-2 Inv-loop μ-loop
 add-k-2 c =
     let a = c .before .before .before .before .before .before .before .args in
-    omega (arith, c .before .before .before .before .before .before .before .pre, c .before .open-len .ensures, c .end-len .ensures, opens-le (a .f) (c .before .before .kind-in .result), ends-le (a .f))
+    omega (
+      arith,
+      c .before .before .before .before .before .before .before .pre,
+      c .before .open-len .ensures,
+      c .end-len .ensures,
+      opens-le (a .f)
+          (c .before .before .kind-in .result),
+      ends-le (a .f),
+    )
 
 add-i : tie.Need-add-i Inv-loop μ-loop
 add-i c = search needs

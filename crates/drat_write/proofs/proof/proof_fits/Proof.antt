@@ -25,7 +25,8 @@ returns : tie.Need-returns
 returns c =
     let a = c .before .before .before .before .args in
     let p = c .before .before .before .before .pre in
-    sym (le-leb (length (encode (a .f) (listed (a .codes .now) 0 (a .ends .now) (a .kinds .now)))) (a .room) (omega (arith, listed-le (a .f) (a .codes .now) (a .ends .now) (a .kinds .now) (p .coded) (p .paired) (p .rising), c .if1 .taken)))
+    sym (le-leb (length (encode (a .f) (listed (a .codes .now) 0 (a .ends .now) (a .kinds .now)))) (a .room)
+    (omega (arith, listed-le (a .f) (a .codes .now) (a .ends .now) (a .kinds .now) (p .coded) (p .paired) (p .rising), c .if1 .taken)))
 
 numbers-len-requires : tie.Need-numbers-len-requires
 numbers-len-requires c κs = c .before .before .before .before .pre .coded

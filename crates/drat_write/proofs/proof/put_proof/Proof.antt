@@ -82,12 +82,14 @@ part-put-step-end c =
 
 put-step-requires : tie.Need-put-step-requires Inv-loop μ-loop
 put-step-requires c κs =
+    let entry = c .before .before .before .before .before .before .before .before .before .before .before in
     let l = c .before .before .before .before .before .before .loop in
-    let a = c .before .before .before .before .before .before .before .before .before .before .before .args in
+    let a = entry .args in
     let h : l .i < length (a .ends .now) = omega arith in
     let r = rises-at (length (a .codes .now)) (l .a) (a .ends .now) (l .i) h (l .inv .2) in
-    let p = c .before .before .before .before .before .before .before .before .before .before .before .pre in
-    let k = ap (λ (x : Kind). length (encodeStep (a .f) (stepOf x (part (l .a) (getD (a .ends .now) (l .i) 0) (a .codes .now))))) (c .before .before .kind-in .ensures) in (
+    let p = entry .pre in
+    let k = ap (λ (x : Kind). length (encodeStep (a .f) (stepOf x (part (l .a) (getD (a .ends .now) (l .i) 0) (a .codes .now)))))
+    (c .before .before .kind-in .ensures) in (
       codes-part (l .a) (getD (a .ends .now) (l .i) 0) (a .codes .now) (p .0 .coded),
       omega (arith, k, listed-step (a .f) (a .codes .now) (l .a) (a .ends .now) (a .kinds .now) (l .i) h (p .0 .paired)),
     )
@@ -100,12 +102,14 @@ loop-less c = search needs
 
 loop-again : tie.Need-loop-again Inv-loop μ-loop
 loop-again c =
+    let entry = c .before .before .before .before .before .before .before .before .before .before .before .before .before .before in
     let l = c .before .before .before .before .before .before .before .before .before .loop in
-    let a = c .before .before .before .before .before .before .before .before .before .before .before .before .before .before .args in
+    let a = entry .args in
     let h : l .i < length (a .ends .now) = omega arith in
     let r = rises-at (length (a .codes .now)) (l .a) (a .ends .now) (l .i) h (l .inv .2) in
-    let p = c .before .before .before .before .before .before .before .before .before .before .before .before .before .before .pre in
-    let k = ap (λ (x : Kind). encodeStep (a .f) (stepOf x (part (l .a) (getD (a .ends .now) (l .i) 0) (a .codes .now)))) (c .before .before .before .before .before .kind-in .ensures) in
+    let p = entry .pre in
+    let k = ap (λ (x : Kind). encodeStep (a .f) (stepOf x (part (l .a) (getD (a .ends .now) (l .i) 0) (a .codes .now))))
+    (c .before .before .before .before .before .kind-in .ensures) in
     let e = c .before .before .put-step .ensures in
     let rest = encode (a .f) (listed (a .codes .now) (getD (a .ends .now) (l .i) 0) (drop (l .i + 1) (a .ends .now)) (drop (l .i + 1) (a .kinds .now))) in (
       omega arith,
