@@ -29,120 +29,94 @@ use Rattle.scope.specs.AnchorsModes.{setModes, observes, removes, sweeps
 use Rattle.scope.specs.AnchorsMarks.{markRows, assigns}
 use Rattle.scope.specs.AnchorsSteps.{simplifies, kinds, causes, renames, written}
 
-infixr 20 _and_
-_and_ : {A B : Type 0} → A → B → A × B
-x and y = (x, y)
-
 literals-hold : AnchorsAgree literals
 unfolding allBelow least count anyOf keepOf word isShown giveUser takeUser giveSolver takeSolver putRecord putValue dropGlobal soundb sizesb marksb
     atMostb tailb backb namedb deletedb tailsb pairsb notesWords heldBy choose each unless
-literals-hold =
-    refl and refl and refl and refl and refl and refl and refl and refl and tt
+literals-hold = (refl, (refl, (refl, (refl, (refl, (refl, (refl, (refl, tt))))))))
 
 recordParts-hold : AnchorsAgree recordParts
 unfolding allBelow least count anyOf keepOf word isShown giveUser takeUser giveSolver takeSolver putRecord putValue dropGlobal soundb sizesb marksb
     atMostb tailb backb namedb deletedb tailsb pairsb notesWords heldBy choose each unless isUnused deleteIfUnused show hide change setMode
     setModeRefusal setModeOf isHidden observeOne observe observeRefusal observeOf
-recordParts-hold =
-    refl and refl and refl and refl and refl and refl and refl and refl and refl and refl and refl and refl and refl and refl and refl and refl and
-    refl and refl and refl and refl and refl and refl and refl and refl and refl and refl and refl and tt
+recordParts-hold = (refl, (refl, (refl, (refl, (refl, (refl, (refl, (refl, (refl, (refl, (refl, (refl, (refl, (refl, (refl, (refl, (refl, (refl, (refl, (refl, (refl, (refl, (refl, (refl, (refl, (refl, (refl, tt)))))))))))))))))))))))))))
 
 everyPart-hold : AnchorsAgree everyPart
 unfolding allBelow least count anyOf keepOf word isShown giveUser takeUser giveSolver takeSolver putRecord putValue dropGlobal soundb sizesb marksb
     atMostb tailb backb namedb deletedb tailsb pairsb notesWords heldBy choose each unless isUnused deleteIfUnused show hide change setMode
     setModeRefusal setModeOf isHidden observeOne observe observeRefusal observeOf
-everyPart-hold =
-    refl and refl and refl and refl and refl and refl and refl and refl and refl and refl and refl and refl and refl and refl and refl and tt
+everyPart-hold = (refl, (refl, (refl, (refl, (refl, (refl, (refl, (refl, (refl, (refl, (refl, (refl, (refl, (refl, (refl, tt)))))))))))))))
 
 noteRows-hold : AnchorsAgree noteRows
 unfolding allBelow least count anyOf keepOf word isShown giveUser takeUser giveSolver takeSolver putRecord putValue dropGlobal soundb sizesb marksb
     atMostb tailb backb namedb deletedb tailsb pairsb notesWords heldBy choose each unless
-noteRows-hold =
-    refl and refl and refl and refl and refl and refl and refl and refl and refl and tt
+noteRows-hold = (refl, (refl, (refl, (refl, (refl, (refl, (refl, (refl, (refl, tt)))))))))
 
 heldRows-hold : AnchorsAgree heldRows
 unfolding allBelow least count anyOf keepOf word isShown giveUser takeUser giveSolver takeSolver putRecord putValue dropGlobal soundb sizesb marksb
     atMostb tailb backb namedb deletedb tailsb pairsb notesWords heldBy choose each unless
-heldRows-hold =
-    refl and refl and refl and refl and refl and refl and refl and refl and refl and refl and refl and tt
+heldRows-hold = (refl, (refl, (refl, (refl, (refl, (refl, (refl, (refl, (refl, (refl, (refl, tt)))))))))))
 
 sounds-hold : AnchorsAgree sounds
 unfolding allBelow least count anyOf keepOf word isShown giveUser takeUser giveSolver takeSolver putRecord putValue dropGlobal soundb sizesb marksb
     atMostb tailb backb namedb deletedb tailsb pairsb notesWords heldBy choose each unless found lookupOf globalFromUserOf userFromGlobalOf
     solverFromGlobalOf globalFromSolverOf recordWordOf assignmentWordOf
-sounds-hold =
-    refl and refl and refl and refl and refl and refl and refl and refl and refl and refl and refl and refl and refl and refl and refl and refl and
-    refl and refl and refl and refl and refl and refl and refl and refl and refl and refl and refl and refl and refl and refl and refl and refl and
-    refl and refl and refl and refl and refl and refl and refl and refl and refl and refl and refl and refl and refl and refl and refl and refl and
-    refl and refl and refl and refl and refl and refl and refl and refl and refl and refl and refl and refl and refl and refl and refl and refl and
-    refl and refl and tt
+sounds-hold = (refl, (refl, (refl, (refl, (refl, (refl, (refl, (refl, (refl, (refl, (refl, (refl, (refl, (refl, (refl, (refl, (refl, (refl, (refl, (refl, (refl, (refl, (refl, (refl, (refl, (refl, (refl, (refl, (refl, (refl, (refl, (refl, (refl, (refl, (refl, (refl, (refl, (refl, (refl, (refl, (refl, (refl, (refl, (refl, (refl, (refl, (refl, (refl, (refl, (refl, (refl, (refl, (refl, (refl, (refl, (refl, (refl, (refl, (refl, (refl, (refl, (refl, (refl, (refl, (refl, (refl, tt))))))))))))))))))))))))))))))))))))))))))))))))))))))))))))))))))
 
 opens-hold : AnchorsAgree opens
 unfolding allBelow least count anyOf keepOf word isShown giveUser takeUser giveSolver takeSolver putRecord putValue dropGlobal soundb sizesb marksb
     atMostb tailb backb namedb deletedb tailsb pairsb notesWords heldBy choose each unless emptyTable openOf
-opens-hold =
-    refl and refl and refl and refl and refl and refl and refl and refl and refl and refl and refl and tt
+opens-hold = (refl, (refl, (refl, (refl, (refl, (refl, (refl, (refl, (refl, (refl, (refl, tt)))))))))))
 
 lookups-hold : AnchorsAgree lookups
 unfolding allBelow least count anyOf keepOf word isShown giveUser takeUser giveSolver takeSolver putRecord putValue dropGlobal soundb sizesb marksb
     atMostb tailb backb namedb deletedb tailsb pairsb notesWords heldBy choose each unless found lookupOf globalFromUserOf userFromGlobalOf
     solverFromGlobalOf globalFromSolverOf recordWordOf assignmentWordOf
-lookups-hold =
-    refl and refl and refl and refl and refl and refl and refl and refl and refl and refl and refl and refl and refl and refl and refl and refl and
-    refl and refl and refl and refl and refl and refl and refl and refl and refl and refl and refl and refl and refl and refl and refl and tt
+lookups-hold = (refl, (refl, (refl, (refl, (refl, (refl, (refl, (refl, (refl, (refl, (refl, (refl, (refl, (refl, (refl, (refl, (refl, (refl, (refl, (refl, (refl, (refl, (refl, (refl, (refl, (refl, (refl, (refl, (refl, (refl, (refl, tt)))))))))))))))))))))))))))))))
 
 mapAnswers-hold : AnchorsAgree mapAnswers
 unfolding allBelow least count anyOf keepOf word isShown giveUser takeUser giveSolver takeSolver putRecord putValue dropGlobal soundb sizesb marksb
     atMostb tailb backb namedb deletedb tailsb pairsb notesWords heldBy choose each unless leastFree globalFor mapOne fillGap mapUser nextUser newUser
     undeleted toMap unsampled mapRefusal mapOf newUserRefusal newUserOf
-mapAnswers-hold =
-    refl and refl and refl and refl and refl and tt
+mapAnswers-hold = (refl, (refl, (refl, (refl, (refl, tt)))))
 
 maps-hold : AnchorsAgree maps
 unfolding allBelow least count anyOf keepOf word isShown giveUser takeUser giveSolver takeSolver putRecord putValue dropGlobal soundb sizesb marksb
     atMostb tailb backb namedb deletedb tailsb pairsb notesWords heldBy choose each unless leastFree globalFor mapOne fillGap mapUser nextUser newUser
     undeleted toMap unsampled mapRefusal mapOf newUserRefusal newUserOf
-maps-hold =
-    refl and refl and refl and refl and refl and refl and refl and refl and refl and refl and refl and refl and refl and refl and refl and refl and tt
+maps-hold = (refl, (refl, (refl, (refl, (refl, (refl, (refl, (refl, (refl, (refl, (refl, (refl, (refl, (refl, (refl, (refl, tt))))))))))))))))
 
 newUsers-hold : AnchorsAgree newUsers
 unfolding allBelow least count anyOf keepOf word isShown giveUser takeUser giveSolver takeSolver putRecord putValue dropGlobal soundb sizesb marksb
     atMostb tailb backb namedb deletedb tailsb pairsb notesWords heldBy choose each unless leastFree globalFor mapOne fillGap mapUser nextUser newUser
     undeleted toMap unsampled mapRefusal mapOf newUserRefusal newUserOf
-newUsers-hold =
-    refl and refl and refl and refl and refl and refl and tt
+newUsers-hold = (refl, (refl, (refl, (refl, (refl, (refl, tt))))))
 
 grants-hold : AnchorsAgree grants
 unfolding allBelow least count anyOf keepOf word isShown giveUser takeUser giveSolver takeSolver putRecord putValue dropGlobal soundb sizesb marksb
     atMostb tailb backb namedb deletedb tailsb pairsb notesWords heldBy choose each unless leastFree globalFor mapOne fillGap mapUser nextUser newUser
     undeleted toMap unsampled mapRefusal mapOf newUserRefusal newUserOf nextSolver grantOne grant grantRefusal grantOf
-grants-hold =
-    refl and refl and refl and refl and refl and refl and refl and refl and refl and refl and tt
+grants-hold = (refl, (refl, (refl, (refl, (refl, (refl, (refl, (refl, (refl, (refl, tt))))))))))
 
 poses-hold : AnchorsAgree poses
 unfolding allBelow least count anyOf keepOf word isShown giveUser takeUser giveSolver takeSolver putRecord putValue dropGlobal soundb sizesb marksb
     atMostb tailb backb namedb deletedb tailsb pairsb notesWords heldBy choose each unless leastFree globalFor mapOne fillGap mapUser nextUser newUser
     undeleted toMap unsampled mapRefusal mapOf newUserRefusal newUserOf nextSolver grantOne grant grantRefusal grantOf poseOne pose wanted usersToMap
     poseRefusal poseOf
-poses-hold =
-    refl and refl and refl and refl and refl and refl and refl and refl and refl and refl and refl and refl and refl and refl and refl and tt
+poses-hold = (refl, (refl, (refl, (refl, (refl, (refl, (refl, (refl, (refl, (refl, (refl, (refl, (refl, (refl, (refl, tt)))))))))))))))
 
 setModes-hold : AnchorsAgree setModes
 unfolding allBelow least count anyOf keepOf word isShown giveUser takeUser giveSolver takeSolver putRecord putValue dropGlobal soundb sizesb marksb
     atMostb tailb backb namedb deletedb tailsb pairsb notesWords heldBy choose each unless leastFree globalFor mapOne fillGap mapUser nextUser newUser
     undeleted toMap unsampled mapRefusal mapOf newUserRefusal newUserOf isUnused deleteIfUnused show hide change setMode setModeRefusal setModeOf
     isHidden observeOne observe observeRefusal observeOf
-setModes-hold =
-    refl and refl and refl and refl and refl and refl and refl and refl and refl and refl and refl and refl and refl and refl and refl and refl and
-    refl and refl and refl and refl and refl and refl and tt
+setModes-hold = (refl, (refl, (refl, (refl, (refl, (refl, (refl, (refl, (refl, (refl, (refl, (refl, (refl, (refl, (refl, (refl, (refl, (refl, (refl, (refl, (refl, (refl, tt))))))))))))))))))))))
 
 observes-hold : AnchorsAgree observes
 unfolding allBelow least count anyOf keepOf word isShown giveUser takeUser giveSolver takeSolver putRecord putValue dropGlobal soundb sizesb marksb
     atMostb tailb backb namedb deletedb tailsb pairsb notesWords heldBy choose each unless leastFree globalFor mapOne fillGap mapUser nextUser newUser
     undeleted toMap unsampled mapRefusal mapOf newUserRefusal newUserOf isUnused deleteIfUnused show hide change setMode setModeRefusal setModeOf
     isHidden observeOne observe observeRefusal observeOf
-observes-hold =
-    refl and refl and refl and refl and refl and refl and refl and refl and tt
+observes-hold = (refl, (refl, (refl, (refl, (refl, (refl, (refl, (refl, tt))))))))
 
 removes-hold : AnchorsAgree removes
 unfolding allBelow least count anyOf keepOf word isShown giveUser takeUser giveSolver takeSolver putRecord putValue dropGlobal soundb sizesb marksb
@@ -150,8 +124,7 @@ unfolding allBelow least count anyOf keepOf word isShown giveUser takeUser giveS
     markOf assignRefusal assignOf leastFree globalFor mapOne fillGap mapUser nextUser newUser undeleted toMap unsampled mapRefusal mapOf
     newUserRefusal newUserOf isUnused deleteIfUnused show hide change setMode setModeRefusal setModeOf isHidden observeOne observe observeRefusal
     observeOf removeHeld remove removeRefusal removeOf learn sweepHeld sweepOne sweep sweepRefusal sweepOf
-removes-hold =
-    refl and refl and refl and refl and refl and refl and refl and refl and refl and refl and refl and tt
+removes-hold = (refl, (refl, (refl, (refl, (refl, (refl, (refl, (refl, (refl, (refl, (refl, tt)))))))))))
 
 sweeps-hold : AnchorsAgree sweeps
 unfolding allBelow least count anyOf keepOf word isShown giveUser takeUser giveSolver takeSolver putRecord putValue dropGlobal soundb sizesb marksb
@@ -159,70 +132,55 @@ unfolding allBelow least count anyOf keepOf word isShown giveUser takeUser giveS
     markOf assignRefusal assignOf leastFree globalFor mapOne fillGap mapUser nextUser newUser undeleted toMap unsampled mapRefusal mapOf
     newUserRefusal newUserOf isUnused deleteIfUnused show hide change setMode setModeRefusal setModeOf isHidden observeOne observe observeRefusal
     observeOf removeHeld remove removeRefusal removeOf learn sweepHeld sweepOne sweep sweepRefusal sweepOf
-sweeps-hold =
-    refl and refl and refl and refl and refl and refl and refl and refl and tt
+sweeps-hold = (refl, (refl, (refl, (refl, (refl, (refl, (refl, (refl, tt))))))))
 
 models-hold : AnchorsAgree models
 unfolding allBelow least count anyOf keepOf word isShown giveUser takeUser giveSolver takeSolver putRecord putValue dropGlobal soundb sizesb marksb
     atMostb tailb backb namedb deletedb tailsb pairsb notesWords heldBy choose each unless globalValue rowOf globalModel userLiteral userModel
     modelRefusal modelOf
-models-hold =
-    refl and refl and refl and refl and refl and refl and refl and refl and tt
+models-hold = (refl, (refl, (refl, (refl, (refl, (refl, (refl, (refl, tt))))))))
 
 markRows-hold : AnchorsAgree markRows
 unfolding allBelow least count anyOf keepOf word isShown giveUser takeUser giveSolver takeSolver putRecord putValue dropGlobal soundb sizesb marksb
     atMostb tailb backb namedb deletedb tailsb pairsb notesWords heldBy choose each unless notHeld unheld heldElse litsHeldElse mark markRefusal
     markOf assignRefusal assignOf
-markRows-hold =
-    refl and refl and refl and refl and refl and refl and refl and refl and refl and refl and refl and refl and refl and refl and refl and refl and
-    refl and refl and tt
+markRows-hold = (refl, (refl, (refl, (refl, (refl, (refl, (refl, (refl, (refl, (refl, (refl, (refl, (refl, (refl, (refl, (refl, (refl, (refl, tt))))))))))))))))))
 
 assigns-hold : AnchorsAgree assigns
 unfolding allBelow least count anyOf keepOf word isShown giveUser takeUser giveSolver takeSolver putRecord putValue dropGlobal soundb sizesb marksb
     atMostb tailb backb namedb deletedb tailsb pairsb notesWords heldBy choose each unless notHeld unheld heldElse litsHeldElse mark markRefusal
     markOf assignRefusal assignOf
-assigns-hold =
-    refl and refl and refl and refl and refl and refl and refl and refl and refl and refl and tt
+assigns-hold = (refl, (refl, (refl, (refl, (refl, (refl, (refl, (refl, (refl, (refl, tt))))))))))
 
 simplifies-hold : AnchorsAgree simplifies
 unfolding allBelow least count anyOf keepOf word isShown giveUser takeUser giveSolver takeSolver putRecord putValue dropGlobal soundb sizesb marksb
     atMostb tailb backb namedb deletedb tailsb pairsb notesWords heldBy choose each unless notHeld unheld heldElse litsHeldElse mark markRefusal
     markOf assignRefusal assignOf spell further bytesOf number numbers encodeStep encode renameLits unmatched outside stepRefusal renameRefusal
     renameOf stepBytes writeRefusal writeOf unfalse simplified simplifyBytes simplifyRefusal simplifyOf
-simplifies-hold =
-    refl and refl and refl and refl and refl and refl and refl and refl and refl and refl and refl and refl and refl and refl and refl and refl and
-    refl and refl and refl and refl and refl and refl and refl and refl and tt
+simplifies-hold = (refl, (refl, (refl, (refl, (refl, (refl, (refl, (refl, (refl, (refl, (refl, (refl, (refl, (refl, (refl, (refl, (refl, (refl, (refl, (refl, (refl, (refl, (refl, (refl, tt))))))))))))))))))))))))
 
 kinds-hold : AnchorsAgree kinds
 unfolding allBelow least count anyOf keepOf word isShown giveUser takeUser giveSolver takeSolver putRecord putValue dropGlobal soundb sizesb marksb
     atMostb tailb backb namedb deletedb tailsb pairsb notesWords heldBy choose each unless
-kinds-hold =
-    refl and refl and refl and refl and tt
+kinds-hold = (refl, (refl, (refl, (refl, tt))))
 
 causes-hold : AnchorsAgree causes
 unfolding allBelow least count anyOf keepOf word isShown giveUser takeUser giveSolver takeSolver putRecord putValue dropGlobal soundb sizesb marksb
     atMostb tailb backb namedb deletedb tailsb pairsb notesWords heldBy choose each unless
-causes-hold =
-    refl and refl and refl and tt
+causes-hold = (refl, (refl, (refl, tt)))
 
 renames-hold : AnchorsAgree renames
 unfolding allBelow least count anyOf keepOf word isShown giveUser takeUser giveSolver takeSolver putRecord putValue dropGlobal soundb sizesb marksb
     atMostb tailb backb namedb deletedb tailsb pairsb notesWords heldBy choose each unless notHeld unheld heldElse litsHeldElse mark markRefusal
     markOf assignRefusal assignOf renameLits unmatched outside stepRefusal renameRefusal renameOf stepBytes writeRefusal writeOf
-renames-hold =
-    refl and refl and refl and refl and refl and refl and refl and refl and refl and refl and refl and refl and refl and refl and refl and refl and
-    refl and refl and refl and refl and refl and refl and refl and refl and refl and refl and refl and refl and refl and refl and refl and refl and
-    refl and refl and refl and tt
+renames-hold = (refl, (refl, (refl, (refl, (refl, (refl, (refl, (refl, (refl, (refl, (refl, (refl, (refl, (refl, (refl, (refl, (refl, (refl, (refl, (refl, (refl, (refl, (refl, (refl, (refl, (refl, (refl, (refl, (refl, (refl, (refl, (refl, (refl, (refl, (refl, tt)))))))))))))))))))))))))))))))))))
 
 written-hold : AnchorsAgree written
 unfolding allBelow least count anyOf keepOf word isShown giveUser takeUser giveSolver takeSolver putRecord putValue dropGlobal soundb sizesb marksb
     atMostb tailb backb namedb deletedb tailsb pairsb notesWords heldBy choose each unless notHeld unheld heldElse litsHeldElse mark markRefusal
     markOf assignRefusal assignOf spell further bytesOf number numbers encodeStep encode renameLits unmatched outside stepRefusal renameRefusal
     renameOf stepBytes writeRefusal writeOf
-written-hold =
-    refl and refl and refl and refl and refl and refl and refl and refl and refl and refl and refl and refl and refl and refl and refl and refl and
-    refl and refl and refl and refl and refl and refl and refl and refl and refl and refl and refl and refl and refl and refl and refl and refl and
-    refl and refl and refl and tt
+written-hold = (refl, (refl, (refl, (refl, (refl, (refl, (refl, (refl, (refl, (refl, (refl, (refl, (refl, (refl, (refl, (refl, (refl, (refl, (refl, (refl, (refl, (refl, (refl, (refl, (refl, (refl, (refl, (refl, (refl, (refl, (refl, (refl, (refl, (refl, (refl, tt)))))))))))))))))))))))))))))))))))
 
 pub anchored : AnchorsAgree literals × AnchorsAgree recordParts × AnchorsAgree everyPart × AnchorsAgree noteRows × AnchorsAgree heldRows
     × AnchorsAgree sounds × AnchorsAgree opens × AnchorsAgree lookups × AnchorsAgree mapAnswers × AnchorsAgree maps

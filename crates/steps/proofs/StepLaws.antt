@@ -32,6 +32,12 @@ pick-part : (b : Bool) (xs : List ℕ) → take (pick b (length xs) 0) xs ≡ pi
 pick-part true xs = take-length xs
 pick-part false xs = refl
 
+pub carries-all : (b : Bool) (n m : ℕ) → b ≡ true → m ≡ n → m ≡ pick b n 0
+carries-all b n m e q = rw e q
+
+pub carries-none : (b : Bool) (n m : ℕ) → b ≡ false → m ≡ 0 → m ≡ pick b n 0
+carries-none b n m e q = rw e q
+
 pick-most : (b : Bool) (n : ℕ) → pick b n 0 ≤ n
 pick-most true n = omega arith
 pick-most false n = omega arith
