@@ -109,8 +109,8 @@ module _ (t : Table) (g : ℕ) where
     pub hide-user : 1 ≤ getD (t .userFromGlobal) g 0
     hide-user = let n = h .there .sound .rows .row g .seen (h .there .undeleted, h .shown) in omega arith
 
-    pub hide-asks : (getD (t .userFromGlobal) g 0 - 1 < length (t .globalFromUser)) × (g < length (t .userFromGlobal))
-    hide-asks =
+    pub hide-fits : (getD (t .userFromGlobal) g 0 - 1 < length (t .globalFromUser)) × (g < length (t .userFromGlobal))
+    hide-fits =
         let w = h .there in
         let n = hide-user in
         let z = w .sound .sizes in

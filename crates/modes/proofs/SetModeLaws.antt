@@ -153,13 +153,13 @@ module _ (t : Table) (g m room : ℕ) (h : Sets t g m room) where
   same-does e words = plain-does (stay [] t) (choose-then _ _ _ (eq-eqb _ _ (sym old-mode ∙ e))) refl 0 (t .counts) t words words (leaves-stay t 0 words)
 
   module _ (n : modeOf (getD (t .records) g 0) ≡ m → ⊥) where
-    other : eqb (modeOf (recordOf t g)) m ≡ false
-    other = ne-eqb _ _ (λ z. n (old-mode ∙ z))
+    other-mode : eqb (modeOf (recordOf t g)) m ≡ false
+    other-mode = ne-eqb _ _ (λ z. n (old-mode ∙ z))
 
     module _ (e : m ≡ 2) where
       pub hide-is : setMode g m t ≡ hide g t
       unfolding setMode
-      hide-is = choose-else _ _ _ other ∙ choose-then _ _ _ (eq-eqb _ _ e)
+      hide-is = choose-else _ _ _ other-mode ∙ choose-then _ _ _ (eq-eqb _ _ e)
 
       pub hide-asks : Hides t g × Room (hide g t) 0 room
       hide-asks = (record { there = h .there; shown = λ z. n (old-mode ∙ z ∙ sym e) }, room-of (hide g t) hide-is)
@@ -172,7 +172,7 @@ module _ (t : Table) (g m room : ℕ) (h : Sets t g m room) where
       module _ (e : modeOf (getD (t .records) g 0) ≡ 2) where
         pub show-is : setMode g m t ≡ show g m t
         unfolding setMode
-        show-is = choose-else _ _ _ other ∙ choose-else _ _ _ (ne-eqb _ _ k) ∙ choose-then _ _ _ (eq-eqb _ _ (sym old-mode ∙ e))
+        show-is = choose-else _ _ _ other-mode ∙ choose-else _ _ _ (ne-eqb _ _ k) ∙ choose-then _ _ _ (eq-eqb _ _ (sym old-mode ∙ e))
 
         pub show-asks : ShowAsks (t .counts) (t .globalFromUser) (t .userFromGlobal) (t .records) g m 0 0 room
         unfolding show
@@ -194,7 +194,7 @@ module _ (t : Table) (g m room : ℕ) (h : Sets t g m room) where
       module _ (e : modeOf (getD (t .records) g 0) ≡ 2 → ⊥) where
         pub change-is : setMode g m t ≡ change g m t
         unfolding setMode
-        change-is = choose-else _ _ _ other ∙ choose-else _ _ _ (ne-eqb _ _ k) ∙ choose-else _ _ _ (ne-eqb _ _ (λ z. e (old-mode ∙ z)))
+        change-is = choose-else _ _ _ other-mode ∙ choose-else _ _ _ (ne-eqb _ _ k) ∙ choose-else _ _ _ (ne-eqb _ _ (λ z. e (old-mode ∙ z)))
 
         pub change-asks : (g < length (t .records)) × ((getD (t .records) g 0 < 36) × ((m < 3) × (3 ≤ room)))
         unfolding change

@@ -17,7 +17,7 @@ use Rattle.scope.specs.Table.{modeOf}
 use Rattle.scope.proofs.ResultLaws.{word-none, word-some}
 use Rattle.changes.specs.Cursor.{NoneFree}
 use Rattle.changes.proofs.CursorLaws.{cursor-more, cursor-found, cursor-end, cursor-least, cursor-kept}
-use Rattle.naming.specs.Parts.{free, alive, freeFor, isUnsampled, Inside}
+use Rattle.naming.specs.Parts.{free, alive, freeFor, isUnsampled, MapBelow}
 
 -- ---- the least deleted global
 
@@ -74,11 +74,11 @@ pub unsampled-none : (gu records : List ℕ) (u : ℕ) → getD gu u 0 ≡ 0 →
 unfolding isUnsampled
 unsampled-none gu records u e = sym (word-none false _ _ e)
 
-pub unsampled-some : (gu records : List ℕ) (u g : ℕ) → Inside gu (length records) → getD gu u 0 ≡ g + 1 → not (eqb (modeOf (getD records g 0)) 0) ≡ isUnsampled gu records u
+pub unsampled-some : (gu records : List ℕ) (u g : ℕ) → MapBelow gu (length records) → getD gu u 0 ≡ g + 1 → not (eqb (modeOf (getD records g 0)) 0) ≡ isUnsampled gu records u
 unfolding isUnsampled
 unsampled-some gu records u g h e =
     let x = h .at u in
     ap (λ (r : ℕ). not (eqb (modeOf r) 0)) (getD-default records g 0 47 (omega arith)) ∙ sym (word-some false (λ g. not (eqb (modeOf (getD records g 47)) 0)) _ g e)
 
-pub inside-below : (gu : List ℕ) (n u g : ℕ) → Inside gu n → getD gu u 0 ≡ g + 1 → g < n
+pub inside-below : (gu : List ℕ) (n u g : ℕ) → MapBelow gu n → getD gu u 0 ≡ g + 1 → g < n
 inside-below gu n u g h e = let x = h .at u in omega arith

@@ -202,8 +202,8 @@ gap-new t u at i next s words words' h p e = ⊎-elim
 
 module _ (t : Table) (u at i next : ℕ) (s : Table) (words words' : List ℕ) (h : MapAsks t u at (length words)) (p : Gap t u at i next s words words') (l : u ≤ i)
     (e : getD (s .globalFromUser) u 0 ≡ 0) where
-  gap-mappable : Mappable s u
-  gap-mappable =
+  last-mappable : Mappable s u
+  last-mappable =
       let f = gap-fills t u at _ i next s words words' h p in
       let a = f .user in
       let b = f .same .capacity in
@@ -217,7 +217,7 @@ module _ (t : Table) (u at i next : ℕ) (s : Table) (words words' : List ℕ) (
 
   pub last-asks : (from : ℕ) → NoneFree (free (s .records)) (s .counts .global) from → OneAsks s u from next (length words')
   last-asks from k =
-      let m = gap-mappable in
+      let m = last-mappable in
       let g = map-one-fresh s u m .within in
       let o = own-free s u in
       let z = m .sound .sizes in

@@ -1,4 +1,4 @@
-use Rattle.modes.proofs.ChangeLaws.{base-fits, mode-fits, hide-user, hide-asks, hide-room, hide-delete, hide-leaves}
+use Rattle.modes.proofs.ChangeLaws.{base-fits, mode-fits, hide-user, hide-fits, hide-room, hide-delete, hide-leaves}
 use Rattle.modes.proofs.NotesLaws.{there-live}
 use lib.ListN.{length-set}
 use native.Mathlib.Omega.{arith}
@@ -41,7 +41,7 @@ slice-write-records : tie.Need-slice-write-records
 slice-write-records c = there-live _ _ (c .before .before .before .before .before .before .before .before .before .before .pre .0 .there) .words
 
 unmap-requires : tie.Need-unmap-requires
-unmap-requires c κs = hide-asks _ _ (c .before .before .before .before .before .before .before .before .before .before .before .before .pre .0)
+unmap-requires c κs = hide-fits _ _ (c .before .before .before .before .before .before .before .before .before .before .before .before .pre .0)
 
 put-note-requires : tie.Need-put-note-requires
 put-note-requires c κs = (hide-room _ _ _ _ (c .before .before .before .before .before .before .before .before .before .before .before .before .before .before .before .before .before .before .pre .1), omega arith)

@@ -1,4 +1,4 @@
-use Rattle.modes.proofs.ObserveLaws.{observe-words, one-stays, one-asks, one-room, one-small, one-shows}
+use Rattle.modes.proofs.ObserveLaws.{observe-words, one-stays, observe-one-asks, one-room, one-small, one-shows}
 use borrow.Author.Tests.{not-true, not-false}
 use native.Mathlib.Omega.{arith}
 use borrow.Author.Needs.{needs}
@@ -24,7 +24,7 @@ add-next : tie.Need-add-next
 add-next c = search needs
 
 show-requires : tie.Need-show-requires
-show-requires c κs = one-asks _ _ _ _ _ (c .before .before .before .before .before .before .before .before .before .before .before .before .before .before .before .before .pre .0) _ (c .before .before .before .before .before .is-hidden .ensures) (not-false _ (c .before .before .before .before .if1 .left)) _ _ (c .before .before .before .before .before .before .before .before .before .before .before .before .before .before .before .before .pre .1)
+show-requires c κs = observe-one-asks _ _ _ _ _ (c .before .before .before .before .before .before .before .before .before .before .before .before .before .before .before .before .pre .0) _ (c .before .before .before .before .before .is-hidden .ensures) (not-false _ (c .before .before .before .before .if1 .left)) _ _ (c .before .before .before .before .before .before .before .before .before .before .before .before .before .before .before .before .pre .1)
 
 mul-users : tie.Need-mul-users
 mul-users c = let l = one-room _ _ _ _ _ (c .before .before .before .before .before .before .before .before .before .before .before .before .before .before .before .before .before .before .before .before .before .before .before .before .before .before .before .pre .0) _ (c .before .before .before .before .before .before .before .before .before .before .before .before .before .before .before .before .is-hidden .ensures) (not-false _ (c .before .before .before .before .before .before .before .before .before .before .before .before .before .before .before .if1 .left)) in let k = (c .before .before .before .before .before .before .before .before .before .before .before .before .before .before .before .before .before .before .before .before .before .before .before .before .before .before .before .good) in omega arith
