@@ -33,7 +33,8 @@ pub delete-count : (g : ℕ) (t : Table) → length (deleteIfUnused g t .notes) 
 unfolding deleteIfUnused choose
 delete-count g t = go (isUnused t g)
   where
-    go : (b : Bool) → length (choose {A = List ℕ} b (record { value = []; table = putRecord g (recordOf t g + 36) t; notes = deletes g ∷ [] }) (stay [] t) .notes) ≡ pick b 1 0
+    go : (b : Bool) → length (choose {A = List ℕ} b (record { value = []; table = putRecord g (recordOf t g + 36) t; notes = deletes g ∷ [] })
+        (stay [] t) .notes) ≡ pick b 1 0
     go true = refl
     go false = refl
 

@@ -26,7 +26,8 @@ fine records g = not (isHidden (getD records g 47) && eqb (assumedOf (getD recor
 
 module _ (records : List ℕ) (mark g : ℕ) (w : mark ≤ length records) (k : g < mark) (b : Bool) (e : b ≡ isHidden (getD records g 0)) where
   fine-read : (x : Bool) → b && eqb (getD records g 0 / 18 % 2) 1 ≡ x → fine records g ≡ not x
-  fine-read x q = ap not (ap (λ (r : ℕ). isHidden r && eqb (assumedOf r) 1) (getD-default records g 47 0 (omega arith)) ∙ ap (λ (y : Bool). y && eqb (getD records g 0 / 18 % 2) 1) (sym e) ∙ q)
+  fine-read x q = ap not (ap (λ (r : ℕ). isHidden r && eqb (assumedOf r) 1) (getD-default records g 47 0 (omega arith))
+      ∙ ap (λ (y : Bool). y && eqb (getD records g 0 / 18 % 2) 1) (sym e) ∙ q)
 
   pub fine-fails : b && eqb (getD records g 0 / 18 % 2) 1 ≡ true → false ≡ allBelow mark (fine records)
   fine-fails q = sym (all-fails mark (fine records) g k (fine-read true q))
@@ -65,7 +66,8 @@ count-next g p = go (p g) refl
 pub hidden-none : (records : List ℕ) → 0 ≡ count 0 (hiddenAt records)
 hidden-none records = sym (count-none (hiddenAt records))
 
-pub hidden-more : (records : List ℕ) (mark g n k : ℕ) → mark ≤ length records → g < mark → n ≡ count g (hiddenAt records) → k ≡ oneIf (isHidden (getD records g 0)) → n + k ≡ count (g + 1) (hiddenAt records)
+pub hidden-more : (records : List ℕ) (mark g n k : ℕ) → mark ≤ length records → g < mark → n ≡ count g (hiddenAt records)
+    → k ≡ oneIf (isHidden (getD records g 0)) → n + k ≡ count (g + 1) (hiddenAt records)
 hidden-more records mark g n k w l e q =
     let x = count-next g (hiddenAt records) in
     let y : oneIf (isHidden (getD records g 0)) ≡ oneIf (hiddenAt records g) = ap (λ (r : ℕ). oneIf (isHidden r)) (getD-default records g 0 47 (omega arith)) in
@@ -75,7 +77,8 @@ pub hidden-end : (records : List ℕ) (mark g n : ℕ) → g ≡ mark → n ≡ 
 hidden-end records mark g n e q = q ∙ ap (λ (i : ℕ). count i (hiddenAt records)) e
 
 -- a count fits its word
-pub hidden-fits : (records : List ℕ) (g mark n k : ℕ) → g < mark → mark < 2 ^ 32 → n ≡ count g (hiddenAt records) → k ≡ oneIf (isHidden (getD records g 0)) → n + k < 2 ^ 32
+pub hidden-fits : (records : List ℕ) (g mark n k : ℕ) → g < mark → mark < 2 ^ 32 → n ≡ count g (hiddenAt records) → k ≡ oneIf (isHidden (getD records g 0))
+    → n + k < 2 ^ 32
 hidden-fits records g mark n k l m e q =
     let x = count-most g (hiddenAt records) in
     let y = most (isHidden (getD records g 0)) in

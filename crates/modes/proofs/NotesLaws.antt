@@ -65,7 +65,8 @@ there-live t g h =
 
 module _ (t : Table) (g : ℕ) (h : There t g) where
   -- without its user a global is unused if it has no solver index and is isolated
-  unused-unnamed : (u : ℕ) → isUnused (takeUser g u (withMode (recordOf t g) 2) t) g ≡ eqb (getD (t .solverFromGlobal) g 0) 0 && eqb (isolatedOf (recordOf t g)) 1
+  unused-unnamed : (u : ℕ) → isUnused (takeUser g u (withMode (recordOf t g) 2) t) g ≡ eqb (getD (t .solverFromGlobal) g 0) 0 && eqb (isolatedOf (recordOf t g))
+      1
   unfolding isUnused takeUser
   unused-unnamed u =
       let r = getD-set-same (t .records) g (withMode (recordOf t g) 2) 47 (there-live t g h .words) in

@@ -128,7 +128,8 @@ module _ (t : Table) (u : ℕ) (sampling : Bool) (room : ℕ) where
         map-5 h =
             let a = k .used-is in
             let c = k .n-is in
-            let f : ltb (t .counts .capacity) (undeleted t + toMap t u) ≡ true = lt-ltb _ _ (let x : t .counts .capacity < undeleted t + toMap t u = omega arith in x) in
+            let f : ltb (t .counts .capacity) (undeleted t + toMap t u) ≡ true =
+            lt-ltb _ _ (let x : t .counts .capacity < undeleted t + toMap t u = omega arith in x) in
             rw (y, lt-leb (t .counts .capacity) u l, sampled, f)
 
         module _ (h : used + n ≤ t .counts .capacity) where

@@ -33,10 +33,15 @@ loop-less : tie.Need-loop-less Inv-loop μ-loop
 loop-less c = search needs
 
 loop-again : tie.Need-loop-again Inv-loop μ-loop
-loop-again c = (let l = c .before .loop-test .taken in omega arith, any-on (λ x. leb (c .before .before .before .args .capacity) (indexOf x)) (c .before .before .before .args .lits .now) _ _ (c .before .loop-test .taken) (c .before .before .loop .inv .1))
+loop-again c = (
+  let l = c .before .loop-test .taken in omega arith,
+  any-on (λ x. leb (c .before .before .before .args .capacity) (indexOf x))
+      (c .before .before .before .args .lits .now) _ _ (c .before .loop-test .taken) (c .before .before .loop .inv .1),
+)
 
 returns : tie.Need-returns Inv-loop μ-loop
-returns c = any-all (λ x. leb (c .before .before .args .capacity) (indexOf x)) (c .before .before .args .lits .now) _ _ (c .loop-test .left) (c .before .loop .inv .1)
+returns c = any-all (λ x. leb (c .before .before .args .capacity) (indexOf x)) (c .before .before .args .lits .now) _ _ (c .loop-test .left)
+    (c .before .loop .inv .1)
 
 pub any-outside-spec : {M : Type 1} → statement M
 any-outside-spec =

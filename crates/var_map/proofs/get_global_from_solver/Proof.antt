@@ -30,12 +30,17 @@ enum-told c = search needs
 returns-3 : tie.Need-returns-3
 unfolding globalFromSolverOf
 returns-3 c =
-    lookup-told _ _ _ _ _ (c .before .before .before .before .before .before .before .is-sound .ensures) (c .before .before .before .before .before .before .if1 .left) (found-none _ _ _ (c .before .before .before .if2 .left) (global-word _ _ (sym (c .enum-told .given .1) ∙ (c .before .before .holder .ensures))))
+    lookup-told _ _ _ _ _ (c .before .before .before .before .before .before .before .is-sound .ensures)
+    (c .before .before .before .before .before .before .if1 .left)
+    (found-none _ _ _ (c .before .before .before .if2 .left) (global-word _ _ (sym (c .enum-told .given .1) ∙ (c .before .before .holder .ensures))))
 
 returns-4 : tie.Need-returns-4
 unfolding globalFromSolverOf
 returns-4 c =
-    lookup-told _ _ _ _ _ (c .before .before .before .before .before .before .before .before .is-sound .ensures) (c .before .before .before .before .before .before .before .if1 .left) (found-one _ _ _ _ (c .before .before .before .before .if2 .left) (global-word _ _ (sym (c .before .found .given .1) ∙ (c .before .before .before .holder .ensures))))
+    lookup-told _ _ _ _ _ (c .before .before .before .before .before .before .before .before .is-sound .ensures)
+    (c .before .before .before .before .before .before .before .if1 .left)
+    (found-one _ _ _ _ (c .before .before .before .before .if2 .left)
+    (global-word _ _ (sym (c .before .found .given .1) ∙ (c .before .before .before .holder .ensures))))
 
 pub get-global-from-solver-spec : {M : Type 1} → statement M
 get-global-from-solver-spec =

@@ -22,7 +22,9 @@ word-at-requires c κs = search needs
 returns-3 : tie.Need-returns-3
 unfolding recordWordOf
 returns-3 c =
-    lookup-told _ _ _ _ _ (c .before .before .before .before .before .is-sound .ensures) (c .before .before .before .before .if1 .left) (a-word _ _ _ _ (c .before .if2 .left) (record-word _ _ _ _ (c .before .before .before .before .before .is-sound .ensures) (c .before .before .before .before .if1 .left) (c .before .if2 .left) (c .word-at .ensures)))
+    lookup-told _ _ _ _ _ (c .before .before .before .before .before .is-sound .ensures) (c .before .before .before .before .if1 .left)
+    (a-word _ _ _ _ (c .before .if2 .left) (record-word _ _ _ _ (c .before .before .before .before .before .is-sound .ensures)
+    (c .before .before .before .before .if1 .left) (c .before .if2 .left) (c .word-at .ensures)))
 
 pub get-record-spec : {M : Type 1} → statement M
 get-record-spec =
