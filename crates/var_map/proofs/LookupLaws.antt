@@ -37,17 +37,17 @@ lookup-told t c b vs ws e n q =
 
 -- ---- what a map says
 
-pub found-beyond : (xs : List ℕ) (mark i : ℕ) → mark ≤ i → [] ≡ found xs mark i
+pub lookup-beyond : (xs : List ℕ) (mark i : ℕ) → mark ≤ i → [] ≡ found xs mark i
 unfolding found
-found-beyond xs mark i l = rw (le-ltb i mark l)
+lookup-beyond xs mark i l = rw (le-ltb i mark l)
 
-pub found-none : (xs : List ℕ) (mark i : ℕ) → i < mark → getD xs i 0 ≡ 0 → [] ≡ found xs mark i
+pub lookup-none : (xs : List ℕ) (mark i : ℕ) → i < mark → getD xs i 0 ≡ 0 → [] ≡ found xs mark i
 unfolding found word
-found-none xs mark i l e = rw (lt-ltb i mark l, e)
+lookup-none xs mark i l e = rw (lt-ltb i mark l, e)
 
-pub found-one : (xs : List ℕ) (mark i j : ℕ) → i < mark → getD xs i 0 ≡ j + 1 → j ∷ [] ≡ found xs mark i
+pub lookup-one : (xs : List ℕ) (mark i j : ℕ) → i < mark → getD xs i 0 ≡ j + 1 → j ∷ [] ≡ found xs mark i
 unfolding found word
-found-one xs mark i j l e = rw (lt-ltb i mark l, e, add-one)
+lookup-one xs mark i j l e = rw (lt-ltb i mark l, e, add-one)
 
 -- ---- a word below the watermark
 
