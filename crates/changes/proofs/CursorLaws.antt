@@ -37,12 +37,14 @@ pub cursor-end : (free : ℕ → Bool) (mark from : ℕ) → NoneFree free mark 
 cursor-end free mark from h l = sym (least-is mark free from (h .within) (h .below) (λ k. absurd (omega arith)))
 
 -- the cursor goes to what was found, where nothing below it became free
-pub cursor-least : (free free′ : ℕ → Bool) (mark mark′ s : ℕ) → s ≡ least mark free → mark ≤ mark′ → ((k : ℕ) → k < s → free k ≡ false → free′ k ≡ false) → NoneFree free′ mark′ s
+pub cursor-least : (free free′ : ℕ → Bool) (mark mark′ s : ℕ) → s ≡ least mark free → mark ≤ mark′ → ((k : ℕ) → k < s → free k ≡ false → free′ k ≡ false)
+    → NoneFree free′ mark′ s
 cursor-least free free′ mark mark′ s e m h =
     let w = least-has mark free in
     record { within = omega (arith, w .within); below = λ k l. h k l (w .before k (omega arith)) }
 
-pub cursor-kept : (free free′ : ℕ → Bool) (mark mark′ s : ℕ) → NoneFree free mark s → mark ≤ mark′ → ((k : ℕ) → k < s → free k ≡ false → free′ k ≡ false) → NoneFree free′ mark′ s
+pub cursor-kept : (free free′ : ℕ → Bool) (mark mark′ s : ℕ) → NoneFree free mark s → mark ≤ mark′ → ((k : ℕ) → k < s → free k ≡ false → free′ k ≡ false)
+    → NoneFree free′ mark′ s
 cursor-kept free free′ mark mark′ s p m h = record { within = omega (arith, p .within); below = λ k l. h k l (p .below k l) }
 
 -- the least free index of a map

@@ -29,11 +29,12 @@ cleared (x ∷ xs) zero = refl
 cleared (x ∷ xs) (suc i) = cleared xs i
 
 -- D or no note
-pub delete-notes : (g : ℕ) (t : Table) → length (deleteIfUnused g t .notes) ≡ pick (isUnused t g) 1 0
+pub delete-count : (g : ℕ) (t : Table) → length (deleteIfUnused g t .notes) ≡ pick (isUnused t g) 1 0
 unfolding deleteIfUnused choose
-delete-notes g t = go (isUnused t g)
+delete-count g t = go (isUnused t g)
   where
-    go : (b : Bool) → length (choose {A = List ℕ} b (record { value = []; table = dropGlobal g t; notes = deletes g ∷ [] }) (stay [] t) .notes) ≡ pick b 1 0
+    go : (b : Bool) → length (choose {A = List ℕ} b (record { value = []; table = dropGlobal g t; notes = deletes g ∷ [] })
+        (stay [] t) .notes) ≡ pick b 1 0
     go true = refl
     go false = refl
 
@@ -42,8 +43,8 @@ pub delete-any : (g : ℕ) (t : Table) (at room : ℕ) → Room (deleteIfUnused 
     → Room (deleteIfUnused g (tableOf (t .counts) gu (t .userFromGlobal) (t .solverFromGlobal) gs a (t .records))) at room
 unfolding isUnused
 delete-any g t at room r gu gs a =
-    let x = delete-notes g t in
-    let y = delete-notes g (tableOf (t .counts) gu (t .userFromGlobal) (t .solverFromGlobal) gs a (t .records)) in
+    let x = delete-count g t in
+    let y = delete-count g (tableOf (t .counts) gu (t .userFromGlobal) (t .solverFromGlobal) gs a (t .records)) in
     let w = r .words in
     record { words = omega arith }
 

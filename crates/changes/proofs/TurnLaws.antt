@@ -22,7 +22,8 @@ each-up f t n (suc m) l = ⊎-elim
     (eq-or-lt-of-le l)
 
 -- the notes of one more turn
-pub each-count : (n : ℕ) (f : ℕ → Table → Result (List ℕ)) (t : Table) → length (each (n + 1) f t .notes) ≡ length (each n f t .notes) + length (f n (each n f t .table) .notes)
+pub each-count : (n : ℕ) (f : ℕ → Table → Result (List ℕ)) (t : Table)
+    → length (each (n + 1) f t .notes) ≡ length (each n f t .notes) + length (f n (each n f t .table) .notes)
 each-count n f t = ap length (each-notes f t n) ∙ length-append (each n f t .notes) (f n (each n f t .table) .notes)
 
 -- a loop begins,

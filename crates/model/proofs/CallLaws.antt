@@ -43,7 +43,8 @@ unfolding modelRefusal
 refusal-2-globals t a b h l = rw (h, globals-count t, lt-ltb a (t .counts .global) l)
 
 -- the users counted, by the lists that are read
-users-told : (t : Table) (k : ℕ) → k ≡ length (userModel (readTable (t .counts) (t .globalFromUser) (t .solverFromGlobal) (t .assignment) (t .records))) → k ≡ length (userModel t)
+users-told : (t : Table) (k : ℕ) → k ≡ length (userModel (readTable (t .counts) (t .globalFromUser) (t .solverFromGlobal) (t .assignment) (t .records)))
+    → k ≡ length (userModel t)
 users-told t k e = e ∙ ap length (users-are t)
 
 module _ (t : Table) (a b k : ℕ) (h : soundb t ≡ true) (l : t .counts .global ≤ a)
@@ -128,7 +129,8 @@ model-told-by t a b o e z said left x y p q r s =
       users = s ∙ sym (ap (λ (w : Outcome). sets b 0 (w .more)) e);
     }
 
-pub model-told-refused : (t : Table) (a b : List ℕ) (n : ℕ) → n ≡ modelRefusal t (length a) (length b) → (n ≡ 0 → ⊥) → ModelTold t a b (modelled (Refused n) (t .counts)) t a b
+pub model-told-refused : (t : Table) (a b : List ℕ) (n : ℕ) → n ≡ modelRefusal t (length a) (length b) → (n ≡ 0 → ⊥)
+    → ModelTold t a b (modelled (Refused n) (t .counts)) t a b
 model-told-refused t a b n e h = model-told-by t a b (refusal n t) (model-refused t (length a) (length b) n e h) refl _ _ _ _ refl refl refl refl
 
 pub model-told-done : (t : Table) (a b : List ℕ) (n k : ℕ) (x y : List ℕ) → n ≡ modelRefusal t (length a) (length b) → n ≡ 0

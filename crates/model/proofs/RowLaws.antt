@@ -66,7 +66,8 @@ pub globals-next : (t : Table) (l m : List ℕ) (i v : ℕ) → m ≡ sets l 0 (
 globals-next t l m i v e q =
     rw (e, q, store-next l _ (globalsTo t i) 0 i (globalValue t i) refl (omega (arith, globals-length t i)), row-suc (λ g. globalValue t g ∷ []) i)
 
-pub globals-end : (t : Table) (l m : List ℕ) (i : ℕ) → m ≡ sets l 0 (globalsTo t i) → i ≤ t .counts .global → t .counts .global ≤ i → m ≡ sets l 0 (globalModel t)
+pub globals-end : (t : Table) (l m : List ℕ) (i : ℕ) → m ≡ sets l 0 (globalsTo t i) → i ≤ t .counts .global → t .counts .global ≤ i
+    → m ≡ sets l 0 (globalModel t)
 unfolding globalModel
 globals-end t l m i e a b = e ∙ ap (λ (k : ℕ). sets l 0 (globalsTo t k)) (omega arith)
 
@@ -169,7 +170,8 @@ users-fill-none t l m u v e p z = e ∙ sym (ap (sets l 0) (users-none t u v p z
 pub users-fill-kept : (t : Table) (l m : List ℕ) (u : ℕ) → m ≡ sets l 0 (usersTo t u) → length m ≡ length l
 users-fill-kept t l m u e = stored-length l m (usersTo t u) e
 
-pub users-fill-there : (t : Table) (l m : List ℕ) (u k : ℕ) → k < length (userModel t) → length (userModel t) ≤ length l → m ≡ sets l 0 (usersTo t u) → k < length m
+pub users-fill-there : (t : Table) (l m : List ℕ) (u k : ℕ) → k < length (userModel t) → length (userModel t) ≤ length l → m ≡ sets l 0 (usersTo t u)
+    → k < length m
 users-fill-there t l m u k a b e = stored-there l m (usersTo t u) k (length (userModel t)) a b e
 
 pub users-fill-end : (t : Table) (l m : List ℕ) (u : ℕ) → m ≡ sets l 0 (usersTo t u) → u ≤ t .counts .user → t .counts .user ≤ u → m ≡ sets l 0 (userModel t)

@@ -34,7 +34,8 @@ module _ (t : Table) (g : ℕ) (h : There t g) where
   pub base-fits : getD (t .records) g 0 / 3 * 3 < 2 ^ 32
   base-fits = let e = record-read t g (there-live t g h .words) in let u = h .undeleted in omega arith
 
-mode-read : (t : Table) (g m : ℕ) → g < length (t .records) → set (t .records) g (getD (t .records) g 0 / 3 * 3 + m) ≡ set (t .records) g (withMode (recordOf t g) m)
+mode-read : (t : Table) (g m : ℕ) → g < length (t .records) → set (t .records) g (getD (t .records) g 0 / 3 * 3 + m) ≡ set (t .records) g
+    (withMode (recordOf t g) m)
 mode-read t g m l = ap (λ (r : ℕ). set (t .records) g (withMode r m)) (record-read t g l)
 
 -- the last word of C fits
@@ -46,7 +47,8 @@ yes-fits false = omega arith
 
 pub change-leaves : (t : Table) (g m : ℕ) (records words words2 : List ℕ) → g < length (t .records)
     → records ≡ set (t .records) g (withMode (getD (t .records) g 0) m) → words2 ≡ sets words 0 (3 ∷ g ∷ pick (eqb m 0) 1 0 ∷ [])
-    → Leaves (change g m t) 0 3 (tableOf (t .counts) (t .globalFromUser) (t .userFromGlobal) (t .solverFromGlobal) (t .globalFromSolver) (t .assignment) records) words words2
+    → Leaves (change g m t) 0 3 (tableOf (t .counts) (t .globalFromUser) (t .userFromGlobal) (t .solverFromGlobal) (t .globalFromSolver) (t .assignment)
+    records) words words2
 unfolding change putRecord notesWords
 change-leaves t g m records words words2 l p q = record {
   table = ap (λ (r : List ℕ). tableOf (t .counts) (t .globalFromUser) (t .userFromGlobal) (t .solverFromGlobal) (t .globalFromSolver) (t .assignment) r)
@@ -73,26 +75,30 @@ module _ (t : Table) (g m from : ℕ) (h : Shows t g m from) where
       omega arith
 
 module _ (t : Table) (g m : ℕ) (l : g < length (t .records)) (u : ℕ) (e : u ≡ leastFree (t .globalFromUser) (t .counts .user))
-    (d : Counts) (gu ug : List ℕ) (p : (d ≡ coverUser (t .counts) u g) × ((gu ≡ set (t .globalFromUser) u (g + 1)) × (ug ≡ set (t .userFromGlobal) g (u + 1)))) where
-  shown-is : tableOf d gu ug (t .solverFromGlobal) (t .globalFromSolver) (t .assignment) (set (t .records) g (getD (t .records) g 0 / 3 * 3 + m)) ≡ giveUser g u (withMode (recordOf t g) m) t
-  unfolding giveUser
-  shown-is = λ i. tableOf (p .0 i) (p .1 .0 i) (p .1 .1 i) (t .solverFromGlobal) (t .globalFromSolver) (t .assignment) (mode-read t g m l i)
+    (d : Counts) (gu ug : List ℕ) (p : (d ≡ coverUser (t .counts) u g) × ((gu ≡ set (t .globalFromUser) u (g + 1)) × (ug ≡ set (t .userFromGlobal) g (u + 1))))
+  where
+    shown-is : tableOf d gu ug (t .solverFromGlobal) (t .globalFromSolver) (t .assignment) (set (t .records) g (getD (t .records) g 0 / 3 * 3 + m))
+        ≡ giveUser g u (withMode (recordOf t g) m) t
+    unfolding giveUser
+    shown-is = λ i. tableOf (p .0 i) (p .1 .0 i) (p .1 .1 i) (t .solverFromGlobal) (t .globalFromSolver) (t .assignment) (mode-read t g m l i)
 
-  next-user-is : u ≡ nextUser t
-  unfolding nextUser
-  next-user-is = e
+    next-user-is : u ≡ nextUser t
+    unfolding nextUser
+    next-user-is = e
 
-  pub show-leaves : (at : ℕ) (words words2 words3 : List ℕ) → words2 ≡ sets words at (3 ∷ g ∷ pick (eqb m 0) 1 0 ∷ []) → words3 ≡ sets words2 (at + 3) (0 ∷ g ∷ (u + 1) ∷ [])
-      → Leaves (show g m t) at (at + 6) (tableOf d gu ug (t .solverFromGlobal) (t .globalFromSolver) (t .assignment) (set (t .records) g (getD (t .records) g 0 / 3 * 3 + m))) words words3
-  unfolding show notesWords
-  show-leaves at words words2 words3 q r = record {
-    table = shown-is ∙ ap (λ (v : ℕ). giveUser g v (withMode (recordOf t g) m) t) next-user-is;
-    noted = r
-        ∙ ap (λ (l : List ℕ). sets l (at + 3) (0 ∷ g ∷ (u + 1) ∷ [])) q
-        ∙ sym (sets-append (3 ∷ g ∷ pick (eqb m 0) 1 0 ∷ []) (0 ∷ g ∷ (u + 1) ∷ []) words at)
-        ∙ ap (λ (v : ℕ). sets words at (3 ∷ g ∷ pick (eqb m 0) 1 0 ∷ 0 ∷ g ∷ (v + 1) ∷ [])) next-user-is;
-    moved = omega arith;
-  }
+    pub show-leaves : (at : ℕ) (words words2 words3 : List ℕ) → words2 ≡ sets words at (3 ∷ g ∷ pick (eqb m 0) 1 0 ∷ [])
+        → words3 ≡ sets words2 (at + 3) (0 ∷ g ∷ (u + 1) ∷ [])
+        → Leaves (show g m t) at (at + 6) (tableOf d gu ug (t .solverFromGlobal) (t .globalFromSolver) (t .assignment)
+        (set (t .records) g (getD (t .records) g 0 / 3 * 3 + m))) words words3
+    unfolding show notesWords
+    show-leaves at words words2 words3 q r = record {
+      table = shown-is ∙ ap (λ (v : ℕ). giveUser g v (withMode (recordOf t g) m) t) next-user-is;
+      noted = r
+          ∙ ap (λ (l : List ℕ). sets l (at + 3) (0 ∷ g ∷ (u + 1) ∷ [])) q
+          ∙ sym (sets-append (3 ∷ g ∷ pick (eqb m 0) 1 0 ∷ []) (0 ∷ g ∷ (u + 1) ∷ []) words at)
+          ∙ ap (λ (v : ℕ). sets words at (3 ∷ g ∷ pick (eqb m 0) 1 0 ∷ 0 ∷ g ∷ (v + 1) ∷ [])) next-user-is;
+      moved = omega arith;
+    }
 
 -- ---- U(g,-), and D if unused
 
@@ -109,8 +115,8 @@ module _ (t : Table) (g : ℕ) where
     pub hide-user : 1 ≤ getD (t .userFromGlobal) g 0
     hide-user = let n = h .there .sound .rows .row g .seen (h .there .undeleted, h .shown) in omega arith
 
-    pub hide-asks : (getD (t .userFromGlobal) g 0 - 1 < length (t .globalFromUser)) × (g < length (t .userFromGlobal))
-    hide-asks =
+    pub hide-fits : (getD (t .userFromGlobal) g 0 - 1 < length (t .globalFromUser)) × (g < length (t .userFromGlobal))
+    hide-fits =
         let w = h .there in
         let n = hide-user in
         let z = w .sound .sizes in
@@ -119,20 +125,23 @@ module _ (t : Table) (g : ℕ) where
         let k = there-live t g w .user in
         omega arith
 
-    module _ (d : Counts) (gu ug : List ℕ) (p : (d ≡ t .counts) × ((gu ≡ set (t .globalFromUser) (getD (t .userFromGlobal) g 0 - 1) 0) × (ug ≡ set (t .userFromGlobal) g 0))) where
+    module _ (d : Counts) (gu ug : List ℕ) (p : (d ≡ t .counts)
+        × ((gu ≡ set (t .globalFromUser) (getD (t .userFromGlobal) g 0 - 1) 0) × (ug ≡ set (t .userFromGlobal) g 0))) where
       mid : Table
       mid = tableOf d gu ug (t .solverFromGlobal) (t .globalFromSolver) (t .assignment) (set (t .records) g (getD (t .records) g 0 / 3 * 3 + 2))
 
       mid-is : mid ≡ takeUser g (getD (t .userFromGlobal) g 0 - 1) (withMode (recordOf t g) 2) t
       unfolding mid takeUser
-      mid-is = λ i. tableOf (p .0 i) (p .1 .0 i) (p .1 .1 i) (t .solverFromGlobal) (t .globalFromSolver) (t .assignment) (mode-read t g 2 (there-live t g (h .there) .words) i)
+      mid-is = λ i. tableOf (p .0 i) (p .1 .0 i) (p .1 .1 i) (t .solverFromGlobal) (t .globalFromSolver) (t .assignment)
+          (mode-read t g 2 (there-live t g (h .there) .words) i)
 
       withdrawn-leaves : (at : ℕ) (words words2 : List ℕ) → words2 ≡ sets words at (0 ∷ g ∷ 0 ∷ []) → Leaves (withdrawn g t) at (at + 3) mid words words2
       unfolding notesWords
       withdrawn-leaves at words words2 q = record { table = mid-is; noted = q; moved = omega arith }
 
       pub hide-leaves : (at next : ℕ) (left : Table) (words words2 words3 : List ℕ) → words2 ≡ sets words at (0 ∷ g ∷ 0 ∷ [])
-          → Leaves (deleteIfUnused g (tableOf d gu ug (t .solverFromGlobal) (t .globalFromSolver) (t .assignment) (set (t .records) g (getD (t .records) g 0 / 3 * 3 + 2)))) (at + 3) next left words2 words3
+          → Leaves (deleteIfUnused g (tableOf d gu ug (t .solverFromGlobal) (t .globalFromSolver) (t .assignment)
+          (set (t .records) g (getD (t .records) g 0 / 3 * 3 + 2)))) (at + 3) next left words2 words3
           → Leaves (hide g t) at next left words words3
       unfolding hide mid
       hide-leaves at next left words words2 words3 q k = leaves-then (deleteIfUnused g) (withdrawn-leaves at words words2 q) k
@@ -149,7 +158,8 @@ module _ (t : Table) (g : ℕ) where
 
       pub hide-delete : (at room room2 : ℕ) → Room (hide g t) at room → room2 ≡ room
           → Live ug (t .solverFromGlobal) (set (t .records) g (getD (t .records) g 0 / 3 * 3 + 2)) g
-          × ((gu2 gs a : List ℕ) → Room (deleteIfUnused g (tableOf d gu2 ug (t .solverFromGlobal) gs a (set (t .records) g (getD (t .records) g 0 / 3 * 3 + 2)))) (at + 3) room2)
+          × ((gu2 gs a : List ℕ)
+          → Room (deleteIfUnused g (tableOf d gu2 ug (t .solverFromGlobal) gs a (set (t .records) g (getD (t .records) g 0 / 3 * 3 + 2)))) (at + 3) room2)
       unfolding hide mid
       hide-delete at room room2 r q = (
         live,

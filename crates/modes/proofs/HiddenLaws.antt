@@ -26,7 +26,8 @@ fine records g = not (isHidden (getD records g 47) && eqb (assumedOf (getD recor
 
 module _ (records : List ℕ) (mark g : ℕ) (w : mark ≤ length records) (k : g < mark) (b : Bool) (e : b ≡ isHidden (getD records g 0)) where
   fine-read : (x : Bool) → b && eqb (getD records g 0 / 18 % 2) 1 ≡ x → fine records g ≡ not x
-  fine-read x q = ap not (ap (λ (r : ℕ). isHidden r && eqb (assumedOf r) 1) (getD-default records g 47 0 (omega arith)) ∙ ap (λ (y : Bool). y && eqb (getD records g 0 / 18 % 2) 1) (sym e) ∙ q)
+  fine-read x q = ap not (ap (λ (r : ℕ). isHidden r && eqb (assumedOf r) 1) (getD-default records g 47 0 (omega arith))
+      ∙ ap (λ (y : Bool). y && eqb (getD records g 0 / 18 % 2) 1) (sym e) ∙ q)
 
   pub fine-fails : b && eqb (getD records g 0 / 18 % 2) 1 ≡ true → false ≡ allBelow mark (fine records)
   fine-fails q = sym (all-fails mark (fine records) g k (fine-read true q))
@@ -43,44 +44,46 @@ fine-end records mark g e h = sym (ap (λ (i : ℕ). allBelow i (fine records)) 
 -- ---- how many there are
 
 -- 1 where the test holds, else 0
-abbrev pub one : Bool → ℕ
-one b = pick b 1 0
+abbrev pub oneIf : Bool → ℕ
+oneIf b = pick b 1 0
 
-pub hidden-one : (b : Bool) (w : ℕ) → b ≡ isHidden w → b ≡ true → 1 ≡ one (isHidden w)
+pub hidden-one : (b : Bool) (w : ℕ) → b ≡ isHidden w → b ≡ true → 1 ≡ oneIf (isHidden w)
 hidden-one b w e q = rw (sym e ∙ q)
 
-pub hidden-zero : (b : Bool) (w : ℕ) → b ≡ isHidden w → b ≡ false → 0 ≡ one (isHidden w)
+pub hidden-zero : (b : Bool) (w : ℕ) → b ≡ isHidden w → b ≡ false → 0 ≡ oneIf (isHidden w)
 hidden-zero b w e q = rw (sym e ∙ q)
 
 abbrev pub hiddenAt : List ℕ → ℕ → Bool
 hiddenAt records g = isHidden (getD records g 47)
 
-pub count-next : (g : ℕ) (p : ℕ → Bool) → count (g + 1) p ≡ count g p + one (p g)
+pub count-next : (g : ℕ) (p : ℕ → Bool) → count (g + 1) p ≡ count g p + oneIf (p g)
 count-next g p = go (p g) refl
   where
-    go : (b : Bool) → p g ≡ b → count (g + 1) p ≡ count g p + one b
+    go : (b : Bool) → p g ≡ b → count (g + 1) p ≡ count g p + oneIf b
     go true e = count-yes g p e
     go false e = let x = count-no g p e in omega arith
 
 pub hidden-none : (records : List ℕ) → 0 ≡ count 0 (hiddenAt records)
 hidden-none records = sym (count-none (hiddenAt records))
 
-pub hidden-more : (records : List ℕ) (mark g n k : ℕ) → mark ≤ length records → g < mark → n ≡ count g (hiddenAt records) → k ≡ one (isHidden (getD records g 0)) → n + k ≡ count (g + 1) (hiddenAt records)
+pub hidden-more : (records : List ℕ) (mark g n k : ℕ) → mark ≤ length records → g < mark → n ≡ count g (hiddenAt records)
+    → k ≡ oneIf (isHidden (getD records g 0)) → n + k ≡ count (g + 1) (hiddenAt records)
 hidden-more records mark g n k w l e q =
     let x = count-next g (hiddenAt records) in
-    let y : one (isHidden (getD records g 0)) ≡ one (hiddenAt records g) = ap (λ (r : ℕ). one (isHidden r)) (getD-default records g 0 47 (omega arith)) in
+    let y : oneIf (isHidden (getD records g 0)) ≡ oneIf (hiddenAt records g) = ap (λ (r : ℕ). oneIf (isHidden r)) (getD-default records g 0 47 (omega arith)) in
     omega arith
 
 pub hidden-end : (records : List ℕ) (mark g n : ℕ) → g ≡ mark → n ≡ count g (hiddenAt records) → n ≡ count mark (hiddenAt records)
 hidden-end records mark g n e q = q ∙ ap (λ (i : ℕ). count i (hiddenAt records)) e
 
 -- a count fits its word
-pub hidden-fits : (records : List ℕ) (g mark n k : ℕ) → g < mark → mark < 2 ^ 32 → n ≡ count g (hiddenAt records) → k ≡ one (isHidden (getD records g 0)) → n + k < 2 ^ 32
+pub hidden-fits : (records : List ℕ) (g mark n k : ℕ) → g < mark → mark < 2 ^ 32 → n ≡ count g (hiddenAt records) → k ≡ oneIf (isHidden (getD records g 0))
+    → n + k < 2 ^ 32
 hidden-fits records g mark n k l m e q =
     let x = count-most g (hiddenAt records) in
     let y = most (isHidden (getD records g 0)) in
     omega arith
   where
-    most : (b : Bool) → one b ≤ 1
+    most : (b : Bool) → oneIf b ≤ 1
     most true = omega arith
     most false = omega arith

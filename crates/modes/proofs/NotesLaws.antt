@@ -14,7 +14,7 @@ use Rattle.scope.specs.Outcome.{stay, choose}
 use Rattle.scope.specs.Modes.{isUnused, show, hide, change, setMode}
 use Rattle.scope.proofs.MoveLaws.{undeleted-below}
 use Rattle.changes.specs.Live.{Live}
-use Rattle.changes.proofs.DeletionLaws.{cleared, delete-notes}
+use Rattle.changes.proofs.DeletionLaws.{cleared, delete-count}
 use Rattle.modes.specs.Asks.{There}
 use Rattle.modes.specs.Counting.{modeNotes}
 
@@ -65,9 +65,10 @@ there-live t g h =
 
 module _ (t : Table) (g : ℕ) (h : There t g) where
   -- without its user a global is unused if it has no solver index and is isolated
-  unused-without : (u : ℕ) → isUnused (takeUser g u (withMode (recordOf t g) 2) t) g ≡ eqb (getD (t .solverFromGlobal) g 0) 0 && eqb (isolatedOf (recordOf t g)) 1
+  unused-unnamed : (u : ℕ) → isUnused (takeUser g u (withMode (recordOf t g) 2) t) g ≡ eqb (getD (t .solverFromGlobal) g 0) 0 && eqb (isolatedOf (recordOf t g))
+      1
   unfolding isUnused takeUser
-  unused-without u =
+  unused-unnamed u =
       let r = getD-set-same (t .records) g (withMode (recordOf t g) 2) 47 (there-live t g h .words) in
       let e : isolatedOf (withMode (recordOf t g) 2) ≡ isolatedOf (recordOf t g) = omega arith in
       rw (cleared (t .userFromGlobal) g, r, e)
@@ -75,8 +76,8 @@ module _ (t : Table) (g : ℕ) (h : There t g) where
   hide-notes : length (hide g t .notes) ≡ pick (eqb (getD (t .solverFromGlobal) g 0) 0 && eqb (isolatedOf (recordOf t g)) 1) 2 1
   unfolding hide
   hide-notes =
-      ap suc (delete-notes g (takeUser g (getD (t .userFromGlobal) g 0 - 1) (withMode (recordOf t g) 2) t))
-      ∙ ap (λ (b : Bool). suc (pick b 1 0)) (unused-without (getD (t .userFromGlobal) g 0 - 1))
+      ap suc (delete-count g (takeUser g (getD (t .userFromGlobal) g 0 - 1) (withMode (recordOf t g) 2) t))
+      ∙ ap (λ (b : Bool). suc (pick b 1 0)) (unused-unnamed (getD (t .userFromGlobal) g 0 - 1))
       ∙ go (eqb (getD (t .solverFromGlobal) g 0) 0 && eqb (isolatedOf (recordOf t g)) 1)
     where
       go : (b : Bool) → suc (pick b 1 0) ≡ pick b 2 1

@@ -20,14 +20,14 @@ use Rattle.scope.specs.Modes.{observeOne, observe, observeRefusal, observeOf}
 use Rattle.scope.specs.Contract.{Does}
 use Rattle.scope.proofs.SoundLaws.{sound-of}
 use Rattle.scope.proofs.ResultLaws.{past}
-use Rattle.scope.proofs.ModeLaws.{Observed as Seen, observe-passed}
+use Rattle.scope.proofs.ModeLaws.{Observed as ObservedTable, observe-passed}
 use Rattle.changes.specs.Cursor.{AllMapped}
 use Rattle.changes.specs.Leaves.{Leaves, Room}
 use Rattle.changes.proofs.CursorLaws.{cursor-start}
 use Rattle.changes.proofs.LeavesLaws.{leaves-length, notes-told, notes-fit, SameSizes, same-sizes}
 use Rattle.changes.proofs.TurnLaws.{turns-none, turns-more, turns-room}
 use Rattle.changes.proofs.CallLaws.{call-refused, call-accepted, refused-words, accepted-words}
-use Rattle.modes.specs.Asks.{Filled, Observes, ObservesAll}
+use Rattle.modes.specs.Asks.{UsersFilled, Observes, ObservesAll}
 use Rattle.modes.specs.declared.Observed.the-variants.{Done, Refused}
 use Rattle.modes.specs.Answers.{observed}
 use Rattle.modes.proofs.HiddenLaws.{fine, hiddenAt}
@@ -49,7 +49,8 @@ module _ (t : Table) (outs room : ℕ) where
     unfolding observeRefusal
     observe-7 b e q = rw (y, sym e ∙ q)
 
-    module _ (b : Bool) (e : b ≡ allBelow (t .counts .global) (fine (t .records))) (q : b ≡ true) (n : ℕ) (k : n ≡ count (t .counts .global) (hiddenAt (t .records))) where
+    module _ (b : Bool) (e : b ≡ allBelow (t .counts .global) (fine (t .records))) (q : b ≡ true) (n : ℕ)
+        (k : n ≡ count (t .counts .global) (hiddenAt (t .records))) where
       observe-short : (ltb outs (length (observe t .value)) || ltb room (3 * length (observe t .notes))) ≡ (ltb outs n || ltb room (6 * n))
       observe-short =
           let x = observe-count t (sound-of t y) in
@@ -70,7 +71,7 @@ module _ (t : Table) (outs room : ℕ) where
 -- a loop that has observed the globals below g
 pub record Observing (t : Table) (g from n at : ℕ) (left : Table) (users users2 words words2 : List ℕ) : Type 0 where
   pub leaves : Leaves (each g observeOne t) 0 at left words words2
-  pub filled : Filled (each g observeOne t) 0 n users users2
+  pub filled : UsersFilled (each g observeOne t) 0 n users users2
   pub mapped : AllMapped (left .globalFromUser) (left .counts .user) from
 
 pub observing-none : (t : Table) (users words : List ℕ) → Observing t 0 0 0 0 t users users words words
@@ -79,7 +80,8 @@ observing-none t users words =
 
 module _ (t : Table) (g from n at : ℕ) (left : Table) (users users2 words words2 : List ℕ) (h : Observing t g from n at left users users2 words words2) where
   pub observing-more : (from2 n2 at2 : ℕ) (left2 : Table) (users3 words3 : List ℕ)
-      → Leaves (observeOne g left) at at2 left2 words2 words3 × (Filled (observeOne g left) n n2 users2 users3 × AllMapped (left2 .globalFromUser) (left2 .counts .user) from2)
+      → Leaves (observeOne g left) at at2 left2 words2 words3
+      × (UsersFilled (observeOne g left) n n2 users2 users3 × AllMapped (left2 .globalFromUser) (left2 .counts .user) from2)
       → Observing t (g + 1) from2 n2 at2 left2 users users3 words words3
   observing-more from2 n2 at2 left2 users3 words3 k = record {
     leaves = turns-more g observeOne t at at2 left left2 words words2 words3 (h .leaves) (k .0);
@@ -91,14 +93,15 @@ module _ (t : Table) (g from n at : ℕ) (left : Table) (users users2 words word
   observing-users = ap length (h .filled .values) ∙ length-sets users 0 (each g observeOne t .value)
 
   module _ (outs room : ℕ) (a : ObservesAll t outs room) where
-    pub observing-asks : outs ≡ length users → room ≡ length words → g < t .counts .global → Observes left g from n (length users2) × Room (observeOne g left) at (length words2)
+    pub observing-asks : outs ≡ length users → room ≡ length words → g < t .counts .global → Observes left g from n (length users2)
+        × Room (observeOne g left) at (length words2)
     unfolding observe
     observing-asks eo er l = (
       record { sound = subst (λ (s : Table). Sound s) (sym (h .leaves .table)) (o .sound); below = below; mapped = h .mapped; words = room-users },
       turns-room g (t .counts .global) observeOne t at left words words2 (record { words = let w = a .words in omega arith }) l (h .leaves),
     )
       where
-        o : Seen t g (each g observeOne t .table)
+        o : ObservedTable t g (each g observeOne t .table)
         o = observe-passed t (a .sound) g
 
         below : g < left .counts .global
@@ -122,18 +125,25 @@ module _ (t : Table) (g from n at : ℕ) (left : Table) (users users2 words word
         let k = o .same .capacity in
         same-sizes t left words words2 (a .sound .sizes) x (omega arith) (leaves-length (each g observeOne t) 0 at left words words2 (h .leaves))
 
-  pub observing-end : g ≡ t .counts .global → Leaves (observe t) 0 at left words words2 × Filled (observe t) 0 n users users2
+  pub observing-end : g ≡ t .counts .global → Leaves (observe t) 0 at left words words2 × UsersFilled (observe t) 0 n users users2
   unfolding observe
-  observing-end e =
-      (subst (λ (i : ℕ). Leaves (each i observeOne t) 0 at left words words2) e (h .leaves), subst (λ (i : ℕ). Filled (each i observeOne t) 0 n users users2) e (h .filled))
+  observing-end e = (
+    subst (λ (i : ℕ). Leaves (each i observeOne t) 0 at left words words2) e (h .leaves),
+    subst
+        (λ (i : ℕ). UsersFilled (each i observeOne t) 0 n users users2) e (h .filled),
+  )
 
 -- ---- the call
 
 pub observe-refused : (t : Table) (n : ℕ) (users words : List ℕ) → n ≡ observeRefusal t (length users) (length words) → (n ≡ 0 → ⊥)
-    → Does (observeOf t (length users) (length words)) (observed (Refused n) (t .counts)) t words words × (users ≡ sets users 0 (observeOf t (length users) (length words) .words))
+    → Does (observeOf t (length users) (length words)) (observed (Refused n) (t .counts)) t words words
+    × (users ≡ sets users 0 (observeOf t (length users) (length words) .words))
 unfolding observeOf
-observe-refused t n users words e z =
-    (call-refused (observeRefusal t (length users) (length words)) n t _ words e z, ap (sets users 0) (sym (refused-words (observeRefusal t (length users) (length words)) n t _ e z)))
+observe-refused t n users words e z = (
+  call-refused (observeRefusal t (length users) (length words)) n t _ words e z,
+  ap (sets users 0)
+      (sym (refused-words (observeRefusal t (length users) (length words)) n t _ e z)),
+)
 
 module _ (t : Table) (outs room n : ℕ) (e : n ≡ observeRefusal t outs room) (z : n ≡ 0) where
   pub observe-asks : ObservesAll t outs room
@@ -149,7 +159,8 @@ module _ (t : Table) (outs room n : ℕ) (e : n ≡ observeRefusal t outs room) 
       }
 
   -- both counts fit
-  pub observe-fits : (k at : ℕ) (left : Table) (users users2 words words2 : List ℕ) → Leaves (observe t) 0 at left words words2 × Filled (observe t) 0 k users users2
+  pub observe-fits : (k at : ℕ) (left : Table) (users users2 words words2 : List ℕ) → Leaves (observe t) 0 at left words words2
+      × UsersFilled (observe t) 0 k users users2
       → (k < 2 ^ 32) × (at / 3 < 2 ^ 32)
   observe-fits k at left users users2 words words2 h =
       let s = observe-asks .sound in
@@ -159,7 +170,8 @@ module _ (t : Table) (outs room n : ℕ) (e : n ≡ observeRefusal t outs room) 
       let b = h .1 .moved in
       (omega arith, notes-fit (h .0) (omega arith))
 
-  pub observe-does : (k at : ℕ) (d : Counts) (left : Table) (users users2 words words2 : List ℕ) → Leaves (observe t) 0 at left words words2 × Filled (observe t) 0 k users users2
+  pub observe-does : (k at : ℕ) (d : Counts) (left : Table) (users users2 words words2 : List ℕ) → Leaves (observe t) 0 at left words words2
+      × UsersFilled (observe t) 0 k users users2
       → Does (observeOf t outs room) (observed (Done k d (at / 3)) d) left words words2 × (users2 ≡ sets users 0 (observeOf t outs room .words))
   unfolding observeOf
   observe-does k at d left users users2 words words2 h =

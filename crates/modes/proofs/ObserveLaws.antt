@@ -24,26 +24,29 @@ use Rattle.changes.specs.Leaves.{Leaves, Room}
 use Rattle.changes.specs.Solvers.{solversOf}
 use Rattle.changes.proofs.LeavesLaws.{leaves-stay}
 use Rattle.changes.proofs.DeletionLaws.{record-read}
-use Rattle.modes.specs.Asks.{There, ShowAsks, Filled, Observes}
+use Rattle.modes.specs.Asks.{There, ShowAsks, UsersFilled, Observes}
 use Rattle.modes.proofs.CursorLaws.{mapped-more}
-use Rattle.modes.proofs.HiddenLaws.{one, hiddenAt, count-next}
+use Rattle.modes.proofs.HiddenLaws.{oneIf, hiddenAt, count-next}
 
 -- ---- how many
 
 -- the users of one more turn
-pub values-more : (t : Table) (g : ℕ) → length (each (g + 1) observeOne t .value) ≡ length (each g observeOne t .value) + length (observeOne g (each g observeOne t .table) .value)
+pub values-more : (t : Table) (g : ℕ) → length (each (g + 1) observeOne t .value) ≡ length (each g observeOne t .value) + length
+    (observeOne g (each g observeOne t .table) .value)
 values-more t g = ap length (each-value observeOne t g) ∙ length-append (each g observeOne t .value) (observeOne g (each g observeOne t .table) .value)
 
-one-count : (g : ℕ) (t : Table) → (length (observeOne g t .value) ≡ one (isHidden (recordOf t g))) × (length (observeOne g t .notes) ≡ 2 * one (isHidden (recordOf t g)))
+one-count : (g : ℕ) (t : Table) → (length (observeOne g t .value) ≡ oneIf (isHidden (recordOf t g)))
+    × (length (observeOne g t .notes) ≡ 2 * oneIf (isHidden (recordOf t g)))
 unfolding observeOne choose show
 one-count g t = go (isHidden (recordOf t g))
   where
-    go : (b : Bool) → (length (choose b (show g 1 t) (stay [] t) .value) ≡ one b) × (length (choose b (show g 1 t) (stay [] t) .notes) ≡ 2 * one b)
+    go : (b : Bool) → (length (choose b (show g 1 t) (stay [] t) .value) ≡ oneIf b) × (length (choose b (show g 1 t) (stay [] t) .notes) ≡ 2 * oneIf b)
     go true = (refl, refl)
     go false = (refl, refl)
 
 -- n hidden globals: n users, 2 n notes
-turns-count : (t : Table) → Sound t → (i : ℕ) → (length (each i observeOne t .value) ≡ count i (hiddenAt (t .records))) × (length (each i observeOne t .notes) ≡ 2 * count i (hiddenAt (t .records)))
+turns-count : (t : Table) → Sound t → (i : ℕ) → (length (each i observeOne t .value) ≡ count i (hiddenAt (t .records)))
+    × (length (each i observeOne t .notes) ≡ 2 * count i (hiddenAt (t .records)))
 turns-count t p zero =
     let z = count-none (hiddenAt (t .records)) in
     let a = ap (λ (x : Result (List ℕ)). length (x .value)) (each-zero observeOne t) in
@@ -53,25 +56,28 @@ turns-count t p (suc i) =
     let h = turns-count t p i in
     let o = observe-passed t p i in
     let k = one-count i (each i observeOne t .table) in
-    let r : one (isHidden (recordOf (each i observeOne t .table) i)) ≡ one (hiddenAt (t .records) i) = ap (λ (w : ℕ). one (isHidden w)) (o .records i (omega arith)) in
+    let r : oneIf (isHidden (recordOf (each i observeOne t .table) i)) ≡ oneIf (hiddenAt (t .records) i) =
+    ap (λ (w : ℕ). oneIf (isHidden w)) (o .records i (omega arith)) in
     let n = count-next i (hiddenAt (t .records)) in
     let a = values-more t i in
     let b = ap length (each-notes observeOne t i) ∙ length-append (each i observeOne t .notes) (observeOne i (each i observeOne t .table) .notes) in
     rw (← add-one i) (omega arith)
 
-pub observe-count : (t : Table) → Sound t → (length (observe t .value) ≡ count (t .counts .global) (hiddenAt (t .records))) × (length (observe t .notes) ≡ 2 * count (t .counts .global) (hiddenAt (t .records)))
+pub observe-count : (t : Table) → Sound t → (length (observe t .value) ≡ count (t .counts .global) (hiddenAt (t .records)))
+    × (length (observe t .notes) ≡ 2 * count (t .counts .global) (hiddenAt (t .records)))
 unfolding observe
 observe-count t p = turns-count t p (t .counts .global)
 
 -- ---- users in a row
 
-pub filled-none : (t : Table) (words : List ℕ) → Filled (each 0 observeOne t) 0 0 words words
-filled-none t words = subst (λ (x : Result (List ℕ)). Filled x 0 0 words words) (sym (each-zero observeOne t)) (record { values = refl; moved = refl })
+pub filled-none : (t : Table) (words : List ℕ) → UsersFilled (each 0 observeOne t) 0 0 words words
+filled-none t words = subst (λ (x : Result (List ℕ)). UsersFilled x 0 0 words words) (sym (each-zero observeOne t)) (record { values = refl; moved = refl })
 
 pub filled-more : (t : Table) (g n next : ℕ) (left : Table) (words words2 words3 : List ℕ) → left ≡ each g observeOne t .table
-    → Filled (each g observeOne t) 0 n words words2 → Filled (observeOne g left) n next words2 words3 → Filled (each (g + 1) observeOne t) 0 next words words3
+    → UsersFilled (each g observeOne t) 0 n words words2 → UsersFilled (observeOne g left) n next words2 words3
+    → UsersFilled (each (g + 1) observeOne t) 0 next words words3
 filled-more t g n next left words words2 words3 e h k =
-    let k2 = subst (λ (s : Table). Filled (observeOne g s) n next words2 words3) e k in
+    let k2 = subst (λ (s : Table). UsersFilled (observeOne g s) n next words2 words3) e k in
     let xs = each g observeOne t .value in
     let ys = observeOne g (each g observeOne t .table) .value in
     let a = h .moved in
@@ -113,10 +119,11 @@ module _ (t : Table) (g from n outs : ℕ) (h : Observes t g from n outs) where
     unfolding observeOne
     stays q = choose-else _ _ _ (hidden-is ∙ q)
 
-    pub one-stays : b ≡ false → (at : ℕ) (words users : List ℕ) → Leaves (observeOne g t) at at t words words × (Filled (observeOne g t) n n users users × AllMapped (t .globalFromUser) (t .counts .user) from)
+    pub one-stays : b ≡ false → (at : ℕ) (words users : List ℕ) → Leaves (observeOne g t) at at t words words
+        × (UsersFilled (observeOne g t) n n users users × AllMapped (t .globalFromUser) (t .counts .user) from)
     one-stays q at words users = (
       subst (λ (x : Result (List ℕ)). Leaves x at at t words words) (sym (stays q)) (leaves-stay t at words),
-      (subst (λ (x : Result (List ℕ)). Filled x n n users users) (sym (stays q)) (record { values = refl; moved = omega arith }), h .mapped),
+      (subst (λ (x : Result (List ℕ)). UsersFilled x n n users users) (sym (stays q)) (record { values = refl; moved = omega arith }), h .mapped),
     )
 
     module _ (q : b ≡ true) where
@@ -127,9 +134,10 @@ module _ (t : Table) (g from n outs : ℕ) (h : Observes t g from n outs) where
       there : There t g
       there = record { sound = h .sound; undeleted = hidden-of (recordOf t g) (hidden-is ∙ q) .0 }
 
-      pub one-asks : (at room : ℕ) → Room (observeOne g t) at room → ShowAsks (t .counts) (t .globalFromUser) (t .userFromGlobal) (t .records) g 1 from at room
+      pub observe-one-asks : (at room : ℕ) → Room (observeOne g t) at room
+          → ShowAsks (t .counts) (t .globalFromUser) (t .userFromGlobal) (t .records) g 1 from at room
       unfolding show
-      one-asks at room r =
+      observe-one-asks at room r =
           let w = subst (λ (x : Result (List ℕ)). Room x at room) shows r .words in
           record {
             solvers = solversOf t;
@@ -149,7 +157,8 @@ module _ (t : Table) (g from n outs : ℕ) (h : Observes t g from n outs) where
       pub one-small : (u : ℕ) → u ≡ leastFree (t .globalFromUser) (t .counts .user) → u < 4096
       one-small u p = let l = next-below u p in let z = h .sound .sizes in omega arith
 
-      after-mapped : (u : ℕ) (left : Table) → u ≡ leastFree (t .globalFromUser) (t .counts .user) → left ≡ show g 1 t .table → AllMapped (left .globalFromUser) (left .counts .user) (u + 1)
+      after-mapped : (u : ℕ) (left : Table) → u ≡ leastFree (t .globalFromUser) (t .counts .user) → left ≡ show g 1 t .table
+          → AllMapped (left .globalFromUser) (left .counts .user) (u + 1)
       unfolding show giveUser nextUser
       after-mapped u left p k =
           let z = h .sound .sizes in
@@ -160,12 +169,13 @@ module _ (t : Table) (g from n outs : ℕ) (h : Observes t g from n outs) where
 
       pub one-shows : (at next u from : ℕ) (left : Table) (words words2 users : List ℕ) → Leaves (show g 1 t) at next left words words2
           → u ≡ leastFree (t .globalFromUser) (t .counts .user) → from ≡ u + 1
-          → Leaves (observeOne g t) at next left words words2 × (Filled (observeOne g t) n (n + 1) users (set users n u) × AllMapped (left .globalFromUser) (left .counts .user) from)
+          → Leaves (observeOne g t) at next left words words2
+          × (UsersFilled (observeOne g t) n (n + 1) users (set users n u) × AllMapped (left .globalFromUser) (left .counts .user) from)
       unfolding show nextUser
       one-shows at next u from left words words2 users k p e = (
         subst (λ (x : Result (List ℕ)). Leaves x at next left words words2) (sym shows) k,
         (
-          subst (λ (x : Result (List ℕ)). Filled x n (n + 1) users (set users n u)) (sym shows)
+          subst (λ (x : Result (List ℕ)). UsersFilled x n (n + 1) users (set users n u)) (sym shows)
               (record { values = ap (λ (v : ℕ). set users n v) p; moved = refl }),
           subst (λ (v : ℕ). AllMapped (left .globalFromUser) (left .counts .user) v) (sym e) (after-mapped u left p (k .table)),
         ),

@@ -71,7 +71,8 @@ module _ (t : Table) (g : ℕ) (mode : SamplingMode) (room : ℕ) where
         unfolding setModeRefusal
         set-7 a = let e = read in rw (y, lt-leb _ _ l, lt-leb 36 (recordOf t g) (omega arith), eq-eqb (assumedOf (recordOf t g)) 1 (omega arith))
 
-        module _ (a : getD (t .records) g 0 / 18 % 2 ≡ 1 → ⊥) (m : ℕ) (e : m ≡ modeNumber mode) (n : ℕ) (q : n ≡ modeNotes (getD (t .solverFromGlobal) g 0) (getD (t .records) g 0) m) where
+        module _ (a : getD (t .records) g 0 / 18 % 2 ≡ 1 → ⊥) (m : ℕ) (e : m ≡ modeNumber mode) (n : ℕ)
+            (q : n ≡ modeNotes (getD (t .solverFromGlobal) g 0) (getD (t .records) g 0) m) where
           unassumed : eqb (assumedOf (recordOf t g)) 1 ≡ false
           unassumed = let x = read in ne-eqb (assumedOf (recordOf t g)) 1 (λ z. a (omega arith))
 
@@ -117,7 +118,8 @@ module _ (t : Table) (g : ℕ) (mode : SamplingMode) (room n : ℕ) (e : n ≡ s
       → Does (noting (λ us. us) (setMode g m t)) said left words words2 → Does (setModeOf t g mode room) said left words words2
   unfolding setModeOf
   set-does m said left words words2 q k =
-      call-accepted (setModeRefusal t g mode room) n t _ said left words words2 e z (subst (λ (i : ℕ). Does (noting (λ us. us) (setMode g i t)) said left words words2) q k)
+      call-accepted (setModeRefusal t g mode room) n t _ said left words words2 e z
+      (subst (λ (i : ℕ). Does (noting (λ us. us) (setMode g i t)) said left words words2) q k)
 
 -- ---- by the old mode and the new one
 
@@ -131,7 +133,8 @@ module _ (t : Table) (g m room : ℕ) (h : Sets t g m room) where
   old-mode = ap modeOf (record-read t g (there-live t g (h .there) .words))
 
   -- notes fit
-  pub set-fits : (x : Result (List ℕ)) → setMode g m t ≡ x → (next : ℕ) (left : Table) (words words2 : List ℕ) → Leaves x 0 next left words words2 → next / 3 < 2 ^ 32
+  pub set-fits : (x : Result (List ℕ)) → setMode g m t ≡ x → (next : ℕ) (left : Table) (words words2 : List ℕ) → Leaves x 0 next left words words2
+      → next / 3 < 2 ^ 32
   set-fits x e next left words words2 k =
       let b = ap (λ (r : Result (List ℕ)). length (r .notes)) e in
       let d = mode-notes t g (h .there) m in
@@ -142,24 +145,26 @@ module _ (t : Table) (g m room : ℕ) (h : Sets t g m room) where
   room-of x e = subst (λ (r : Result (List ℕ)). Room r 0 room) e (let w = h .words in record { words = omega arith })
 
   -- what is left, where no user is answered, and where one is
-  plain-does : (x : Result (List ℕ)) → setMode g m t ≡ x → x .value ≡ [] → (next : ℕ) (d : Counts) (left : Table) (words words2 : List ℕ) → Leaves x 0 next left words words2
+  plain-does : (x : Result (List ℕ)) → setMode g m t ≡ x → x .value ≡ [] → (next : ℕ) (d : Counts) (left : Table) (words words2 : List ℕ)
+      → Leaves x 0 next left words words2
       → Does (noting (λ us. us) (setMode g m t)) (modeSet (Done d (next / 3)) d) left words words2
   plain-does x e v next d left words words2 k =
       subst (λ (r : Result (List ℕ)). Does (noting (λ us. us) r) (modeSet (Done d (next / 3)) d) left words words2) (sym e)
       (call-noted (λ us. us) [] x next d left words words2 k (sym v))
 
-  pub same-does : modeOf (getD (t .records) g 0) ≡ m → (words : List ℕ) → Does (noting (λ us. us) (setMode g m t)) (modeSet (Done (t .counts) 0) (t .counts)) t words words
+  pub same-does : modeOf (getD (t .records) g 0) ≡ m → (words : List ℕ)
+      → Does (noting (λ us. us) (setMode g m t)) (modeSet (Done (t .counts) 0) (t .counts)) t words words
   unfolding setMode
   same-does e words = plain-does (stay [] t) (choose-then _ _ _ (eq-eqb _ _ (sym old-mode ∙ e))) refl 0 (t .counts) t words words (leaves-stay t 0 words)
 
   module _ (n : modeOf (getD (t .records) g 0) ≡ m → ⊥) where
-    other : eqb (modeOf (recordOf t g)) m ≡ false
-    other = ne-eqb _ _ (λ z. n (old-mode ∙ z))
+    other-mode : eqb (modeOf (recordOf t g)) m ≡ false
+    other-mode = ne-eqb _ _ (λ z. n (old-mode ∙ z))
 
     module _ (e : m ≡ 2) where
       pub hide-is : setMode g m t ≡ hide g t
       unfolding setMode
-      hide-is = choose-else _ _ _ other ∙ choose-then _ _ _ (eq-eqb _ _ e)
+      hide-is = choose-else _ _ _ other-mode ∙ choose-then _ _ _ (eq-eqb _ _ e)
 
       pub hide-asks : Hides t g × Room (hide g t) 0 room
       hide-asks = (record { there = h .there; shown = λ z. n (old-mode ∙ z ∙ sym e) }, room-of (hide g t) hide-is)
@@ -172,7 +177,7 @@ module _ (t : Table) (g m room : ℕ) (h : Sets t g m room) where
       module _ (e : modeOf (getD (t .records) g 0) ≡ 2) where
         pub show-is : setMode g m t ≡ show g m t
         unfolding setMode
-        show-is = choose-else _ _ _ other ∙ choose-else _ _ _ (ne-eqb _ _ k) ∙ choose-then _ _ _ (eq-eqb _ _ (sym old-mode ∙ e))
+        show-is = choose-else _ _ _ other-mode ∙ choose-else _ _ _ (ne-eqb _ _ k) ∙ choose-then _ _ _ (eq-eqb _ _ (sym old-mode ∙ e))
 
         pub show-asks : ShowAsks (t .counts) (t .globalFromUser) (t .userFromGlobal) (t .records) g m 0 0 room
         unfolding show
@@ -184,7 +189,8 @@ module _ (t : Table) (g m room : ℕ) (h : Sets t g m room) where
               words = omega arith;
             }
 
-        pub show-does : (next : ℕ) (u : User) (d : Counts) (left : Table) (words words2 : List ℕ) → Leaves (show g m t) 0 next left words words2 → u .0 ≡ leastFree (t .globalFromUser) (t .counts .user)
+        pub show-does : (next : ℕ) (u : User) (d : Counts) (left : Table) (words words2 : List ℕ) → Leaves (show g m t) 0 next left words words2
+            → u .0 ≡ leastFree (t .globalFromUser) (t .counts .user)
             → Does (noting (λ us. us) (setMode g m t)) (modeSet (Shown u d (next / 3)) d) left words words2
         unfolding show nextUser
         show-does next u d left words words2 w q =
@@ -194,7 +200,7 @@ module _ (t : Table) (g m room : ℕ) (h : Sets t g m room) where
       module _ (e : modeOf (getD (t .records) g 0) ≡ 2 → ⊥) where
         pub change-is : setMode g m t ≡ change g m t
         unfolding setMode
-        change-is = choose-else _ _ _ other ∙ choose-else _ _ _ (ne-eqb _ _ k) ∙ choose-else _ _ _ (ne-eqb _ _ (λ z. e (old-mode ∙ z)))
+        change-is = choose-else _ _ _ other-mode ∙ choose-else _ _ _ (ne-eqb _ _ k) ∙ choose-else _ _ _ (ne-eqb _ _ (λ z. e (old-mode ∙ z)))
 
         pub change-asks : (g < length (t .records)) × ((getD (t .records) g 0 < 36) × ((m < 3) × (3 ≤ room)))
         unfolding change
@@ -205,9 +211,11 @@ module _ (t : Table) (g m room : ℕ) (h : Sets t g m room) where
             let u = l .undeleted in
             (l .words, (omega arith, (h .mode, omega arith)))
 
-        pub change-does : (records words words2 : List ℕ) → records ≡ set (t .records) g (withMode (getD (t .records) g 0) m) → words2 ≡ sets words 0 (3 ∷ g ∷ pick (eqb m 0) 1 0 ∷ [])
+        pub change-does : (records words words2 : List ℕ) → records ≡ set (t .records) g (withMode (getD (t .records) g 0) m)
+            → words2 ≡ sets words 0 (3 ∷ g ∷ pick (eqb m 0) 1 0 ∷ [])
             → Does (noting (λ us. us) (setMode g m t)) (modeSet (Done (t .counts) 1) (t .counts))
             (tableOf (t .counts) (t .globalFromUser) (t .userFromGlobal) (t .solverFromGlobal) (t .globalFromSolver) (t .assignment) records) words words2
         unfolding change
         change-does records words words2 p q =
-            plain-does (change g m t) change-is refl 3 (t .counts) _ words words2 (change-leaves t g m records words words2 (there-live t g (h .there) .words) p q)
+            plain-does (change g m t) change-is refl 3 (t .counts) _ words words2
+            (change-leaves t g m records words words2 (there-live t g (h .there) .words) p q)

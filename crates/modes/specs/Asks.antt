@@ -45,7 +45,7 @@ pub record Sets (t : Table) (g m room : ℕ) : Type 0 where
 -- ---- Observe
 
 -- The values of x stand from the place n on, words elsewhere are as they were, and the next place is past them.
-pub record Filled (x : Result (List ℕ)) (n next : ℕ) (words words' : List ℕ) : Type 0 where
+pub record UsersFilled (x : Result (List ℕ)) (n next : ℕ) (words words' : List ℕ) : Type 0 where
   pub values : words' ≡ sets words n (x .value)
   pub moved : next ≡ n + length (x .value)
 

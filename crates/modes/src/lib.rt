@@ -25,7 +25,7 @@ ghost use Rattle.scope.specs.Modes.{modeNumber, show, hide, setMode, setModeRef
 ghost use Rattle.changes.specs.Cursor.{AllMapped};
 ghost use Rattle.changes.specs.Leaves.{Leaves, Room};
 ghost use Rattle.changes.specs.Solvers.{Solvers, tableWith};
-ghost use Rattle.modes.specs.Asks.{ShowAsks, Hides, Sets, Filled, Observes, ObservesAll};
+ghost use Rattle.modes.specs.Asks.{ShowAsks, Hides, Sets, UsersFilled, Observes, ObservesAll};
 ghost use Rattle.modes.specs.Counting.{modeNotes};
 ghost use Rattle.modes.specs.Answers.{modeSet, observed};
 
@@ -335,7 +335,7 @@ fn observe_refusal(
 }
 
 // After a global was observed: the counts, the cursor below which every user index is mapped, how many users were filled, and the place after the notes.
-pub struct Seen {
+pub struct ObservedTo {
     pub counts: Counts,
     pub from: u32,
     pub filled: usize,
@@ -357,16 +357,16 @@ fn observe_one(
     at: usize,
     users: &mut [u32],
     notes: &mut [u32],
-) -> Seen
+) -> ObservedTo
     requires { ⌜ Observes (given c gu ug sg gs assignment records) (global .0) from filled (length (now users)) ⌝ }
     requires { ⌜ Room (observeOne (global .0) (given c gu ug sg gs assignment records)) at (length (now notes)) ⌝ }
     ensures { λ r. ⌜ Leaves (observeOne (global .0) (before c gu ug sg gs assignment records)) at (r .at)
         (after (r .counts) gu ug sg gs assignment records) (old notes) (new notes) ⌝ }
-    ensures { λ r. ⌜ Filled (observeOne (global .0) (before c gu ug sg gs assignment records)) filled (r .filled) (old users) (new users) ⌝ }
+    ensures { λ r. ⌜ UsersFilled (observeOne (global .0) (before c gu ug sg gs assignment records)) filled (r .filled) (old users) (new users) ⌝ }
     ensures { λ r. ⌜ AllMapped (new gu) (r .counts .user) (r .from) ⌝ }
 {
     if !is_hidden(records[global.0 as usize]) {
-        return Seen {
+        return ObservedTo {
             counts: c,
             from,
             filled,
@@ -378,7 +378,7 @@ fn observe_one(
     let counts = p.counts;
     let user = p.user;
     users[filled] = user.0;
-    Seen {
+    ObservedTo {
         counts,
         from: user.0 + 1,
         filled: next,
@@ -397,14 +397,14 @@ fn observe_all(
     records: &mut [u32],
     users: &mut [u32],
     notes: &mut [u32],
-) -> Seen
+) -> ObservedTo
     requires { ⌜ ObservesAll (given c gu ug sg gs assignment records) (length (now users)) (length (now notes)) ⌝ }
     ensures { λ r. ⌜ Leaves (observe (before c gu ug sg gs assignment records)) 0 (r .at)
         (after (r .counts) gu ug sg gs assignment records) (old notes) (new notes) ⌝ }
-    ensures { λ r. ⌜ Filled (observe (before c gu ug sg gs assignment records)) 0 (r .filled) (old users) (new users) ⌝ }
+    ensures { λ r. ⌜ UsersFilled (observe (before c gu ug sg gs assignment records)) 0 (r .filled) (old users) (new users) ⌝ }
 {
     let last = c.global;
-    let mut k = Seen {
+    let mut k = ObservedTo {
         counts: c,
         from: 0,
         filled: 0,

@@ -28,7 +28,7 @@ use Rattle.naming.specs.declared.UserMapped.{UserMapped}
 use Rattle.naming.specs.declared.UserMapped.the-variants as Map
 use Rattle.naming.specs.declared.NewUser.{NewUser}
 use Rattle.naming.specs.declared.NewUser.the-variants as New
-use Rattle.naming.specs.Parts.{alive, isUnsampled, Inside}
+use Rattle.naming.specs.Parts.{alive, isUnsampled, MapBelow}
 use Rattle.naming.specs.Asks.{MapAsks}
 use Rattle.naming.specs.Answers.{userMapped, newUserMapped}
 
@@ -46,7 +46,7 @@ unsampled-is : (t : Table) (u : ℕ) → isUnsampled (t .globalFromUser) (t .rec
 unfolding isUnsampled unsampled
 unsampled-is t u = refl
 
-pub all-inside : (t : Table) → soundb t ≡ true → Inside (t .globalFromUser) (length (t .records))
+pub all-inside : (t : Table) → soundb t ≡ true → MapBelow (t .globalFromUser) (length (t .records))
 all-inside t y = record { at = λ i. go i (getD (t .globalFromUser) i 0) refl }
   where
     go : (i w : ℕ) → getD (t .globalFromUser) i 0 ≡ w → getD (t .globalFromUser) i 0 ≤ length (t .records)
@@ -128,7 +128,8 @@ module _ (t : Table) (u : ℕ) (sampling : Bool) (room : ℕ) where
         map-5 h =
             let a = k .used-is in
             let c = k .n-is in
-            let f : ltb (t .counts .capacity) (undeleted t + toMap t u) ≡ true = lt-ltb _ _ (let x : t .counts .capacity < undeleted t + toMap t u = omega arith in x) in
+            let f : ltb (t .counts .capacity) (undeleted t + toMap t u) ≡ true =
+            lt-ltb _ _ (let x : t .counts .capacity < undeleted t + toMap t u = omega arith in x) in
             rw (y, lt-leb (t .counts .capacity) u l, sampled, f)
 
         module _ (h : used + n ≤ t .counts .capacity) where

@@ -62,14 +62,16 @@ gap-room t u at room i h l m =
     record { sound = p; within = omega arith; room = omega arith })
     (split u (t .counts .user))
 
-gap-fills : (t : Table) (u at room i next : ℕ) (s : Table) (words words' : List ℕ) → MapAsks t u at room → Gap t u at i next s words words' → Filled t (i - t .counts .user) s
+gap-fills : (t : Table) (u at room i next : ℕ) (s : Table) (words words' : List ℕ) → MapAsks t u at room → Gap t u at i next s words words'
+    → Filled t (i - t .counts .user) s
 gap-fills t u at room i next s words words' h g =
     subst (λ (x : Table). Filled t (i - t .counts .user) x) (sym (g .done .table))
     (fill-gap-filled t (i - t .counts .user) (gap-room t u at room i h (g .low) (g .high)))
 
 -- ---- the slices keep their lengths
 
-pub gap-sizes : (t : Table) (u at i next : ℕ) (s : Table) (words words' : List ℕ) → MapAsks t u at (length words) → Gap t u at i next s words words' → SameSizes t s words words'
+pub gap-sizes : (t : Table) (u at i next : ℕ) (s : Table) (words words' : List ℕ) → MapAsks t u at (length words) → Gap t u at i next s words words'
+    → SameSizes t s words words'
 gap-sizes t u at i next s words words' h g =
     let f = gap-fills t u at _ i next s words words' h g in
     let c = f .same .capacity in
@@ -129,7 +131,8 @@ unfolding globalFor freeFor free
 own-free t u = refl
 
 -- at the end of the gap
-gap-end : (t : Table) (u at i next : ℕ) (s : Table) (words words' : List ℕ) → Gap t u at i next s words words' → u ≤ i → i - t .counts .user ≡ u - t .counts .user
+gap-end : (t : Table) (u at i next : ℕ) (s : Table) (words words' : List ℕ) → Gap t u at i next s words words' → u ≤ i
+    → i - t .counts .user ≡ u - t .counts .user
 gap-end t u at i next s words words' g l = let a = g .low in let b = g .high in omega arith
 
 -- the user has a global: it had it before, and there was no gap
@@ -180,13 +183,15 @@ OneLeft s u at c global from next gu ug rc notes noted =
     × ((rc ≡ set (s .records) g 9)
     × (noted ≡ sets notes at (0 ∷ g ∷ (u + 1) ∷ []))))))))
 
-one-leaves : (s : Table) (u at : ℕ) (c : Counts) (g : Global) (from next : ℕ) (gu ug rc notes noted : List ℕ) → OneLeft s u at c g from next gu ug rc notes noted
+one-leaves : (s : Table) (u at : ℕ) (c : Counts) (g : Global) (from next : ℕ) (gu ug rc notes noted : List ℕ)
+    → OneLeft s u at c g from next gu ug rc notes noted
     → (g .0 ≡ mapOne u s .value) × Leaves (mapOne u s) at next (tableOf c gu ug (s .solverFromGlobal) (s .globalFromSolver) (s .assignment) rc) notes noted
 unfolding mapOne giveUser notesWords globalFor freeFor free
 one-leaves s u at c g from next gu ug rc notes noted o = (
   o .0,
   record {
-    table = λ i. tableOf (o .1 .0 i) (o .1 .1 .1 .1 .0 i) (o .1 .1 .1 .1 .1 .0 i) (s .solverFromGlobal) (s .globalFromSolver) (s .assignment) (o .1 .1 .1 .1 .1 .1 .0 i);
+    table = λ i. tableOf (o .1 .0 i) (o .1 .1 .1 .1 .0 i) (o .1 .1 .1 .1 .1 .0 i) (s .solverFromGlobal) (s .globalFromSolver) (s .assignment)
+        (o .1 .1 .1 .1 .1 .1 .0 i);
     noted = o .1 .1 .1 .1 .1 .1 .1;
     moved = let x = o .1 .1 .1 .0 in omega arith;
   },
@@ -200,10 +205,11 @@ gap-new t u at i next s words words' h p e = ⊎-elim
     (λ (k : t .counts .user ≤ u). unmapped t u (h .sound) k)
     (split u (t .counts .user))
 
-module _ (t : Table) (u at i next : ℕ) (s : Table) (words words' : List ℕ) (h : MapAsks t u at (length words)) (p : Gap t u at i next s words words') (l : u ≤ i)
+module _ (t : Table) (u at i next : ℕ) (s : Table) (words words' : List ℕ) (h : MapAsks t u at (length words)) (p : Gap t u at i next s words words')
+    (l : u ≤ i)
     (e : getD (s .globalFromUser) u 0 ≡ 0) where
-  gap-mappable : Mappable s u
-  gap-mappable =
+  last-mappable : Mappable s u
+  last-mappable =
       let f = gap-fills t u at _ i next s words words' h p in
       let a = f .user in
       let b = f .same .capacity in
@@ -217,7 +223,7 @@ module _ (t : Table) (u at i next : ℕ) (s : Table) (words words' : List ℕ) (
 
   pub last-asks : (from : ℕ) → NoneFree (free (s .records)) (s .counts .global) from → OneAsks s u from next (length words')
   last-asks from k =
-      let m = gap-mappable in
+      let m = last-mappable in
       let g = map-one-fresh s u m .within in
       let o = own-free s u in
       let z = m .sound .sizes in
@@ -232,7 +238,8 @@ module _ (t : Table) (u at i next : ℕ) (s : Table) (words words' : List ℕ) (
 
   -- what it leaves
   pub last-done : (c : Counts) (g : Global) (from next2 : ℕ) (gu ug rc words2 : List ℕ) → OneLeft s u next c g from next2 gu ug rc words' words2
-      → ((g .0 ≡ mapUser u t .value) × Leaves (mapUser u t) at next2 (tableOf c gu ug (t .solverFromGlobal) (t .globalFromSolver) (t .assignment) rc) words words2)
+      → ((g .0 ≡ mapUser u t .value) × Leaves (mapUser u t) at next2 (tableOf c gu ug (t .solverFromGlobal) (t .globalFromSolver) (t .assignment) rc) words
+      words2)
       × NoneFree (free rc) (c .global) from
   last-done c g from next2 gu ug rc words2 o =
       let d = gap-end t u at i next s words words' p l in
@@ -240,7 +247,8 @@ module _ (t : Table) (u at i next : ℕ) (s : Table) (words words' : List ℕ) (
       let a = subst (λ (n : ℕ). Leaves (fillGap n t) at next s words words') d (p .done) in
       let b = one-leaves s u next c g from next2 gu ug rc words' words2 o in
       let v = b .0 ∙ ap (λ (x : Table). mapOne u x .value) (a .table) in
-      let m = subst (λ (x : Result ℕ). (g .0 ≡ x .value) × Leaves x at next2 (tableOf c gu ug (s .solverFromGlobal) (s .globalFromSolver) (s .assignment) rc) words words2)
+      let m = subst (λ (x : Result ℕ). (g .0 ≡ x .value) × Leaves x at next2 (tableOf c gu ug (s .solverFromGlobal) (s .globalFromSolver) (s .assignment) rc)
+      words words2)
       (sym (map-user-free t u (gap-new t u at i next s words words' h p e))) (v, leaves-then (mapOne u) a (b .1)) in
       let q : c .global ≡ max (s .counts .global) (freeFor (s .records) (s .counts .global) u + 1) = ap (λ (d : Counts). d .global) (o .1 .0) in
       let r = last-asks 0 (cursor-start _ _) .1 .1 .1 .1 .1 .1 .0 in (
@@ -249,7 +257,8 @@ module _ (t : Table) (u at i next : ℕ) (s : Table) (words words' : List ℕ) (
           subst (λ (x : Table). Leaves (mapUser u t) at next2 x words words2)
               (λ j. tableOf c gu ug (f .solverFromGlobal j) (f .globalFromSolver j) (f .assignment j) rc) (m .1),
         ),
-        rw (o .1 .1 .1 .1 .1 .1 .0) (taken-passed (s .records) (s .counts .global) (c .global) (freeFor (s .records) (s .counts .global) u) from r (omega arith) (o .1 .1 .0)),
+        rw (o .1 .1 .1 .1 .1 .1 .0) (taken-passed (s .records) (s .counts .global) (c .global) (freeFor (s .records) (s .counts .global) u) from r (omega arith)
+            (o .1 .1 .0)),
       )
 
   pub last-sizes : (c : Counts) (g : Global) (from next2 : ℕ) (gu ug rc words2 : List ℕ) → OneLeft s u next c g from next2 gu ug rc words' words2
@@ -273,5 +282,6 @@ up-asks t u at room h = record { solvers = solversOf t; asks = h }
 
 pub up-leaves : (t : Table) (u at g next : ℕ) (c' : Counts) (gu' ug' records' words words' : List ℕ) → MapAsks t u at (length words)
     → UpLeaves (t .counts) (t .globalFromUser) (t .userFromGlobal) (t .records) u at g next c' gu' ug' records' words words'
-    → (g ≡ mapUser u t .value) × Leaves (mapUser u t) at next (tableOf c' gu' ug' (t .solverFromGlobal) (t .globalFromSolver) (t .assignment) records') words words'
+    → (g ≡ mapUser u t .value) × Leaves (mapUser u t) at next (tableOf c' gu' ug' (t .solverFromGlobal) (t .globalFromSolver) (t .assignment) records') words
+    words'
 up-leaves t u at g next c' gu' ug' records' words words' h l = l .with (solversOf t) h

@@ -25,5 +25,5 @@ unfoldable pub isUnsampled : List ℕ → List ℕ → ℕ → Bool
 isUnsampled gu records u = word false (λ g. not (eqb (modeOf (getD records g 47)) 0)) (getD gu u 0)
 
 -- every global of the map is below n
-pub record Inside (gu : List ℕ) (n : ℕ) : Type 0 where
+pub record MapBelow (gu : List ℕ) (n : ℕ) : Type 0 where
   pub at : (i : ℕ) → getD gu i 0 ≤ n

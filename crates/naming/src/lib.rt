@@ -19,7 +19,7 @@ ghost use Rattle.scope.specs.Table.{word, coverUser};
 ghost use Rattle.scope.specs.Map.{mapRefusal, mapOf, newUserRefusal, newUserOf};
 ghost use Rattle.changes.specs.Cursor.{NoneFree};
 ghost use Rattle.naming.specs.Answers.{userMapped, newUserMapped};
-ghost use Rattle.naming.specs.Parts.{free, alive, freeFor, isUnsampled, Inside};
+ghost use Rattle.naming.specs.Parts.{free, alive, freeFor, isUnsampled, MapBelow};
 ghost use Rattle.naming.specs.Asks.{UpAsks, UpLeaves};
 
 // A global and the cursor of free globals after its search.
@@ -189,7 +189,7 @@ pub fn count_undeleted(records: &[u32]) -> u32
 
 // The user has a global, and that is not Sample.
 pub fn is_unsampled(gu: &[u32], records: &[u32], user: User) -> bool
-    requires { ⌜ Inside (now gu) (length (now records)) ⌝ }
+    requires { ⌜ MapBelow (now gu) (length (now records)) ⌝ }
     ensures { λ r. ⌜ r ≡ isUnsampled (old gu) (old records) (user .0) ⌝ }
 {
     let FoundGlobal::At(g) = global_of(gu, user) else {

@@ -51,7 +51,8 @@ turn-asks t lits outs i at s words words' out out' h l d =
     subst (λ (x : Table). PlaceAsks x (indexOf (getD lits i 0)) at (length words')) (sym (d .step .table))
     (record { sound = sound-to _ (r .sound); within = r .within; enough = r .room; words = omega arith })
 
-pub turn-small : (t : Table) (lits : List ℕ) (outs i at v : ℕ) (s : Table) (words words' out out' : List ℕ) → PoseAsks t lits outs (length words) → i < length lits
+pub turn-small : (t : Table) (lits : List ℕ) (outs i at v : ℕ) (s : Table) (words words' out out' : List ℕ) → PoseAsks t lits outs (length words)
+    → i < length lits
     → LitsDone t lits i at s words words' out out' → v ≡ poseUser (indexOf (getD lits i 0)) s .value → v < 4096
 turn-small t lits outs i at v s words words' out out' h l d e =
     let p = pose-room-asked t lits outs _ h in
@@ -59,7 +60,8 @@ turn-small t lits outs i at v s words words' out out' h l d e =
     let x = place-small _ _ r in
     let c = pose-posed t lits p i (omega arith) .capacity in
     let z = sound-of t (h .sound) .sizes in
-    let q : v ≡ poseUser (indexOf (getD lits i 0)) (each i (poseStep lits) t .table) .value = e ∙ ap (λ (y : Table). poseUser (indexOf (getD lits i 0)) y .value) (d .step .table) in
+    let q : v ≡ poseUser (indexOf (getD lits i 0)) (each i (poseStep lits) t .table) .value =
+    e ∙ ap (λ (y : Table). poseUser (indexOf (getD lits i 0)) y .value) (d .step .table) in
     omega arith
 
 pub lits-more : (t : Table) (lits : List ℕ) (i at v next w : ℕ) (s s2 : Table) (words words1 words2 out out1 : List ℕ) → i < length lits
@@ -83,7 +85,8 @@ lits-more t lits i at v next w s s2 words words1 words2 out out1 l d e m q =
 
 -- ---- the end
 
-pub lits-end : (t : Table) (lits : List ℕ) (i at : ℕ) (s : Table) (words words' out out' : List ℕ) → length lits ≤ i → LitsDone t lits i at s words words' out out'
+pub lits-end : (t : Table) (lits : List ℕ) (i at : ℕ) (s : Table) (words words' out out' : List ℕ) → length lits ≤ i
+    → LitsDone t lits i at s words words' out out'
     → Leaves (pose lits t) 0 at s words words' × (out' ≡ sets out 0 (pose lits t .value))
 unfolding pose
 lits-end t lits i at s words words' out out' l d =

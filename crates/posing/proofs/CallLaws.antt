@@ -103,10 +103,12 @@ module _ (t : Table) (lits : List ℕ) (y : soundb t ≡ true) (w : Within lits 
   unfolding wanted named isLow
   wanted-is top c v = ⊎-elim
       (λ (l : v < t .counts .user).
-      rw (lt-leb (t .counts .user) v l, lt-ltb v (t .counts .user) l) (wanted-below (eqb (getD (t .globalFromUser) v 0) 0) (isNamed lits v) (isPassed lits v) (ltb v top)))
+      rw (lt-leb (t .counts .user) v l, lt-ltb v (t .counts .user) l)
+      (wanted-below (eqb (getD (t .globalFromUser) v 0) 0) (isNamed lits v) (isPassed lits v) (ltb v top)))
       (λ (l : t .counts .user ≤ v).
       rw (le-leb (t .counts .user) v l, le-ltb v (t .counts .user) l)
-      (wanted-above (eqb (getD (t .globalFromUser) v 0) 0) (isNamed lits v) (isPassed lits v) (ltb v top) (covered (t .counts .user) lits top c v l) (eq-eqb _ 0 (sound-of t y .user .atail v l))))
+      (wanted-above (eqb (getD (t .globalFromUser) v 0) 0) (isNamed lits v) (isPassed lits v) (ltb v top) (covered (t .counts .user) lits top c v l)
+      (eq-eqb _ 0 (sound-of t y .user .atail v l))))
       (split v (t .counts .user))
 
   low-apart : (top v : ℕ) → named lits v && isLow (t .globalFromUser) (t .counts .user) v ≡ true → leb (t .counts .user) v && ltb v top ≡ false
@@ -177,9 +179,11 @@ pub within-of : (lits : List ℕ) (n : ℕ) → anyOf (λ c. leb n (indexOf c)) 
 within-of lits n e = record { at = λ i l. leb-false n _ (any-none (λ c. leb n (indexOf c)) lits i 0 e l) }
 
 pub within-small : (t : Table) (lits : List ℕ) → soundb t ≡ true → anyOf (λ c. leb (t .counts .capacity) (indexOf c)) lits ≡ false → Within lits 4096
-within-small t lits y e = let z = sound-of t y .sizes in let w = within-of lits (t .counts .capacity) e in record { at = λ i l. let x = w .at i l in omega arith }
+within-small t lits y e = let z = sound-of t y .sizes in let w = within-of lits (t .counts .capacity) e in
+    record { at = λ i l. let x = w .at i l in omega arith }
 
-unsampled-are : (t : Table) (lits : List ℕ) → anyOf (λ c. isUnsampled (t .globalFromUser) (t .records) (indexOf c)) lits ≡ anyOf (λ c. unsampled t (indexOf c)) lits
+unsampled-are : (t : Table) (lits : List ℕ) → anyOf (λ c. isUnsampled (t .globalFromUser) (t .records) (indexOf c)) lits ≡ anyOf (λ c. unsampled t (indexOf c))
+    lits
 unfolding isUnsampled unsampled
 unsampled-are t lits = refl
 
@@ -201,7 +205,8 @@ module _ (t : Table) (lits : List ℕ) (sampling : Bool) (outs room : ℕ) where
           rw (y, le-ltb 8192 (length lits) l, a)
 
       module _ (a : anyOf (λ c. leb (t .counts .capacity) (indexOf c)) lits ≡ false) where
-        pub pose-4 : (b : Bool) → b ≡ sampling && anyOf (λ c. isUnsampled (t .globalFromUser) (t .records) (indexOf c)) lits → b ≡ true → 4 ≡ poseRefusal t lits sampling outs room
+        pub pose-4 : (b : Bool) → b ≡ sampling && anyOf (λ c. isUnsampled (t .globalFromUser) (t .records) (indexOf c)) lits → b ≡ true
+            → 4 ≡ poseRefusal t lits sampling outs room
         unfolding poseRefusal
         pose-4 b q e =
             let s : sampling && anyOf (λ c. unsampled t (indexOf c)) lits ≡ true = ap (λ (x : Bool). sampling && x) (sym (unsampled-are t lits)) ∙ sym q ∙ e in
@@ -217,7 +222,8 @@ module _ (t : Table) (lits : List ℕ) (sampling : Bool) (outs room : ℕ) where
           pose-5 h =
               let c = k .used-is in
               let d = k .users-is in
-              let f : ltb (t .counts .capacity) (undeleted t + usersToMap t lits) ≡ true = lt-ltb _ _ (let x : t .counts .capacity < undeleted t + usersToMap t lits = omega arith in x) in
+              let f : ltb (t .counts .capacity) (undeleted t + usersToMap t lits) ≡ true =
+              lt-ltb _ _ (let x : t .counts .capacity < undeleted t + usersToMap t lits = omega arith in x) in
               rw (y, le-ltb 8192 (length lits) l, a, sampled, f)
 
           module _ (h : used + (low + (top - t .counts .user)) ≤ t .counts .capacity) where
@@ -275,7 +281,8 @@ pose-few t lits outs room h =
     let r = h .enough in
     omega arith
 
-pub pose-refused : (t : Table) (lits : List ℕ) (sampling : Bool) (n : ℕ) (out words : List ℕ) → n ≡ poseRefusal t lits sampling (length out) (length words) → (n ≡ 0 → ⊥)
+pub pose-refused : (t : Table) (lits : List ℕ) (sampling : Bool) (n : ℕ) (out words : List ℕ) → n ≡ poseRefusal t lits sampling (length out) (length words)
+    → (n ≡ 0 → ⊥)
     → Does (poseOf t lits sampling (length out) (length words)) (posed (Refused n) (t .counts)) t words words
     × (out ≡ sets out 0 (poseOf t lits sampling (length out) (length words) .words))
 unfolding poseOf
@@ -284,7 +291,8 @@ pose-refused t lits sampling n out words q e =
     (call-refused r n t _ words q e, ap (λ (l : List ℕ). sets out 0 l) (sym (refused-words r n t _ q e)))
 
 -- an accepted one
-pub pose-done : (t : Table) (lits : List ℕ) (sampling : Bool) (n at : ℕ) (left : Table) (out out' words words' : List ℕ) → n ≡ poseRefusal t lits sampling (length out) (length words) → n ≡ 0
+pub pose-done : (t : Table) (lits : List ℕ) (sampling : Bool) (n at : ℕ) (left : Table) (out out' words words' : List ℕ)
+    → n ≡ poseRefusal t lits sampling (length out) (length words) → n ≡ 0
     → Leaves (pose lits t) 0 at left words words' × (out' ≡ sets out 0 (pose lits t .value))
     → Does (poseOf t lits sampling (length out) (length words)) (posed (Done (length lits) (left .counts) (at / 3)) (t .counts)) left words words'
     × (out' ≡ sets out 0 (poseOf t lits sampling (length out) (length words) .words))

@@ -135,7 +135,8 @@ counted-more mark gu sg lits i seen n r z w l d h =
           ∙ sym (count-named lits i (needsGrant gu sg) l k);
       seen-at = λ v b. ⊎-elim
           (λ (e : v ≡ u). rw (named-more lits i v l, e, getD-set-same seen u 1 0 (omega arith), eq-eqb u u refl) (all (named (take i lits) u)))
-          (λ (e : v ≡ u → ⊥). rw (named-more lits i v l, getD-set-other seen u v 1 0 e, ne-eqb u v (λ o. e (sym o))) (d .seen-at v b ∙ ap not (sym (or-none (named (take i lits) v)))))
+          (λ (e : v ≡ u → ⊥). rw (named-more lits i v l, getD-set-other seen u v 1 0 e, ne-eqb u v (λ o. e (sym o)))
+          (d .seen-at v b ∙ ap not (sym (or-none (named (take i lits) v)))))
           (same v u);
     }
   where
@@ -151,7 +152,8 @@ counted-end mark gu sg lits i seen n l d =
     (d .low ∙ ap (countNamed 4096 (isLow gu mark)) e, (rw (← q) (d .top), d .grants ∙ ap (countNamed 4096 (needsGrant gu sg)) e))
 
 -- what the loop keeps small
-pub counted-small : (mark : ℕ) (gu sg lits : List ℕ) (i : ℕ) (seen : List ℕ) (n : Needs) → CountedTo mark gu sg lits i seen n → (n .low ≤ 8192) × (n .grants ≤ 8192)
+pub counted-small : (mark : ℕ) (gu sg lits : List ℕ) (i : ℕ) (seen : List ℕ) (n : Needs) → CountedTo mark gu sg lits i seen n → (n .low ≤ 8192)
+    × (n .grants ≤ 8192)
 counted-small mark gu sg lits i seen n d =
     let a = d .low in
     let b = d .grants in
@@ -185,9 +187,11 @@ byte-one : (b : Bool) → boolByte b ≡ pick b 1 0
 byte-one true = refl
 byte-one false = refl
 
-pub low-is : (m : ℕ) (gu : List ℕ) (mark u w : ℕ) (fresh : Bool) → w ≡ getD gu u 0 → m + boolByte (fresh && (ltb u mark && eqb w 0)) ≡ m + pick (fresh && isLow gu mark u) 1 0
+pub low-is : (m : ℕ) (gu : List ℕ) (mark u w : ℕ) (fresh : Bool) → w ≡ getD gu u 0
+    → m + boolByte (fresh && (ltb u mark && eqb w 0)) ≡ m + pick (fresh && isLow gu mark u) 1 0
 unfolding isLow
-low-is m gu mark u w fresh e = ap (λ (k : ℕ). m + k) (byte-one (fresh && (ltb u mark && eqb w 0)) ∙ ap (λ (x : ℕ). pick (fresh && (ltb u mark && eqb x 0)) 1 0) e)
+low-is m gu mark u w fresh e = ap (λ (k : ℕ). m + k) (byte-one (fresh && (ltb u mark && eqb w 0))
+    ∙ ap (λ (x : ℕ). pick (fresh && (ltb u mark && eqb x 0)) 1 0) e)
 
 pub grants-is : (m : ℕ) (gu sg : List ℕ) (u : ℕ) (fresh : Bool) → needsGrant gu sg u ≡ true → m + boolByte fresh ≡ m + pick (fresh && needsGrant gu sg u) 1 0
 grants-is m gu sg u fresh e = rw (e, and-true fresh) (ap (λ (k : ℕ). m + k) (byte-one fresh))

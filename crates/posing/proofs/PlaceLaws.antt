@@ -27,13 +27,13 @@ map-room : (t : Table) (u at room : ℕ) → PlaceAsks t u at room → MapRoom t
 map-room t u at room h = record { sound = sound-of t (h .sound); within = h .within; room = h .enough }
 
 -- the notes of both
-both : (t : Table) (u : ℕ) → length (poseUser u t .notes) ≡ length (mapUser u t .notes) + length (grant (mapUser u t .value) (mapUser u t .table) .notes)
-both t u = length-append (mapUser u t .notes) (grant (mapUser u t .value) (mapUser u t .table) .notes)
+place-notes : (t : Table) (u : ℕ) → length (poseUser u t .notes) ≡ length (mapUser u t .notes) + length (grant (mapUser u t .value) (mapUser u t .table) .notes)
+place-notes t u = length-append (mapUser u t .notes) (grant (mapUser u t .value) (mapUser u t .table) .notes)
 
 pub place-map-asks : (t : Table) (u at room : ℕ) → PlaceAsks t u at room → MapAsks t u at room
 place-map-asks t u at room h =
     let n = map-user-mapped t u (map-room t u at room h) .count in
-    let e = both t u in
+    let e = place-notes t u in
     let w = h .words in
     record { sound = h .sound; within = h .within; enough = h .enough; words = omega arith }
 
@@ -42,7 +42,7 @@ pub place-grant-asks : (t : Table) (u at g at1 : ℕ) (t1 : Table) (words words1
 place-grant-asks t u at g at1 t1 words words1 h v m =
     let x = map-user-mapped t u (map-room t u at _ h) in
     let k = mapped-global (mapUser u t .table) u (mapUser u t .value) (x .sound) (x .has) in
-    let e = both t u in
+    let e = place-notes t u in
     let w = h .words in
     let q = m .moved in
     let n = leaves-length _ _ _ _ _ _ m in
@@ -95,10 +95,10 @@ unfolding heldWord
 held-some gu sg u g f e q = q ∙ ap foundSolver (sym (word-some 0 (λ g. getD sg g 0) _ g e))
 
 -- nothing changes
-pub held-leaves : (t : Table) (u s at : ℕ) (words : List ℕ) → heldWord (t .globalFromUser) (t .solverFromGlobal) u ≡ s + 1
+pub place-held : (t : Table) (u s at : ℕ) (words : List ℕ) → heldWord (t .globalFromUser) (t .solverFromGlobal) u ≡ s + 1
     → (s ≡ poseUser u t .value) × Leaves (poseUser u t) at at t words words
 unfolding heldWord
-held-leaves t u s at words e = go (getD (t .globalFromUser) u 0) refl
+place-held t u s at words e = go (getD (t .globalFromUser) u 0) refl
   where
     go : (w : ℕ) → getD (t .globalFromUser) u 0 ≡ w → (s ≡ poseUser u t .value) × Leaves (poseUser u t) at at t words words
     go zero q = absurd (let z = sym (word-none 0 (λ g. getD (t .solverFromGlobal) g 0) _ q) ∙ e in omega arith)

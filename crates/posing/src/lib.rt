@@ -27,7 +27,7 @@ ghost use Rattle.scope.specs.Contract.{given, before, after, lent, Meets};
 ghost use Rattle.scope.specs.Pose.{pose, poseRefusal, poseOf};
 ghost use Rattle.changes.specs.Leaves.{Leaves};
 ghost use Rattle.table.specs.Found.{foundSolver};
-ghost use Rattle.naming.specs.Parts.{isUnsampled, Inside};
+ghost use Rattle.naming.specs.Parts.{isUnsampled, MapBelow};
 ghost use Rattle.posing.specs.Answers.{posed};
 ghost use Rattle.posing.specs.Parts.{isLow, heldWord, needsGrant, countNamed, Covers, Within};
 ghost use Rattle.posing.specs.Asks.{Ahead, poseUser, PlaceAsks, PoseAsks};
@@ -191,7 +191,7 @@ fn place_all(
 
 // Sampling is required, and a literal's user has a global that is not Sample.
 fn any_unsampled(gu: &[u32], records: &[u32], lits: &[u32], sampling: bool) -> bool
-    requires { ⌜ Inside (now gu) (length (now records)) ⌝ }
+    requires { ⌜ MapBelow (now gu) (length (now records)) ⌝ }
     ensures { λ r. ⌜ r ≡ sampling && anyOf (λ c. isUnsampled (old gu) (old records) (indexOf c)) (old lits) ⌝ }
 {
     if !sampling {

@@ -21,33 +21,33 @@ use Rattle.scope.specs.Contract.{Does}
 use Rattle.scope.specs.Lookup.{found, lookupOf}
 use Rattle.scope.proofs.SoundLaws.{sound-of}
 
-pub refused-1 : (t : Table) (c : Counts) (b : Bool) (ws : List ℕ) → b ≡ soundb t → not b ≡ true
+pub lookup-1 : (t : Table) (c : Counts) (b : Bool) (ws : List ℕ) → b ≡ soundb t → not b ≡ true
     → Does (lookupOf t ws) (record { answer = refused 1 []; counts = c }) t [] []
 unfolding lookupOf unless notesWords
-refused-1 t c b ws e n =
+lookup-1 t c b ws e n =
     let k : soundb t ≡ false = no-of e n in
     record { answer = rw k; table = rw k; noted = rw k }
 
-pub told : (t : Table) (c : Counts) (b : Bool) (vs ws : List ℕ) → b ≡ soundb t → not b ≡ false → vs ≡ ws
+pub lookup-told : (t : Table) (c : Counts) (b : Bool) (vs ws : List ℕ) → b ≡ soundb t → not b ≡ false → vs ≡ ws
     → Does (lookupOf t ws) (record { answer = accepted vs; counts = c }) t [] []
 unfolding lookupOf unless notesWords
-told t c b vs ws e n q =
+lookup-told t c b vs ws e n q =
     let k : soundb t ≡ true = yes-of e n in
     record { answer = rw (k, q); table = rw k; noted = rw k }
 
 -- ---- what a map says
 
-pub beyond : (xs : List ℕ) (mark i : ℕ) → mark ≤ i → [] ≡ found xs mark i
+pub lookup-beyond : (xs : List ℕ) (mark i : ℕ) → mark ≤ i → [] ≡ found xs mark i
 unfolding found
-beyond xs mark i l = rw (le-ltb i mark l)
+lookup-beyond xs mark i l = rw (le-ltb i mark l)
 
-pub none : (xs : List ℕ) (mark i : ℕ) → i < mark → getD xs i 0 ≡ 0 → [] ≡ found xs mark i
+pub lookup-none : (xs : List ℕ) (mark i : ℕ) → i < mark → getD xs i 0 ≡ 0 → [] ≡ found xs mark i
 unfolding found word
-none xs mark i l e = rw (lt-ltb i mark l, e)
+lookup-none xs mark i l e = rw (lt-ltb i mark l, e)
 
-pub one : (xs : List ℕ) (mark i j : ℕ) → i < mark → getD xs i 0 ≡ j + 1 → j ∷ [] ≡ found xs mark i
+pub lookup-one : (xs : List ℕ) (mark i j : ℕ) → i < mark → getD xs i 0 ≡ j + 1 → j ∷ [] ≡ found xs mark i
 unfolding found word
-one xs mark i j l e = rw (lt-ltb i mark l, e, add-one)
+lookup-one xs mark i j l e = rw (lt-ltb i mark l, e, add-one)
 
 -- ---- a word below the watermark
 

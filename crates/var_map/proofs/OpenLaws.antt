@@ -56,13 +56,13 @@ refused-10 t c b e n =
     record { answer = rw k; table = rw k; noted = rw k }
 
 -- lists that have their lengths, each filled with one value, are the empty table
-filled : (n m v : ℕ) (xs : List ℕ) → xs ≡ replicate m v → m ≡ n → xs ≡ replicate n v
-filled n m v xs e q = e ∙ ap (λ (k : ℕ). replicate k v) q
+filled-with : (n m v : ℕ) (xs : List ℕ) → xs ≡ replicate m v → m ≡ n → xs ≡ replicate n v
+filled-with n m v xs e q = e ∙ ap (λ (k : ℕ). replicate k v) q
 
-lengths : (n : ℕ) (gu ug sg gs a r : List ℕ) → sizesb (tableOf (openCounts n) gu ug sg gs a r) ≡ true
+open-lengths : (n : ℕ) (gu ug sg gs a r : List ℕ) → sizesb (tableOf (openCounts n) gu ug sg gs a r) ≡ true
     → (length gu ≡ n) × (length ug ≡ n) × (length sg ≡ n) × (length gs ≡ n) × (length a ≡ n) × (length r ≡ n)
 unfolding sizesb
-lengths n gu ug sg gs a r h = let k = simp truth at h in (omega arith, omega arith, omega arith, omega arith, omega arith, omega arith)
+open-lengths n gu ug sg gs a r h = let k = simp truth at h in (omega arith, omega arith, omega arith, omega arith, omega arith, omega arith)
 
 pub opened-empty : (n : ℕ) (gu ug sg gs a r gu' ug' sg' gs' a' r' : List ℕ) (b : Bool)
     → b ≡ sizesb (tableOf (openCounts n) gu ug sg gs a r) → not b ≡ false
@@ -73,15 +73,15 @@ pub opened-empty : (n : ℕ) (gu ug sg gs a r gu' ug' sg' gs' a' r' : List ℕ) 
 unfolding openOf unless notesWords emptyTable
 opened-empty n gu ug sg gs a r gu' ug' sg' gs' a' r' b e y p1 p2 p3 p4 p5 p6 =
     let k : sizesb (tableOf (openCounts n) gu ug sg gs a r) ≡ true = yes-of e y in
-    let z = lengths n gu ug sg gs a r k in
+    let z = open-lengths n gu ug sg gs a r k in
     record {
       answer = rw k;
       table = rw k (λ i. tableOf (openCounts n)
-          (filled n (length gu) 0 gu' p1 (z .0) i)
-          (filled n (length ug) 0 ug' p2 (z .1) i)
-          (filled n (length sg) 0 sg' p3 (z .2) i)
-          (filled n (length gs) 0 gs' p4 (z .3) i)
-          (filled n (length a) 0 a' p5 (z .4) i)
-          (filled n (length r) 47 r' p6 (z .5) i));
+          (filled-with n (length gu) 0 gu' p1 (z .0) i)
+          (filled-with n (length ug) 0 ug' p2 (z .1) i)
+          (filled-with n (length sg) 0 sg' p3 (z .2) i)
+          (filled-with n (length gs) 0 gs' p4 (z .3) i)
+          (filled-with n (length a) 0 a' p5 (z .4) i)
+          (filled-with n (length r) 47 r' p6 (z .5) i));
       noted = rw k;
     }

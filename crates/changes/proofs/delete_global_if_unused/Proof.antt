@@ -40,13 +40,15 @@ slice-write-records c = search needs
 
 put-note-requires : tie.Need-put-note-requires
 put-note-requires c κs =
+    let entry = c .before .before .before .before .before .before .before .before .before .before in
     let k = simp truth at (c .before .if1 .taken) in
-    (delete-room _ _ _ _ (c .before .before .before .before .before .before .before .before .before .before .pre .0) _ [] [] [] (simp truth (omega arith)) _ _ (c .before .before .before .before .before .before .before .before .before .before .pre .1 [] [] []), omega arith)
+    (delete-room _ _ _ _ (entry .pre .0) _ [] [] [] (simp truth (omega arith)) _ _ (entry .pre .1 [] [] []), omega arith)
 
 add-t25 : tie.Need-add-t25
 add-t25 c =
+    let entry = c .before .before .before .before .before .before .before .before .before .before .before .before .before in
     let k = simp truth at (c .before .before .before .before .if1 .taken) in
-    let r = delete-room _ _ _ _ (c .before .before .before .before .before .before .before .before .before .before .before .before .before .pre .0) _ [] [] [] (simp truth (omega arith)) _ _ (c .before .before .before .before .before .before .before .before .before .before .before .before .before .pre .1 [] [] []) in
+    let r = delete-room _ _ _ _ (entry .pre .0) _ [] [] [] (simp truth (omega arith)) _ _ (entry .pre .1 [] [] []) in
     search needs
 
 same-length : tie.Need-same-length
@@ -57,11 +59,13 @@ same-length-2 c = search needs
 
 returns : tie.Need-returns
 returns c =
+    let entry = c .before .before .before .before .before .before .before .before .before .before .before .before .before in
     let k = simp truth at (c .before .before .before .before .if1 .taken) in
-    λ gu gs a. delete-leaves _ _ _ _ (c .before .before .before .before .before .before .before .before .before .before .before .before .before .pre .0) _ gu gs a (simp truth (omega arith)) _ _ _ _ refl (c .before .before .put-note .ensures)
+    λ gu gs a. delete-leaves _ _ _ _ (entry .pre .0) _ gu gs a (simp truth (omega arith)) _ _ _ _ refl (c .before .before .put-note .ensures)
 
 returns-2 : tie.Need-returns-2
-returns-2 c = λ gu gs a. keep-leaves _ _ _ _ (c .before .before .before .before .before .before .before .before .before .pre .0) _ gu gs a (false-of _ _ (λ h. let k = simp truth at h in simp truth (omega arith)) (c .if1 .left)) _ _
+returns-2 c = λ gu gs a. keep-leaves _ _ _ _ (c .before .before .before .before .before .before .before .before .before .pre .0) _ gu gs a
+    (false-of _ _ (λ h. let k = simp truth at h in simp truth (omega arith)) (c .if1 .left)) _ _
 
 pub delete-global-if-unused-spec : {M : Type 1} → statement M
 delete-global-if-unused-spec =

@@ -37,7 +37,27 @@ same-length-4 : tie.Need-same-length-4
 same-length-4 c = search needs
 
 returns : tie.Need-returns
-returns c = rw (← (c .before .before .before .before .before .before .before .before .before .before .before .least-free .ensures)) (refl, (c .before .before .before .before .grant .ensures .0, (refl, (refl, (c .before .before .before .before .grant .ensures .1 .0, (c .before .before .before .before .grant .ensures .1 .1, (refl, c .before .before .before .before .before .before .before .before .before .put-note .ensures)))))))
+returns c =
+    let at-least-free = c .before .before .before .before .before .before .before .before .before .before .before in
+    rw (← (at-least-free .least-free .ensures)) (
+      refl,
+      (
+        c .before .before .before .before .grant .ensures .0,
+        (
+          refl,
+          (
+            refl,
+            (
+              c .before .before .before .before .grant .ensures .1 .0,
+              (
+                c .before .before .before .before .grant .ensures .1 .1,
+                (refl, c .before .before .before .before .before .before .before .before .before .put-note .ensures),
+              ),
+            ),
+          ),
+        ),
+      ),
+    )
 
 pub grant-next-spec : {M : Type 1} → statement M
 grant-next-spec =

@@ -21,24 +21,34 @@ mul-if3 : tie.Need-mul-if3
 mul-if3 c = search needs
 
 shared-slice-read-if3 : tie.Need-shared-slice-read-if3
-shared-slice-read-if3 c = below-records _ _ 0 (yes-of (c .before .before .before .before .before .before .is-sound .ensures) (c .before .before .before .before .before .if1 .left)) (c .before .before .if2 .left)
+shared-slice-read-if3 c =
+    below-records _ _ 0 (yes-of (c .before .before .before .before .before .before .is-sound .ensures) (c .before .before .before .before .before .if1 .left))
+    (c .before .before .if2 .left)
 
 returns-3 : tie.Need-returns-3
 returns-3 c =
-    let e = grant-6 _ _ (c .before .before .before .before .before .before .before .before .before .before .before .before .before .before .args .room) (yes-of (c .before .before .before .before .before .before .before .is-sound .ensures) (c .before .before .before .before .before .before .if1 .left)) (c .before .before .before .if2 .left) (c .if3 .taken) in
+    let entry = c .before .before .before .before .before .before .before .before .before .before .before .before .before .before in
+    let e = grant-6 _ _ (entry .args .room) (yes-of (c .before .before .before .before .before .before .before .is-sound .ensures)
+    (c .before .before .before .before .before .before .if1 .left)) (c .before .before .before .if2 .left) (c .if3 .taken) in
     omega (arith, e)
 
 mul-if4 : tie.Need-mul-if4
 mul-if4 c = search needs
 
 shared-slice-read-if4 : tie.Need-shared-slice-read-if4
-shared-slice-read-if4 c = below-solvers _ _ 0 (yes-of (c .before .before .before .before .before .before .before .before .is-sound .ensures) (c .before .before .before .before .before .before .before .if1 .left)) (c .before .before .before .before .if2 .left)
+shared-slice-read-if4 c =
+    below-solvers _ _ 0 (yes-of (c .before .before .before .before .before .before .before .before .is-sound .ensures)
+    (c .before .before .before .before .before .before .before .if1 .left)) (c .before .before .before .before .if2 .left)
 
 returns-4 : tie.Need-returns-4
-returns-4 c = grant-2 _ _ _ (yes-of (c .before .before .before .before .before .before .before .before .before .is-sound .ensures) (c .before .before .before .before .before .before .before .before .if1 .left)) (c .before .before .before .before .before .if2 .left) (c .before .before .if3 .left) (c .if4 .taken)
+returns-4 c = grant-2 _ _ _ (yes-of (c .before .before .before .before .before .before .before .before .before .is-sound .ensures)
+    (c .before .before .before .before .before .before .before .before .if1 .left)) (c .before .before .before .before .before .if2 .left)
+    (c .before .before .if3 .left) (c .if4 .taken)
 
 returns-5 : tie.Need-returns-5
-returns-5 c = grant-0 _ _ _ (yes-of (c .before .before .before .before .before .before .before .before .before .is-sound .ensures) (c .before .before .before .before .before .before .before .before .if1 .left)) (c .before .before .before .before .before .if2 .left) (c .before .before .if3 .left) (c .if4 .left)
+returns-5 c = grant-0 _ _ _ (yes-of (c .before .before .before .before .before .before .before .before .before .is-sound .ensures)
+    (c .before .before .before .before .before .before .before .before .if1 .left)) (c .before .before .before .before .before .if2 .left)
+    (c .before .before .if3 .left) (c .if4 .left)
 
 pub grant-refusal-spec : {M : Type 1} → statement M
 grant-refusal-spec =

@@ -22,10 +22,20 @@ returns : tie.Need-returns
 returns c = grant-refused _ _ _ _ (c .before .grant-refusal .ensures) (c .if1 .taken)
 
 grant-index-requires : tie.Need-grant-index-requires
-grant-index-requires c κs = (record { gu = _; ug = _; asks = grant-asks _ _ _ _ (c .before .before .before .before .before .grant-refusal .ensures) (c .before .before .before .before .if1 .left) }, cursor-start _ _)
+grant-index-requires c κs = (
+  record {
+    gu = _;
+    ug = _;
+    asks = grant-asks _ _ _ _ (c .before .before .before .before .before .grant-refusal .ensures)
+        (c .before .before .before .before .if1 .left);
+  },
+  cursor-start _ _,
+)
 
 cast-t30 : tie.Need-cast-t30
-cast-t30 c = record { fits = notes-fit ((c .before .before .before .before .before .before .before .before .before .before .before .grant-index .ensures .1 .0) [] []) (grant-few _ _) }
+cast-t30 c =
+    let at-grant-index = c .before .before .before .before .before .before .before .before .before .before .before in
+    record { fits = notes-fit ((at-grant-index .grant-index .ensures .1 .0) [] []) (grant-few _ _) }
 
 same-length-4 : tie.Need-same-length-4
 same-length-4 c = search needs
@@ -40,7 +50,12 @@ same-length-7 : tie.Need-same-length-7
 same-length-7 c = search needs
 
 returns-2 : tie.Need-returns-2
-returns-2 c = grant-done _ _ _ _ _ _ _ _ (c .before .before .before .before .before .before .before .before .before .before .before .before .before .before .before .before .before .grant-refusal .ensures) (c .before .before .before .before .before .before .before .before .before .before .before .before .before .before .before .before .if1 .left) ((c .before .before .before .before .before .before .before .before .before .before .before .grant-index .ensures .0) _ _) ((c .before .before .before .before .before .before .before .before .before .before .before .grant-index .ensures .1 .0) _ _)
+returns-2 c =
+    let at-grant-index = c .before .before .before .before .before .before .before .before .before .before .before in
+    let at-if1 = at-grant-index .before .before .before .before .before in
+    let at-grant-refusal = at-if1 .before in
+    grant-done _ _ _ _ _ _ _ _ (at-grant-refusal .grant-refusal .ensures) (at-if1 .if1 .left) ((at-grant-index .grant-index .ensures .0) _ _)
+    ((at-grant-index .grant-index .ensures .1 .0) _ _)
 
 pub solver-from-global-spec : {M : Type 1} → statement M
 solver-from-global-spec =

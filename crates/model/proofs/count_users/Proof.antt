@@ -32,7 +32,12 @@ loop-less : tie.Need-loop-less Inv-loop μ-loop
 loop-less c = omega arith
 
 loop-again : tie.Need-loop-again Inv-loop μ-loop
-loop-again c = (omega arith, ⊎-elim (λ w. w .1 ∙ users-count-some _ _ _ _ (c .before .user-value .ensures .0) (w .0 .taken) (c .before .before .before .before .loop .inv .1)) (λ w. w .1 ∙ users-count-none _ _ _ _ (c .before .user-value .ensures .0) (w .0 .left) (c .before .before .before .before .loop .inv .1)) (c .if2 .came))
+loop-again c = (
+  omega arith,
+  ⊎-elim (λ w. w .1 ∙ users-count-some _ _ _ _ (c .before .user-value .ensures .0) (w .0 .taken)
+      (c .before .before .before .before .loop .inv .1)) (λ w. w .1
+      ∙ users-count-none _ _ _ _ (c .before .user-value .ensures .0) (w .0 .left) (c .before .before .before .before .loop .inv .1)) (c .if2 .came),
+)
 
 returns : tie.Need-returns Inv-loop μ-loop
 returns c = users-count-end _ _ _ (c .before .before .loop .inv .1) (omega arith) (omega arith)

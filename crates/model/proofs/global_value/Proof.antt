@@ -35,7 +35,10 @@ shared-slice-read-result : tie.Need-shared-slice-read-result
 shared-slice-read-result c = (c .before .before .before .before .before .before .pre .held) (c .before .if2 .taken)
 
 returns-2 : tie.Need-returns-2
-returns-2 c = (value-held _ _ _ _ (c .before .before .before .before .before .before .pre) (omega arith) (c .before .if2 .taken), (c .before .before .before .before .before .before .pre .small) _)
+returns-2 c = (
+  value-held _ _ _ _ (c .before .before .before .before .before .before .pre) (omega arith) (c .before .if2 .taken),
+  (c .before .before .before .before .before .before .pre .small) _,
+)
 
 returns-3 : tie.Need-returns-3
 returns-3 c =

@@ -13,7 +13,8 @@ reconstruct-global-model-requires : tie.Need-reconstruct-global-model-requires
 reconstruct-global-model-requires c κs = globals-asks _ _ _ _ (c .before .before .model-refusal .ensures) (c .before .if1 .left)
 
 fill-users-requires : tie.Need-fill-users-requires
-fill-users-requires c κs = users-asks _ _ _ _ (c .before .before .before .before .before .before .model-refusal .ensures) (c .before .before .before .before .before .if1 .left)
+fill-users-requires c κs = users-asks _ _ _ _ (c .before .before .before .before .before .before .model-refusal .ensures)
+    (c .before .before .before .before .before .if1 .left)
 
 same-length : tie.Need-same-length
 same-length c = search needs
@@ -22,7 +23,10 @@ same-length-2 : tie.Need-same-length-2
 same-length-2 c = search needs
 
 returns-2 : tie.Need-returns-2
-returns-2 c = let z = model-told-done _ _ _ _ _ _ _ (c .before .before .before .before .before .before .before .before .before .model-refusal .ensures) (c .before .before .before .before .before .before .before .before .if1 .left) (c .before .before .before .before .before .before .reconstruct-global-model .ensures) (c .before .before .fill-users .ensures .0) (c .before .before .fill-users .ensures .1) in (z .does, (z .globals, z .users))
+returns-2 c = let z = model-told-done _ _ _ _ _ _ _ (c .before .before .before .before .before .before .before .before .before .model-refusal .ensures)
+    (c .before .before .before .before .before .before .before .before .if1 .left)
+    (c .before .before .before .before .before .before .reconstruct-global-model .ensures) (c .before .before .fill-users .ensures .0)
+    (c .before .before .fill-users .ensures .1) in (z .does, (z .globals, z .users))
 
 pub model-spec : {M : Type 1} → statement M
 model-spec =

@@ -25,10 +25,12 @@ cast-if3 : tie.Need-cast-if3
 cast-if3 c = search needs
 
 returns-3 : tie.Need-returns-3
-returns-3 c = refusal-2-users _ _ _ _ (sym (c .before .before .before .before .before .is-sound .ensures) ∙ not-false _ (c .before .before .before .before .if1 .left)) (c .before .before .if2 .left) (c .before .count-users .ensures) (c .if3 .taken)
+returns-3 c = refusal-2-users _ _ _ _ (sym (c .before .before .before .before .before .is-sound .ensures)
+    ∙ not-false _ (c .before .before .before .before .if1 .left)) (c .before .before .if2 .left) (c .before .count-users .ensures) (c .if3 .taken)
 
 returns-4 : tie.Need-returns-4
-returns-4 c = refusal-0 _ _ _ _ (sym (c .before .before .before .before .before .is-sound .ensures) ∙ not-false _ (c .before .before .before .before .if1 .left)) (c .before .before .if2 .left) (c .before .count-users .ensures) (c .if3 .left)
+returns-4 c = refusal-0 _ _ _ _ (sym (c .before .before .before .before .before .is-sound .ensures)
+    ∙ not-false _ (c .before .before .before .before .if1 .left)) (c .before .before .if2 .left) (c .before .count-users .ensures) (c .if3 .left)
 
 pub model-refusal-spec : {M : Type 1} → statement M
 model-refusal-spec =

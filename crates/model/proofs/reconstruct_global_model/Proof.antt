@@ -30,7 +30,8 @@ mul-globals : tie.Need-mul-globals Inv-loop μ-loop
 mul-globals c = omega arith
 
 slice-write-globals : tie.Need-slice-write-globals Inv-loop μ-loop
-slice-write-globals c = globals-there _ _ _ _ (c .before .if1 .taken) (c .before .before .before .before .before .before .before .before .pre .1) (c .before .before .before .loop .inv .1)
+slice-write-globals c = globals-there _ _ _ _ (c .before .if1 .taken) (c .before .before .before .before .before .before .before .before .pre .1)
+    (c .before .before .before .loop .inv .1)
 
 add-g : tie.Need-add-g Inv-loop μ-loop
 add-g c = omega arith

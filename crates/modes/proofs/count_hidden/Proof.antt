@@ -29,7 +29,10 @@ hidden-word-requires : tie.Need-hidden-word-requires Inv-loop μ-loop
 hidden-word-requires c κs = search needs
 
 add-n : tie.Need-add-n Inv-loop μ-loop
-add-n c = record { fits = hidden-fits (c .before .before .before .before .before .args .records .now) _ _ _ _ (c .before .before .loop-test .taken) (let b = (c .before .before .before .before .before .fits .mark .fits) in omega arith) (c .before .before .before .loop .inv .1) (c .hidden-word .ensures) }
+add-n c = record {
+  fits = hidden-fits (c .before .before .before .before .before .args .records .now) _ _ _ _ (c .before .before .loop-test .taken) (let b =
+      (c .before .before .before .before .before .fits .mark .fits) in omega arith) (c .before .before .before .loop .inv .1) (c .hidden-word .ensures);
+}
 
 add-g : tie.Need-add-g Inv-loop μ-loop
 add-g c = search needs
@@ -38,10 +41,16 @@ loop-less : tie.Need-loop-less Inv-loop μ-loop
 loop-less c = search needs
 
 loop-again : tie.Need-loop-again Inv-loop μ-loop
-loop-again c = (search needs, hidden-more (c .before .before .before .before .before .args .records .now) _ _ _ _ (c .before .before .before .before .before .pre) (c .before .before .loop-test .taken) (c .before .before .before .loop .inv .1) (c .hidden-word .ensures))
+loop-again c = (
+  search needs,
+  hidden-more (c .before .before .before .before .before .args .records .now) _ _ _ _
+      (c .before .before .before .before .before .pre) (c .before .before .loop-test .taken) (c .before .before .before .loop .inv .1)
+      (c .hidden-word .ensures),
+)
 
 returns : tie.Need-returns Inv-loop μ-loop
-returns c = hidden-end (c .before .before .before .args .records .now) _ _ _ (let a = (c .before .loop .inv .0) in let b = (c .loop-test .left) in omega arith) (c .before .loop .inv .1)
+returns c = hidden-end (c .before .before .before .args .records .now) _ _ _ (let a = (c .before .loop .inv .0) in let b = (c .loop-test .left) in
+    omega arith) (c .before .loop .inv .1)
 
 pub count-hidden-spec : {M : Type 1} → statement M
 count-hidden-spec =

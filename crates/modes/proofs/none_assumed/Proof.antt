@@ -30,7 +30,8 @@ is-hidden-requires : tie.Need-is-hidden-requires Inv-loop μ-loop
 is-hidden-requires c κs = search needs
 
 returns : tie.Need-returns Inv-loop μ-loop
-returns c = fine-fails (c .before .before .before .before .before .before .args .records .now) _ _ (c .before .before .before .before .before .before .pre) (c .before .before .before .loop-test .taken) _ (c .before .is-hidden .ensures) (c .if1 .taken)
+returns c = fine-fails (c .before .before .before .before .before .before .args .records .now) _ _ (c .before .before .before .before .before .before .pre)
+    (c .before .before .before .loop-test .taken) _ (c .before .is-hidden .ensures) (c .if1 .taken)
 
 add-g : tie.Need-add-g Inv-loop μ-loop
 add-g c = search needs
@@ -39,10 +40,16 @@ loop-less : tie.Need-loop-less Inv-loop μ-loop
 loop-less c = search needs
 
 loop-again : tie.Need-loop-again Inv-loop μ-loop
-loop-again c = (search needs, fine-more (c .before .before .before .before .before .before .args .records .now) _ _ (c .before .before .before .before .before .before .pre) (c .before .before .before .loop-test .taken) _ (c .before .is-hidden .ensures) (c .before .before .before .before .loop .inv .1) (c .if1 .left))
+loop-again c = (
+  search needs,
+  fine-more (c .before .before .before .before .before .before .args .records .now) _ _
+      (c .before .before .before .before .before .before .pre) (c .before .before .before .loop-test .taken) _ (c .before .is-hidden .ensures)
+      (c .before .before .before .before .loop .inv .1) (c .if1 .left),
+)
 
 returns-2 : tie.Need-returns-2 Inv-loop μ-loop
-returns-2 c = fine-end (c .before .before .before .args .records .now) _ _ (let a = (c .before .loop .inv .0) in let b = (c .loop-test .left) in omega arith) (c .before .loop .inv .1)
+returns-2 c = fine-end (c .before .before .before .args .records .now) _ _ (let a = (c .before .loop .inv .0) in let b = (c .loop-test .left) in
+    omega arith) (c .before .loop .inv .1)
 
 pub none-assumed-spec : {M : Type 1} → statement M
 none-assumed-spec =

@@ -19,13 +19,28 @@ returns : tie.Need-returns
 returns c = observe-refused _ _ _ _ (c .before .observe-refusal .ensures) (c .if1 .taken)
 
 observe-all-requires : tie.Need-observe-all-requires
-observe-all-requires c κs = observe-asks _ _ _ _ (c .before .before .before .before .before .before .observe-refusal .ensures) (c .before .before .before .before .before .if1 .left)
+observe-all-requires c κs = observe-asks _ _ _ _ (c .before .before .before .before .before .before .observe-refusal .ensures)
+    (c .before .before .before .before .before .if1 .left)
 
 cast-t32 : tie.Need-cast-t32
-cast-t32 c = record { fits = observe-fits _ _ _ _ (c .before .before .before .before .before .before .before .before .before .before .before .before .before .before .before .before .before .before .before .observe-refusal .ensures) (c .before .before .before .before .before .before .before .before .before .before .before .before .before .before .before .before .before .before .if1 .left) _ _ _ _ _ _ _ (c .before .before .before .before .before .before .before .before .before .before .before .before .observe-all .ensures) .0 }
+cast-t32 c =
+    let at-observe-all = c .before .before .before .before .before .before .before .before .before .before .before .before in
+    let at-if1 = at-observe-all .before .before .before .before .before .before in
+    let at-observe-refusal = at-if1 .before in
+    record {
+      fits = observe-fits _ _ _ _ (at-observe-refusal .observe-refusal .ensures) (at-if1 .if1 .left) _ _ _ _ _ _ _
+          (at-observe-all .observe-all .ensures) .0;
+    }
 
 cast-t33 : tie.Need-cast-t33
-cast-t33 c = record { fits = observe-fits _ _ _ _ (c .before .before .before .before .before .before .before .before .before .before .before .before .before .before .before .before .before .before .before .before .observe-refusal .ensures) (c .before .before .before .before .before .before .before .before .before .before .before .before .before .before .before .before .before .before .before .if1 .left) _ _ _ _ _ _ _ (c .before .before .before .before .before .before .before .before .before .before .before .before .before .observe-all .ensures) .1 }
+cast-t33 c =
+    let at-observe-all = c .before .before .before .before .before .before .before .before .before .before .before .before .before in
+    let at-if1 = at-observe-all .before .before .before .before .before .before in
+    let at-observe-refusal = at-if1 .before in
+    record {
+      fits = observe-fits _ _ _ _ (at-observe-refusal .observe-refusal .ensures) (at-if1 .if1 .left) _ _ _ _ _ _ _
+          (at-observe-all .observe-all .ensures) .1;
+    }
 
 same-length-4 : tie.Need-same-length-4
 same-length-4 c = search needs
@@ -43,7 +58,11 @@ same-length-8 : tie.Need-same-length-8
 same-length-8 c = search needs
 
 returns-2 : tie.Need-returns-2
-returns-2 c = observe-does _ _ _ _ (c .before .before .before .before .before .before .before .before .before .before .before .before .before .before .before .before .before .before .before .before .observe-refusal .ensures) (c .before .before .before .before .before .before .before .before .before .before .before .before .before .before .before .before .before .before .before .if1 .left) _ _ _ _ _ _ _ _ (c .before .before .before .before .before .before .before .before .before .before .before .before .before .observe-all .ensures)
+returns-2 c =
+    let at-observe-all = c .before .before .before .before .before .before .before .before .before .before .before .before .before in
+    let at-if1 = at-observe-all .before .before .before .before .before .before in
+    let at-observe-refusal = at-if1 .before in
+    observe-does _ _ _ _ (at-observe-refusal .observe-refusal .ensures) (at-if1 .if1 .left) _ _ _ _ _ _ _ _ (at-observe-all .observe-all .ensures)
 
 pub observe-internal-vars-spec : {M : Type 1} → statement M
 observe-internal-vars-spec =

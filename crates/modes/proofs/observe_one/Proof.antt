@@ -1,4 +1,4 @@
-use Rattle.modes.proofs.ObserveLaws.{observe-words, one-stays, one-asks, one-room, one-small, one-shows}
+use Rattle.modes.proofs.ObserveLaws.{observe-words, one-stays, observe-one-asks, one-room, one-small, one-shows}
 use borrow.Author.Tests.{not-true, not-false}
 use native.Mathlib.Omega.{arith}
 use borrow.Author.Needs.{needs}
@@ -12,28 +12,52 @@ mul-is-hidden : tie.Need-mul-is-hidden
 mul-is-hidden c = search needs
 
 slice-read-is-hidden : tie.Need-slice-read-is-hidden
-slice-read-is-hidden c = observe-words _ _ _ _ _ (c .before .before .before .before .before .before .before .before .before .before .pre .0)
+slice-read-is-hidden c =
+    let entry = c .before .before .before .before .before .before .before .before .before .before in
+    observe-words _ _ _ _ _ (entry .pre .0)
 
 is-hidden-requires : tie.Need-is-hidden-requires
 is-hidden-requires c κs = search needs
 
 returns : tie.Need-returns
-returns c = one-stays _ _ _ _ _ (c .before .before .before .before .before .before .before .before .before .before .before .before .pre .0) _ (c .before .is-hidden .ensures) (not-true _ (c .if1 .taken)) _ _ _
+returns c =
+    let entry = c .before .before .before .before .before .before .before .before .before .before .before .before in
+    one-stays _ _ _ _ _ (entry .pre .0) _ (c .before .is-hidden .ensures) (not-true _ (c .if1 .taken)) _ _ _
 
 add-next : tie.Need-add-next
 add-next c = search needs
 
 show-requires : tie.Need-show-requires
-show-requires c κs = one-asks _ _ _ _ _ (c .before .before .before .before .before .before .before .before .before .before .before .before .before .before .before .before .pre .0) _ (c .before .before .before .before .before .is-hidden .ensures) (not-false _ (c .before .before .before .before .if1 .left)) _ _ (c .before .before .before .before .before .before .before .before .before .before .before .before .before .before .before .before .pre .1)
+show-requires c κs =
+    let entry = c .before .before .before .before .before .before .before .before .before .before .before .before .before .before .before .before in
+    observe-one-asks _ _ _ _ _ (entry .pre .0) _ (c .before .before .before .before .before .is-hidden .ensures)
+    (not-false _ (c .before .before .before .before .if1 .left)) _ _ (entry .pre .1)
 
 mul-users : tie.Need-mul-users
-mul-users c = let l = one-room _ _ _ _ _ (c .before .before .before .before .before .before .before .before .before .before .before .before .before .before .before .before .before .before .before .before .before .before .before .before .before .before .before .pre .0) _ (c .before .before .before .before .before .before .before .before .before .before .before .before .before .before .before .before .is-hidden .ensures) (not-false _ (c .before .before .before .before .before .before .before .before .before .before .before .before .before .before .before .if1 .left)) in let k = (c .before .before .before .before .before .before .before .before .before .before .before .before .before .before .before .before .before .before .before .before .before .before .before .before .before .before .before .good) in omega arith
+mul-users c =
+    let l = one-room _ _ _ _ _ (c .before .before .before .before .before .before .before .before .before .before .before .before .before .before
+    .before .before .before .before .before .before .before .before .before .before .before .before .before .pre .0) _ (c .before .before .before
+    .before .before .before .before .before .before .before .before .before .before .before .before .before .is-hidden .ensures) (not-false _ (c
+    .before .before .before .before .before .before .before .before .before .before .before .before .before .before .before .if1 .left)) in
+    let k = (c .before .before .before .before .before .before .before .before .before .before .before .before .before .before .before .before
+    .before .before .before .before .before .before .before .before .before .before .before .good) in
+    omega arith
 
 slice-write-users : tie.Need-slice-write-users
-slice-write-users c = one-room _ _ _ _ _ (c .before .before .before .before .before .before .before .before .before .before .before .before .before .before .before .before .before .before .before .before .before .before .before .before .before .before .before .pre .0) _ (c .before .before .before .before .before .before .before .before .before .before .before .before .before .before .before .before .is-hidden .ensures) (not-false _ (c .before .before .before .before .before .before .before .before .before .before .before .before .before .before .before .if1 .left))
+slice-write-users c =
+    let at-if1 = c .before .before .before .before .before .before .before .before .before .before .before .before .before .before .before in
+    let at-is-hidden = at-if1 .before in
+    let entry = at-is-hidden .before .before .before .before .before .before .before .before .before .before .before in
+    one-room _ _ _ _ _ (entry .pre .0) _ (at-is-hidden .is-hidden .ensures) (not-false _ (at-if1 .if1 .left))
 
 add-t22 : tie.Need-add-t22
-add-t22 c = let l = one-small _ _ _ _ _ (c .before .before .before .before .before .before .before .before .before .before .before .before .before .before .before .before .before .before .before .before .before .before .before .before .before .before .before .before .pre .0) _ (c .before .before .before .before .before .before .before .before .before .before .before .before .before .before .before .before .before .is-hidden .ensures) (not-false _ (c .before .before .before .before .before .before .before .before .before .before .before .before .before .before .before .before .if1 .left)) _ (c .before .before .before .before .before .before .before .before .before .before .before .show .ensures .1) in omega arith
+add-t22 c =
+    let at-show = c .before .before .before .before .before .before .before .before .before .before .before in
+    let at-if1 = at-show .before .before .before .before .before in
+    let at-is-hidden = at-if1 .before in
+    let entry = at-is-hidden .before .before .before .before .before .before .before .before .before .before .before in
+    let l = one-small _ _ _ _ _ (entry .pre .0) _ (at-is-hidden .is-hidden .ensures) (not-false _ (at-if1 .if1 .left)) _ (at-show .show .ensures .1) in
+    omega arith
 
 same-length : tie.Need-same-length
 same-length c = search needs
@@ -51,7 +75,13 @@ same-length-5 : tie.Need-same-length-5
 same-length-5 c = search needs
 
 returns-2 : tie.Need-returns-2
-returns-2 c = one-shows _ _ _ _ _ (c .before .before .before .before .before .before .before .before .before .before .before .before .before .before .before .before .before .before .before .before .before .before .before .before .before .before .before .before .pre .0) _ (c .before .before .before .before .before .before .before .before .before .before .before .before .before .before .before .before .before .is-hidden .ensures) (not-false _ (c .before .before .before .before .before .before .before .before .before .before .before .before .before .before .before .before .if1 .left)) _ _ _ _ _ _ _ _ ((c .before .before .before .before .before .before .before .before .before .before .before .show .ensures .0) _) (c .before .before .before .before .before .before .before .before .before .before .before .show .ensures .1) (omega arith)
+returns-2 c =
+    let at-show = c .before .before .before .before .before .before .before .before .before .before .before in
+    let at-if1 = at-show .before .before .before .before .before in
+    let at-is-hidden = at-if1 .before in
+    let entry = at-is-hidden .before .before .before .before .before .before .before .before .before .before .before in
+    one-shows _ _ _ _ _ (entry .pre .0) _ (at-is-hidden .is-hidden .ensures) (not-false _ (at-if1 .if1 .left)) _ _ _ _ _ _ _ _ ((at-show .show .ensures .0) _)
+    (at-show .show .ensures .1) (omega arith)
 
 pub observe-one-spec : {M : Type 1} → statement M
 observe-one-spec =

@@ -14,13 +14,22 @@ slice-read-was : tie.Need-slice-read-was
 slice-read-was c = there-live _ _ (c .before .before .before .before .before .before .before .before .before .pre .there) .words
 
 returns : tie.Need-returns
-returns c = same-does _ _ _ _ (c .before .before .before .before .before .before .before .before .before .before .pre) (c .if1 .taken) _
+returns c =
+    let entry = c .before .before .before .before .before .before .before .before .before .before in
+    same-does _ _ _ _ (entry .pre) (c .if1 .taken) _
 
 hide-requires : tie.Need-hide-requires
-hide-requires c κs = hide-asks _ _ _ _ (c .before .before .before .before .before .before .before .before .before .before .before .before .before .before .before .pre) (c .before .before .before .before .before .if1 .left) (c .before .before .before .before .if2 .taken)
+hide-requires c κs =
+    let entry = c .before .before .before .before .before .before .before .before .before .before .before .before .before .before .before in
+    hide-asks _ _ _ _ (entry .pre) (c .before .before .before .before .before .if1 .left) (c .before .before .before .before .if2 .taken)
 
 cast-t31 : tie.Need-cast-t31
-cast-t31 c = record { fits = set-fits _ _ _ _ (c .before .before .before .before .before .before .before .before .before .before .before .before .before .before .before .before .before .before .before .before .before .before .before .before .before .before .pre) _ (hide-is _ _ _ _ (c .before .before .before .before .before .before .before .before .before .before .before .before .before .before .before .before .before .before .before .before .before .before .before .before .before .before .pre) (c .before .before .before .before .before .before .before .before .before .before .before .before .before .before .before .before .if1 .left) (c .before .before .before .before .before .before .before .before .before .before .before .before .before .before .before .if2 .taken)) _ _ _ _ (c .before .before .before .before .before .before .before .before .before .before .hide .ensures) }
+cast-t31 c =
+    let at-hide = c .before .before .before .before .before .before .before .before .before .before in
+    let at-if2 = at-hide .before .before .before .before .before in
+    let at-if1 = at-if2 .before in
+    let entry = at-if1 .before .before .before .before .before .before .before .before .before .before in
+    record { fits = set-fits _ _ _ _ (entry .pre) _ (hide-is _ _ _ _ (entry .pre) (at-if1 .if1 .left) (at-if2 .if2 .taken)) _ _ _ _ (at-hide .hide .ensures) }
 
 same-length : tie.Need-same-length
 same-length c = search needs
@@ -35,13 +44,30 @@ same-length-4 : tie.Need-same-length-4
 same-length-4 c = search needs
 
 returns-2 : tie.Need-returns-2
-returns-2 c = hide-does _ _ _ _ (c .before .before .before .before .before .before .before .before .before .before .before .before .before .before .before .before .before .before .before .before .before .before .before .before .before .before .pre) (c .before .before .before .before .before .before .before .before .before .before .before .before .before .before .before .before .if1 .left) (c .before .before .before .before .before .before .before .before .before .before .before .before .before .before .before .if2 .taken) _ _ _ _ _ (c .before .before .before .before .before .before .before .before .before .before .hide .ensures)
+returns-2 c =
+    let at-hide = c .before .before .before .before .before .before .before .before .before .before in
+    let at-if2 = at-hide .before .before .before .before .before in
+    let at-if1 = at-if2 .before in
+    let entry = at-if1 .before .before .before .before .before .before .before .before .before .before in
+    hide-does _ _ _ _ (entry .pre) (at-if1 .if1 .left) (at-if2 .if2 .taken) _ _ _ _ _ (at-hide .hide .ensures)
 
 show-requires : tie.Need-show-requires
-show-requires c κs = show-asks _ _ _ _ (c .before .before .before .before .before .before .before .before .before .before .before .before .before .before .before .before .pre) (c .before .before .before .before .before .before .if1 .left) (c .before .before .before .before .before .if2 .left) (c .before .before .before .before .if3 .taken)
+show-requires c κs =
+    let entry = c .before .before .before .before .before .before .before .before .before .before .before .before .before .before .before .before in
+    show-asks _ _ _ _ (entry .pre) (c .before .before .before .before .before .before .if1 .left) (c .before .before .before .before .before .if2 .left)
+    (c .before .before .before .before .if3 .taken)
 
 cast-t41 : tie.Need-cast-t41
-cast-t41 c = record { fits = set-fits _ _ _ _ (c .before .before .before .before .before .before .before .before .before .before .before .before .before .before .before .before .before .before .before .before .before .before .before .before .before .before .before .before .pre) _ (show-is _ _ _ _ (c .before .before .before .before .before .before .before .before .before .before .before .before .before .before .before .before .before .before .before .before .before .before .before .before .before .before .before .before .pre) (c .before .before .before .before .before .before .before .before .before .before .before .before .before .before .before .before .before .before .if1 .left) (c .before .before .before .before .before .before .before .before .before .before .before .before .before .before .before .before .before .if2 .left) (c .before .before .before .before .before .before .before .before .before .before .before .before .before .before .before .before .if3 .taken)) _ _ _ _ ((c .before .before .before .before .before .before .before .before .before .before .before .show .ensures .0) _) }
+cast-t41 c =
+    let at-show = c .before .before .before .before .before .before .before .before .before .before .before in
+    let at-if3 = at-show .before .before .before .before .before in
+    let at-if2 = at-if3 .before in
+    let at-if1 = at-if2 .before in
+    let entry = at-if1 .before .before .before .before .before .before .before .before .before .before in
+    record {
+      fits = set-fits _ _ _ _ (entry .pre) _ (show-is _ _ _ _ (entry .pre) (at-if1 .if1 .left) (at-if2 .if2 .left) (at-if3 .if3 .taken)) _ _ _ _
+          ((at-show .show .ensures .0) _);
+    }
 
 same-length-5 : tie.Need-same-length-5
 same-length-5 c = search needs
@@ -56,10 +82,19 @@ same-length-8 : tie.Need-same-length-8
 same-length-8 c = search needs
 
 returns-3 : tie.Need-returns-3
-returns-3 c = show-does _ _ _ _ (c .before .before .before .before .before .before .before .before .before .before .before .before .before .before .before .before .before .before .before .before .before .before .before .before .before .before .before .before .pre) (c .before .before .before .before .before .before .before .before .before .before .before .before .before .before .before .before .before .before .if1 .left) (c .before .before .before .before .before .before .before .before .before .before .before .before .before .before .before .before .before .if2 .left) (c .before .before .before .before .before .before .before .before .before .before .before .before .before .before .before .before .if3 .taken) _ _ _ _ _ _ ((c .before .before .before .before .before .before .before .before .before .before .before .show .ensures .0) _) (c .before .before .before .before .before .before .before .before .before .before .before .show .ensures .1)
+returns-3 c =
+    let at-show = c .before .before .before .before .before .before .before .before .before .before .before in
+    let at-if3 = at-show .before .before .before .before .before in
+    let at-if2 = at-if3 .before in
+    let at-if1 = at-if2 .before in
+    let entry = at-if1 .before .before .before .before .before .before .before .before .before .before in
+    show-does _ _ _ _ (entry .pre) (at-if1 .if1 .left) (at-if2 .if2 .left) (at-if3 .if3 .taken) _ _ _ _ _ _ ((at-show .show .ensures .0) _)
+    (at-show .show .ensures .1)
 
 change-requires : tie.Need-change-requires
-change-requires c κs = change-asks _ _ _ _ (c .before .before .before .before .before .before .before .before .before .before .before .before .before .before .pre) (c .before .before .before .before .if1 .left) (c .before .before .before .if2 .left) (c .before .before .if3 .left)
+change-requires c κs =
+    let entry = c .before .before .before .before .before .before .before .before .before .before .before .before .before .before in
+    change-asks _ _ _ _ (entry .pre) (c .before .before .before .before .if1 .left) (c .before .before .before .if2 .left) (c .before .before .if3 .left)
 
 same-length-9 : tie.Need-same-length-9
 same-length-9 c = search needs
@@ -68,7 +103,12 @@ same-length-10 : tie.Need-same-length-10
 same-length-10 c = search needs
 
 returns-4 : tie.Need-returns-4
-returns-4 c = change-does _ _ _ _ (c .before .before .before .before .before .before .before .before .before .before .before .before .before .before .before .before .before .before .before .pre) (c .before .before .before .before .before .before .before .before .before .if1 .left) (c .before .before .before .before .before .before .before .before .if2 .left) (c .before .before .before .before .before .before .before .if3 .left) _ _ _ (c .before .before .before .before .change .ensures .0) (c .before .before .before .before .change .ensures .1)
+returns-4 c =
+    let entry = c .before .before .before .before .before .before .before .before .before .before .before .before .before .before .before .before .before
+    .before .before in
+    change-does _ _ _ _ (entry .pre) (c .before .before .before .before .before .before .before .before .before .if1 .left)
+    (c .before .before .before .before .before .before .before .before .if2 .left) (c .before .before .before .before .before .before .before .if3 .left) _
+    _ _ (c .before .before .before .before .change .ensures .0) (c .before .before .before .before .change .ensures .1)
 
 pub set-mode-spec : {M : Type 1} → statement M
 set-mode-spec =

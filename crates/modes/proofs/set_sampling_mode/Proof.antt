@@ -22,7 +22,8 @@ mode-number-requires : tie.Need-mode-number-requires
 mode-number-requires c κs = search needs
 
 set-mode-requires : tie.Need-set-mode-requires
-set-mode-requires c κs = set-asks _ _ _ _ _ (c .before .before .before .before .before .before .set-mode-refusal .ensures) (c .before .before .before .before .before .if1 .left) _ (c .before .before .before .before .mode-number .ensures)
+set-mode-requires c κs = set-asks _ _ _ _ _ (c .before .before .before .before .before .before .set-mode-refusal .ensures)
+    (c .before .before .before .before .before .if1 .left) _ (c .before .before .before .before .mode-number .ensures)
 
 same-length-4 : tie.Need-same-length-4
 same-length-4 c = search needs
@@ -37,7 +38,12 @@ same-length-7 : tie.Need-same-length-7
 same-length-7 c = search needs
 
 returns-2 : tie.Need-returns-2
-returns-2 c = set-does _ _ _ _ _ (c .before .before .before .before .before .before .before .before .before .before .before .before .before .before .before .set-mode-refusal .ensures) (c .before .before .before .before .before .before .before .before .before .before .before .before .before .before .if1 .left) _ _ _ _ _ (c .before .before .before .before .before .before .before .before .before .before .before .before .before .mode-number .ensures) (c .before .before .before .before .before .before .before .before .set-mode .ensures)
+returns-2 c =
+    let at-mode-number = c .before .before .before .before .before .before .before .before .before .before .before .before .before in
+    let at-if1 = at-mode-number .before in
+    let at-set-mode-refusal = at-if1 .before in
+    set-does _ _ _ _ _ (at-set-mode-refusal .set-mode-refusal .ensures) (at-if1 .if1 .left) _ _ _ _ _ (at-mode-number .mode-number .ensures)
+    (c .before .before .before .before .before .before .before .before .set-mode .ensures)
 
 pub set-sampling-mode-spec : {M : Type 1} → statement M
 set-sampling-mode-spec =

@@ -25,7 +25,10 @@ mul-records : tie.Need-mul-records
 mul-records c = record { fits = base-fits _ _ (c .before .before .before .before .before .before .pre .shows .there) }
 
 add-records : tie.Need-add-records
-add-records c = record { fits = mode-fits _ _ (c .before .before .before .before .before .before .pre .shows .there) _ (let l = (c .before .before .before .before .before .before .pre .shows .mode) in omega arith) }
+add-records c = record {
+  fits = mode-fits _ _ (c .before .before .before .before .before .before .pre .shows .there) _ (let l =
+      (c .before .before .before .before .before .before .pre .shows .mode) in omega arith);
+}
 
 mul-records-2 : tie.Need-mul-records-2
 mul-records-2 c = let l = there-live _ _ (c .before .before .before .before .before .before .pre .shows .there) .small in omega arith
@@ -37,13 +40,24 @@ least-free-requires : tie.Need-least-free-requires
 least-free-requires c κs = show-next _ _ _ _ (c .before .before .before .before .before .before .before .pre .shows)
 
 map-requires : tie.Need-map-requires
-map-requires c κs = show-fits _ _ _ _ (c .before .before .before .before .before .before .before .before .before .before .pre .shows) _ (c .before .before .least-free .ensures)
+map-requires c κs =
+    let entry = c .before .before .before .before .before .before .before .before .before .before in
+    show-fits _ _ _ _ (entry .pre .shows) _ (c .before .before .least-free .ensures)
 
 put-note-requires : tie.Need-put-note-requires
-put-note-requires c κs = (let r = (c .before .before .before .before .before .before .before .before .before .before .before .before .before .before .before .before .pre .words) in omega arith, yes-fits (eqb (c .before .before .before .before .before .before .before .before .before .before .before .before .before .before .before .before .args .m) 0))
+put-note-requires c κs =
+    let entry = c .before .before .before .before .before .before .before .before .before .before .before .before .before .before .before .before in
+    (let r = (entry .pre .words) in omega arith, yes-fits (eqb (entry .args .m) 0))
 
 put-note-requires-2 : tie.Need-put-note-requires-2
-put-note-requires-2 c κs = (let r = (c .before .before .before .before .before .before .before .before .before .before .before .before .before .before .before .before .before .before .before .before .pre .words) in let k = (c .before .before .before .put-note .kept .0) in omega arith, let l = show-fits _ _ _ _ (c .before .before .before .before .before .before .before .before .before .before .before .before .before .before .before .before .before .before .before .before .pre .shows) _ (c .before .before .before .before .before .before .before .before .before .before .before .before .least-free .ensures) in let z = (c .before .before .before .before .before .before .before .before .before .before .before .before .before .before .before .before .before .before .before .before .pre .shows .there .sound .sizes) in omega arith)
+put-note-requires-2 c κs =
+    let at-least-free = c .before .before .before .before .before .before .before .before .before .before .before .before in
+    let entry = at-least-free .before .before .before .before .before .before .before .before in (
+      let r = (entry .pre .words) in let k = (c .before .before .before .put-note .kept .0) in
+          omega arith,
+      let l = show-fits _ _ _ _ (entry .pre .shows) _ (at-least-free .least-free .ensures) in let z = (entry .pre .shows .there .sound .sizes) in
+          omega arith,
+    )
 
 same-length : tie.Need-same-length
 same-length c = search needs
@@ -58,7 +72,14 @@ same-length-4 : tie.Need-same-length-4
 same-length-4 c = search needs
 
 returns : tie.Need-returns
-returns c = (λ x. show-leaves _ _ _ (there-live _ _ (c .before .before .before .before .before .before .before .before .before .before .before .before .before .before .before .before .before .before .before .before .before .before .before .pre .shows .there) .words) _ (c .before .before .before .before .before .before .before .before .before .before .before .before .before .before .before .least-free .ensures) _ _ _ (c .before .before .before .before .before .before .before .before .before .before .before .before .map .ensures) _ _ _ _ (c .before .before .before .before .before .before .put-note .ensures) (c .before .before .put-note2 .ensures), (c .before .before .before .before .before .before .before .before .before .before .before .before .before .before .before .least-free .ensures))
+returns c =
+    let at-map = c .before .before .before .before .before .before .before .before .before .before .before .before in
+    let at-least-free = at-map .before .before .before in
+    let entry = at-least-free .before .before .before .before .before .before .before .before in (
+      λ x. show-leaves _ _ _ (there-live _ _ (entry .pre .shows .there) .words) _ (at-least-free .least-free .ensures) _ _ _ (at-map .map .ensures) _ _ _ _
+          (c .before .before .before .before .before .before .put-note .ensures) (c .before .before .put-note2 .ensures),
+      (at-least-free .least-free .ensures),
+    )
 
 pub show-spec : {M : Type 1} → statement M
 show-spec =

@@ -53,7 +53,21 @@ map-up-map-up-requires : (t : ℕ) → map-up-lts.Need-map-up-requires (
   map-one-reads.Asked,
   map-one-reads.Learnt,
 ) (map-up-at t) map-up.Post map-up-Inv-loop map-up-μ-loop
-map-up-map-up-requires t c κs = (let l = c .before .before .before .before .if1 .taken in let e = c .before .before .before .before .before .before .before .before .before .before .before .pre .0 in omega arith, (record { solvers = c .before .before .before .before .before .before .before .before .before .before .before .pre .1 .0 .solvers; asks = gap-asks _ _ _ _ _ _ _ _ (c .before .before .before .before .before .before .before .before .before .before .before .pre .1 .0 .asks) (c .before .before .before .before .before .before .loop .inv .0 .with _ (c .before .before .before .before .before .before .before .before .before .before .before .pre .1 .0 .asks)) (c .before .before .before .before .if1 .taken) }, c .before .before .before .before .before .before .loop .inv .1))
+map-up-map-up-requires t c κs =
+    let entry = c .before .before .before .before .before .before .before .before .before .before .before in (
+      let l = c .before .before .before .before .if1 .taken in let e = entry .pre .0 in
+          omega arith,
+      (
+        record {
+          solvers = entry .pre .1 .0 .solvers;
+          asks =
+              gap-asks _ _ _ _ _ _ _ _ (entry .pre .1 .0 .asks)
+              (c .before .before .before .before .before .before .loop .inv .0 .with _ (entry .pre .1 .0 .asks))
+              (c .before .before .before .before .if1 .taken);
+        },
+        c .before .before .before .before .before .before .loop .inv .1,
+      ),
+    )
 
 map-up-add-i : (t : ℕ) → map-up-lts.Need-add-i (
   map-up-below t,
@@ -63,7 +77,10 @@ map-up-add-i : (t : ℕ) → map-up-lts.Need-add-i (
   map-one-reads.Asked,
   map-one-reads.Learnt,
 ) (map-up-at t) map-up.Post map-up-Inv-loop map-up-μ-loop
-map-up-add-i t c = let l = c .before .before .before .before .before .before .before .before .before .before .before .before .before .before .if1 .taken in let w = user-small _ _ (c .before .before .before .before .before .before .before .before .before .before .before .before .before .before .before .before .before .before .before .before .before .pre .1 .0 .asks .sound) (c .before .before .before .before .before .before .before .before .before .before .before .before .before .before .before .before .before .before .before .before .before .pre .1 .0 .asks .within) in omega arith
+map-up-add-i t c =
+    let at-if1 = c .before .before .before .before .before .before .before .before .before .before .before .before .before .before in
+    let entry = at-if1 .before .before .before .before .before .before .before in
+    let l = at-if1 .if1 .taken in let w = user-small _ _ (entry .pre .1 .0 .asks .sound) (entry .pre .1 .0 .asks .within) in omega arith
 
 map-up-loop-less : (t : ℕ) → map-up-lts.Need-loop-less (
   map-up-below t,
@@ -73,7 +90,9 @@ map-up-loop-less : (t : ℕ) → map-up-lts.Need-loop-less (
   map-one-reads.Asked,
   map-one-reads.Learnt,
 ) (map-up-at t) map-up.Post map-up-Inv-loop map-up-μ-loop
-map-up-loop-less t c = let l = c .before .before .before .before .before .before .before .before .before .before .before .before .before .before .if1 .taken in omega arith
+map-up-loop-less t c =
+    let at-if1 = c .before .before .before .before .before .before .before .before .before .before .before .before .before .before in
+    let l = at-if1 .if1 .taken in omega arith
 
 map-up-loop-again : (t : ℕ) → map-up-lts.Need-loop-again (
   map-up-below t,
@@ -83,7 +102,16 @@ map-up-loop-again : (t : ℕ) → map-up-lts.Need-loop-again (
   map-one-reads.Asked,
   map-one-reads.Learnt,
 ) (map-up-at t) map-up.Post map-up-Inv-loop map-up-μ-loop
-map-up-loop-again t c = (record { with = λ x h. gap-more _ _ _ _ _ _ _ _ _ _ _ h (c .before .before .before .before .before .before .before .before .before .before .before .before .before .before .before .before .loop .inv .0 .with x h) (c .before .before .before .before .before .before .before .before .before .before .before .before .before .before .if1 .taken) (c .before .before .before .before .before .before .before .before .before .map-up .ensures .0 .with x (gap-asks _ _ _ _ _ _ _ _ h (c .before .before .before .before .before .before .before .before .before .before .before .before .before .before .before .before .loop .inv .0 .with x h) (c .before .before .before .before .before .before .before .before .before .before .before .before .before .before .if1 .taken)) .1) }, c .before .before .before .before .before .before .before .before .before .map-up .ensures .1)
+map-up-loop-again t c =
+    let at-if1 = c .before .before .before .before .before .before .before .before .before .before .before .before .before .before in
+    let at-loop = at-if1 .before .before in (
+      record {
+        with = λ x h. gap-more _ _ _ _ _ _ _ _ _ _ _ h (at-loop .loop .inv .0 .with x h) (at-if1 .if1 .taken)
+            (c .before .before .before .before .before .before .before .before .before .map-up .ensures .0 .with x
+            (gap-asks _ _ _ _ _ _ _ _ h (at-loop .loop .inv .0 .with x h) (at-if1 .if1 .taken)) .1);
+      },
+      c .before .before .before .before .before .before .before .before .before .map-up .ensures .1,
+    )
 
 map-up-global-of-requires : (t : ℕ) → map-up-lts.Need-global-of-requires (
   map-up-below t,
@@ -123,7 +151,13 @@ map-up-map-one-requires : (t : ℕ) → map-up-lts.Need-map-one-requires (
   map-one-reads.Asked,
   map-one-reads.Learnt,
 ) (map-up-at t) map-up.Post map-up-Inv-loop map-up-μ-loop
-map-up-map-one-requires t c κs = last-asks _ _ _ _ _ _ _ _ (c .before .before .before .before .before .before .before .before .before .before .before .before .before .before .before .pre .1 .0 .asks) (c .before .before .before .before .before .before .before .before .before .before .loop .inv .0 .with _ (c .before .before .before .before .before .before .before .before .before .before .before .before .before .before .before .pre .1 .0 .asks)) (c .before .before .before .before .before .before .before .before .if1 .left) ((global-word _ _ (c .before .before .before .before .before .before .global-of .ensures) ∙ ap globalWord (c .before .before .before .before .enum-told .given .1))) _ (c .before .before .before .before .before .before .before .before .before .before .loop .inv .1)
+map-up-map-one-requires t c κs =
+    let at-loop = c .before .before .before .before .before .before .before .before .before .before in
+    let entry = at-loop .before .before .before .before .before in
+    last-asks _ _ _ _ _ _ _ _ (entry .pre .1 .0 .asks) (at-loop .loop .inv .0 .with _ (entry .pre .1 .0 .asks))
+    (c .before .before .before .before .before .before .before .before .if1 .left)
+    ((global-word _ _ (c .before .before .before .before .before .before .global-of .ensures)
+    ∙ ap globalWord (c .before .before .before .before .enum-told .given .1))) _ (at-loop .loop .inv .1)
 
 map-up-same-length : (t : ℕ) → map-up-lts.Need-same-length (
   map-up-below t,
@@ -133,7 +167,15 @@ map-up-same-length : (t : ℕ) → map-up-lts.Need-same-length (
   map-one-reads.Asked,
   map-one-reads.Learnt,
 ) (map-up-at t) map-up.Post map-up-Inv-loop map-up-μ-loop
-map-up-same-length t c = last-sizes _ _ _ _ _ _ _ _ (c .before .before .before .before .before .before .before .before .before .before .before .before .before .before .before .before .before .before .before .before .before .before .before .before .pre .1 .0 .asks) (c .before .before .before .before .before .before .before .before .before .before .before .before .before .before .before .before .before .before .before .loop .inv .0 .with _ (c .before .before .before .before .before .before .before .before .before .before .before .before .before .before .before .before .before .before .before .before .before .before .before .before .pre .1 .0 .asks)) (c .before .before .before .before .before .before .before .before .before .before .before .before .before .before .before .before .before .if1 .left) ((global-word _ _ (c .before .before .before .before .before .before .before .before .before .before .before .before .before .before .before .global-of .ensures) ∙ ap globalWord (c .before .before .before .before .before .before .before .before .before .before .before .before .before .enum-told .given .1))) _ _ _ _ _ _ _ _ (c .before .before .before .before .before .before .before .before .map-one .ensures) .globalFromUser
+map-up-same-length t c =
+    let at-enum-told = c .before .before .before .before .before .before .before .before .before .before .before .before .before in
+    let at-global-of = at-enum-told .before .before in
+    let at-if1 = at-global-of .before .before in
+    let at-loop = at-if1 .before .before in
+    let entry = at-loop .before .before .before .before .before in
+    last-sizes _ _ _ _ _ _ _ _ (entry .pre .1 .0 .asks) (at-loop .loop .inv .0 .with _ (entry .pre .1 .0 .asks)) (at-if1 .if1 .left)
+    ((global-word _ _ (at-global-of .global-of .ensures) ∙ ap globalWord (at-enum-told .enum-told .given .1))) _ _ _ _ _ _ _ _
+    (c .before .before .before .before .before .before .before .before .map-one .ensures) .globalFromUser
 
 map-up-same-length-2 : (t : ℕ) → map-up-lts.Need-same-length-2 (
   map-up-below t,
@@ -143,7 +185,15 @@ map-up-same-length-2 : (t : ℕ) → map-up-lts.Need-same-length-2 (
   map-one-reads.Asked,
   map-one-reads.Learnt,
 ) (map-up-at t) map-up.Post map-up-Inv-loop map-up-μ-loop
-map-up-same-length-2 t c = last-sizes _ _ _ _ _ _ _ _ (c .before .before .before .before .before .before .before .before .before .before .before .before .before .before .before .before .before .before .before .before .before .before .before .before .pre .1 .0 .asks) (c .before .before .before .before .before .before .before .before .before .before .before .before .before .before .before .before .before .before .before .loop .inv .0 .with _ (c .before .before .before .before .before .before .before .before .before .before .before .before .before .before .before .before .before .before .before .before .before .before .before .before .pre .1 .0 .asks)) (c .before .before .before .before .before .before .before .before .before .before .before .before .before .before .before .before .before .if1 .left) ((global-word _ _ (c .before .before .before .before .before .before .before .before .before .before .before .before .before .before .before .global-of .ensures) ∙ ap globalWord (c .before .before .before .before .before .before .before .before .before .before .before .before .before .enum-told .given .1))) _ _ _ _ _ _ _ _ (c .before .before .before .before .before .before .before .before .map-one .ensures) .userFromGlobal
+map-up-same-length-2 t c =
+    let at-enum-told = c .before .before .before .before .before .before .before .before .before .before .before .before .before in
+    let at-global-of = at-enum-told .before .before in
+    let at-if1 = at-global-of .before .before in
+    let at-loop = at-if1 .before .before in
+    let entry = at-loop .before .before .before .before .before in
+    last-sizes _ _ _ _ _ _ _ _ (entry .pre .1 .0 .asks) (at-loop .loop .inv .0 .with _ (entry .pre .1 .0 .asks)) (at-if1 .if1 .left)
+    ((global-word _ _ (at-global-of .global-of .ensures) ∙ ap globalWord (at-enum-told .enum-told .given .1))) _ _ _ _ _ _ _ _
+    (c .before .before .before .before .before .before .before .before .map-one .ensures) .userFromGlobal
 
 map-up-same-length-3 : (t : ℕ) → map-up-lts.Need-same-length-3 (
   map-up-below t,
@@ -153,7 +203,15 @@ map-up-same-length-3 : (t : ℕ) → map-up-lts.Need-same-length-3 (
   map-one-reads.Asked,
   map-one-reads.Learnt,
 ) (map-up-at t) map-up.Post map-up-Inv-loop map-up-μ-loop
-map-up-same-length-3 t c = last-sizes _ _ _ _ _ _ _ _ (c .before .before .before .before .before .before .before .before .before .before .before .before .before .before .before .before .before .before .before .before .before .before .before .before .pre .1 .0 .asks) (c .before .before .before .before .before .before .before .before .before .before .before .before .before .before .before .before .before .before .before .loop .inv .0 .with _ (c .before .before .before .before .before .before .before .before .before .before .before .before .before .before .before .before .before .before .before .before .before .before .before .before .pre .1 .0 .asks)) (c .before .before .before .before .before .before .before .before .before .before .before .before .before .before .before .before .before .if1 .left) ((global-word _ _ (c .before .before .before .before .before .before .before .before .before .before .before .before .before .before .before .global-of .ensures) ∙ ap globalWord (c .before .before .before .before .before .before .before .before .before .before .before .before .before .enum-told .given .1))) _ _ _ _ _ _ _ _ (c .before .before .before .before .before .before .before .before .map-one .ensures) .records
+map-up-same-length-3 t c =
+    let at-enum-told = c .before .before .before .before .before .before .before .before .before .before .before .before .before in
+    let at-global-of = at-enum-told .before .before in
+    let at-if1 = at-global-of .before .before in
+    let at-loop = at-if1 .before .before in
+    let entry = at-loop .before .before .before .before .before in
+    last-sizes _ _ _ _ _ _ _ _ (entry .pre .1 .0 .asks) (at-loop .loop .inv .0 .with _ (entry .pre .1 .0 .asks)) (at-if1 .if1 .left)
+    ((global-word _ _ (at-global-of .global-of .ensures) ∙ ap globalWord (at-enum-told .enum-told .given .1))) _ _ _ _ _ _ _ _
+    (c .before .before .before .before .before .before .before .before .map-one .ensures) .records
 
 map-up-same-length-4 : (t : ℕ) → map-up-lts.Need-same-length-4 (
   map-up-below t,
@@ -163,7 +221,15 @@ map-up-same-length-4 : (t : ℕ) → map-up-lts.Need-same-length-4 (
   map-one-reads.Asked,
   map-one-reads.Learnt,
 ) (map-up-at t) map-up.Post map-up-Inv-loop map-up-μ-loop
-map-up-same-length-4 t c = last-sizes _ _ _ _ _ _ _ _ (c .before .before .before .before .before .before .before .before .before .before .before .before .before .before .before .before .before .before .before .before .before .before .before .before .pre .1 .0 .asks) (c .before .before .before .before .before .before .before .before .before .before .before .before .before .before .before .before .before .before .before .loop .inv .0 .with _ (c .before .before .before .before .before .before .before .before .before .before .before .before .before .before .before .before .before .before .before .before .before .before .before .before .pre .1 .0 .asks)) (c .before .before .before .before .before .before .before .before .before .before .before .before .before .before .before .before .before .if1 .left) ((global-word _ _ (c .before .before .before .before .before .before .before .before .before .before .before .before .before .before .before .global-of .ensures) ∙ ap globalWord (c .before .before .before .before .before .before .before .before .before .before .before .before .before .enum-told .given .1))) _ _ _ _ _ _ _ _ (c .before .before .before .before .before .before .before .before .map-one .ensures) .notes
+map-up-same-length-4 t c =
+    let at-enum-told = c .before .before .before .before .before .before .before .before .before .before .before .before .before in
+    let at-global-of = at-enum-told .before .before in
+    let at-if1 = at-global-of .before .before in
+    let at-loop = at-if1 .before .before in
+    let entry = at-loop .before .before .before .before .before in
+    last-sizes _ _ _ _ _ _ _ _ (entry .pre .1 .0 .asks) (at-loop .loop .inv .0 .with _ (entry .pre .1 .0 .asks)) (at-if1 .if1 .left)
+    ((global-word _ _ (at-global-of .global-of .ensures) ∙ ap globalWord (at-enum-told .enum-told .given .1))) _ _ _ _ _ _ _ _
+    (c .before .before .before .before .before .before .before .before .map-one .ensures) .notes
 
 map-up-returns : (t : ℕ) → map-up-lts.Need-returns (
   map-up-below t,
@@ -173,7 +239,22 @@ map-up-returns : (t : ℕ) → map-up-lts.Need-returns (
   map-one-reads.Asked,
   map-one-reads.Learnt,
 ) (map-up-at t) map-up.Post map-up-Inv-loop map-up-μ-loop
-map-up-returns t c = (record { with = λ x h. last-done _ _ _ _ _ _ _ _ h (c .before .before .before .before .before .before .before .before .before .before .before .before .before .before .before .before .before .before .before .loop .inv .0 .with x h) (c .before .before .before .before .before .before .before .before .before .before .before .before .before .before .before .before .before .if1 .left) ((global-word _ _ (c .before .before .before .before .before .before .before .before .before .before .before .before .before .before .before .global-of .ensures) ∙ ap globalWord (c .before .before .before .before .before .before .before .before .before .before .before .before .before .enum-told .given .1))) _ _ _ _ _ _ _ _ (c .before .before .before .before .before .before .before .before .map-one .ensures) .0 }, last-done _ _ _ _ _ _ _ _ (c .before .before .before .before .before .before .before .before .before .before .before .before .before .before .before .before .before .before .before .before .before .before .before .before .pre .1 .0 .asks) (c .before .before .before .before .before .before .before .before .before .before .before .before .before .before .before .before .before .before .before .loop .inv .0 .with _ (c .before .before .before .before .before .before .before .before .before .before .before .before .before .before .before .before .before .before .before .before .before .before .before .before .pre .1 .0 .asks)) (c .before .before .before .before .before .before .before .before .before .before .before .before .before .before .before .before .before .if1 .left) ((global-word _ _ (c .before .before .before .before .before .before .before .before .before .before .before .before .before .before .before .global-of .ensures) ∙ ap globalWord (c .before .before .before .before .before .before .before .before .before .before .before .before .before .enum-told .given .1))) _ _ _ _ _ _ _ _ (c .before .before .before .before .before .before .before .before .map-one .ensures) .1)
+map-up-returns t c =
+    let at-enum-told = c .before .before .before .before .before .before .before .before .before .before .before .before .before in
+    let at-global-of = at-enum-told .before .before in
+    let at-if1 = at-global-of .before .before in
+    let at-loop = at-if1 .before .before in
+    let entry = at-loop .before .before .before .before .before in (
+      record {
+        with = λ x h. last-done _ _ _ _ _ _ _ _ h (at-loop .loop .inv .0 .with x h) (at-if1 .if1 .left)
+            ((global-word _ _ (at-global-of .global-of .ensures) ∙ ap globalWord (at-enum-told .enum-told .given .1))) _ _ _ _ _ _ _ _
+            (c .before .before .before .before .before .before .before .before .map-one .ensures) .0;
+      },
+      last-done _ _ _ _ _ _ _ _ (entry .pre .1 .0 .asks)
+          (at-loop .loop .inv .0 .with _ (entry .pre .1 .0 .asks)) (at-if1 .if1 .left)
+          ((global-word _ _ (at-global-of .global-of .ensures) ∙ ap globalWord (at-enum-told .enum-told .given .1))) _ _ _ _ _ _ _ _
+          (c .before .before .before .before .before .before .before .before .map-one .ensures) .1,
+    )
 
 map-up-same-length-5 : (t : ℕ) → map-up-lts.Need-same-length-5 (
   map-up-below t,
@@ -183,7 +264,10 @@ map-up-same-length-5 : (t : ℕ) → map-up-lts.Need-same-length-5 (
   map-one-reads.Asked,
   map-one-reads.Learnt,
 ) (map-up-at t) map-up.Post map-up-Inv-loop map-up-μ-loop
-map-up-same-length-5 t c = gap-sizes _ _ _ _ _ _ _ _ (c .before .before .before .before .before .before .before .before .before .before .before .before .pre .1 .0 .asks) (c .before .before .before .before .before .before .before .loop .inv .0 .with _ (c .before .before .before .before .before .before .before .before .before .before .before .before .pre .1 .0 .asks)) .globalFromUser
+map-up-same-length-5 t c =
+    let entry = c .before .before .before .before .before .before .before .before .before .before .before .before in
+    gap-sizes _ _ _ _ _ _ _ _ (entry .pre .1 .0 .asks) (c .before .before .before .before .before .before .before .loop .inv .0 .with _
+    (entry .pre .1 .0 .asks)) .globalFromUser
 
 map-up-same-length-6 : (t : ℕ) → map-up-lts.Need-same-length-6 (
   map-up-below t,
@@ -193,7 +277,10 @@ map-up-same-length-6 : (t : ℕ) → map-up-lts.Need-same-length-6 (
   map-one-reads.Asked,
   map-one-reads.Learnt,
 ) (map-up-at t) map-up.Post map-up-Inv-loop map-up-μ-loop
-map-up-same-length-6 t c = gap-sizes _ _ _ _ _ _ _ _ (c .before .before .before .before .before .before .before .before .before .before .before .before .pre .1 .0 .asks) (c .before .before .before .before .before .before .before .loop .inv .0 .with _ (c .before .before .before .before .before .before .before .before .before .before .before .before .pre .1 .0 .asks)) .userFromGlobal
+map-up-same-length-6 t c =
+    let entry = c .before .before .before .before .before .before .before .before .before .before .before .before in
+    gap-sizes _ _ _ _ _ _ _ _ (entry .pre .1 .0 .asks) (c .before .before .before .before .before .before .before .loop .inv .0 .with _
+    (entry .pre .1 .0 .asks)) .userFromGlobal
 
 map-up-same-length-7 : (t : ℕ) → map-up-lts.Need-same-length-7 (
   map-up-below t,
@@ -203,7 +290,10 @@ map-up-same-length-7 : (t : ℕ) → map-up-lts.Need-same-length-7 (
   map-one-reads.Asked,
   map-one-reads.Learnt,
 ) (map-up-at t) map-up.Post map-up-Inv-loop map-up-μ-loop
-map-up-same-length-7 t c = gap-sizes _ _ _ _ _ _ _ _ (c .before .before .before .before .before .before .before .before .before .before .before .before .pre .1 .0 .asks) (c .before .before .before .before .before .before .before .loop .inv .0 .with _ (c .before .before .before .before .before .before .before .before .before .before .before .before .pre .1 .0 .asks)) .records
+map-up-same-length-7 t c =
+    let entry = c .before .before .before .before .before .before .before .before .before .before .before .before in
+    gap-sizes _ _ _ _ _ _ _ _ (entry .pre .1 .0 .asks) (c .before .before .before .before .before .before .before .loop .inv .0 .with _
+    (entry .pre .1 .0 .asks)) .records
 
 map-up-same-length-8 : (t : ℕ) → map-up-lts.Need-same-length-8 (
   map-up-below t,
@@ -213,7 +303,10 @@ map-up-same-length-8 : (t : ℕ) → map-up-lts.Need-same-length-8 (
   map-one-reads.Asked,
   map-one-reads.Learnt,
 ) (map-up-at t) map-up.Post map-up-Inv-loop map-up-μ-loop
-map-up-same-length-8 t c = gap-sizes _ _ _ _ _ _ _ _ (c .before .before .before .before .before .before .before .before .before .before .before .before .pre .1 .0 .asks) (c .before .before .before .before .before .before .before .loop .inv .0 .with _ (c .before .before .before .before .before .before .before .before .before .before .before .before .pre .1 .0 .asks)) .notes
+map-up-same-length-8 t c =
+    let entry = c .before .before .before .before .before .before .before .before .before .before .before .before in
+    gap-sizes _ _ _ _ _ _ _ _ (entry .pre .1 .0 .asks) (c .before .before .before .before .before .before .before .loop .inv .0 .with _
+    (entry .pre .1 .0 .asks)) .notes
 
 map-up-returns-2 : (t : ℕ) → map-up-lts.Need-returns-2 (
   map-up-below t,
@@ -223,7 +316,14 @@ map-up-returns-2 : (t : ℕ) → map-up-lts.Need-returns-2 (
   map-one-reads.Asked,
   map-one-reads.Learnt,
 ) (map-up-at t) map-up.Post map-up-Inv-loop map-up-μ-loop
-map-up-returns-2 t c = (record { with = λ x h. gap-kept _ _ _ _ _ _ _ _ _ h (c .before .before .before .before .before .before .before .loop .inv .0 .with x h) (c .before .before .before .before .before .if1 .left) ((global-word _ _ (c .before .before .before .global-of .ensures) ∙ ap globalWord (c .before .global .given .1))) }, c .before .before .before .before .before .before .before .loop .inv .1)
+map-up-returns-2 t c = (
+  record {
+    with = λ x h. gap-kept _ _ _ _ _ _ _ _ _ h (c .before .before .before .before .before .before .before .loop .inv .0 .with x h)
+        (c .before .before .before .before .before .if1 .left) ((global-word _ _ (c .before .before .before .global-of .ensures)
+        ∙ ap globalWord (c .before .global .given .1)));
+  },
+  c .before .before .before .before .before .before .before .loop .inv .1,
+)
 
 pub +map-up-spec : {M : Type 1} → statement M
 +map-up-spec = close μ-map-up λ t. map-up-lts.spec (

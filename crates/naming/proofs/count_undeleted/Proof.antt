@@ -36,8 +36,19 @@ loop-less : tie.Need-loop-less Inv-loop μ-loop
 loop-less c = search needs
 
 loop-again : tie.Need-loop-again Inv-loop μ-loop
-loop-again c = ⊎-elim (λ w. (omega arith, omega arith, undeleted-step _ _ _ _ (c .before .before .loop-test .taken) (c .before .before .before .loop .inv .2) (w .0 .taken) (w .1)))
-    (λ w. (omega arith, omega arith, undeleted-stay _ _ _ _ (c .before .before .loop-test .taken) (c .before .before .before .loop .inv .2) (w .0 .left) (w .1))) (c .if1 .came)
+loop-again c = ⊎-elim
+    (λ w. (
+      omega arith,
+      omega arith,
+      undeleted-step _ _ _ _ (c .before .before .loop-test .taken) (c .before .before .before .loop .inv .2) (w .0 .taken)
+          (w .1),
+    ))
+    (λ w. (
+      omega arith,
+      omega arith,
+      undeleted-stay _ _ _ _ (c .before .before .loop-test .taken) (c .before .before .before .loop .inv .2) (w .0 .left)
+          (w .1),
+    )) (c .if1 .came)
 
 returns : tie.Need-returns Inv-loop μ-loop
 returns c = count-end _ _ _ _ (c .before .loop .inv .2) (let x = c .before .loop .inv .0 in let y = c .loop-test .left in omega arith)

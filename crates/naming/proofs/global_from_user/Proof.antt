@@ -22,10 +22,21 @@ returns : tie.Need-returns
 returns c = map-refused _ _ _ _ _ (c .before .map-refusal .ensures) (c .if1 .taken)
 
 map-up-requires : tie.Need-map-up-requires
-map-up-requires c κs = (up-asks _ _ _ _ (map-asks _ _ _ _ _ (c .before .before .before .before .before .map-refusal .ensures) (c .before .before .before .before .if1 .left)), cursor-start _ _)
+map-up-requires c κs = (
+  up-asks _ _ _ _ (map-asks _ _ _ _ _ (c .before .before .before .before .before .map-refusal .ensures) (c .before .before .before .before .if1 .left)),
+  cursor-start _ _,
+)
 
 cast-t31 : tie.Need-cast-t31
-cast-t31 c = record { fits = notes-fit ((up-leaves _ _ _ _ _ _ _ _ _ _ _ (map-asks _ _ _ _ _ (c .before .before .before .before .before .before .before .before .before .before .before .before .before .before .before .before .before .map-refusal .ensures) (c .before .before .before .before .before .before .before .before .before .before .before .before .before .before .before .before .if1 .left)) (c .before .before .before .before .before .before .before .before .before .before .before .map-up .ensures .0)) .1) (map-few _ _ _ _ (map-asks _ _ _ _ _ (c .before .before .before .before .before .before .before .before .before .before .before .before .before .before .before .before .before .map-refusal .ensures) (c .before .before .before .before .before .before .before .before .before .before .before .before .before .before .before .before .if1 .left))) }
+cast-t31 c =
+    let at-map-up = c .before .before .before .before .before .before .before .before .before .before .before in
+    let at-if1 = at-map-up .before .before .before .before .before in
+    let at-map-refusal = at-if1 .before in
+    record {
+      fits = notes-fit
+          ((up-leaves _ _ _ _ _ _ _ _ _ _ _ (map-asks _ _ _ _ _ (at-map-refusal .map-refusal .ensures) (at-if1 .if1 .left)) (at-map-up .map-up .ensures .0)) .1)
+          (map-few _ _ _ _ (map-asks _ _ _ _ _ (at-map-refusal .map-refusal .ensures) (at-if1 .if1 .left)));
+    }
 
 same-length-4 : tie.Need-same-length-4
 same-length-4 c = search needs
@@ -40,7 +51,12 @@ same-length-7 : tie.Need-same-length-7
 same-length-7 c = search needs
 
 returns-2 : tie.Need-returns-2
-returns-2 c = map-done _ _ _ _ _ _ _ _ _ (c .before .before .before .before .before .before .before .before .before .before .before .before .before .before .before .before .before .map-refusal .ensures) (c .before .before .before .before .before .before .before .before .before .before .before .before .before .before .before .before .if1 .left) (up-leaves _ _ _ _ _ _ _ _ _ _ _ (map-asks _ _ _ _ _ (c .before .before .before .before .before .before .before .before .before .before .before .before .before .before .before .before .before .map-refusal .ensures) (c .before .before .before .before .before .before .before .before .before .before .before .before .before .before .before .before .if1 .left)) (c .before .before .before .before .before .before .before .before .before .before .before .map-up .ensures .0))
+returns-2 c =
+    let at-map-up = c .before .before .before .before .before .before .before .before .before .before .before in
+    let at-if1 = at-map-up .before .before .before .before .before in
+    let at-map-refusal = at-if1 .before in
+    map-done _ _ _ _ _ _ _ _ _ (at-map-refusal .map-refusal .ensures) (at-if1 .if1 .left)
+    (up-leaves _ _ _ _ _ _ _ _ _ _ _ (map-asks _ _ _ _ _ (at-map-refusal .map-refusal .ensures) (at-if1 .if1 .left)) (at-map-up .map-up .ensures .0))
 
 pub global-from-user-spec : {M : Type 1} → statement M
 global-from-user-spec =

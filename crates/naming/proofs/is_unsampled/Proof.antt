@@ -24,10 +24,12 @@ mul-result : tie.Need-mul-result
 mul-result c = search needs
 
 shared-slice-read-result : tie.Need-shared-slice-read-result
-shared-slice-read-result c = inside-below _ _ _ _ (c .before .before .before .before .before .before .before .before .pre) ((global-word _ _ (c .before .before .before .before .before .global-of .ensures) ∙ ap globalWord (c .before .before .before .g .given .1)))
+shared-slice-read-result c = inside-below _ _ _ _ (c .before .before .before .before .before .before .before .before .pre)
+    ((global-word _ _ (c .before .before .before .before .before .global-of .ensures) ∙ ap globalWord (c .before .before .before .g .given .1)))
 
 returns-2 : tie.Need-returns-2
-returns-2 c = unsampled-some _ _ _ _ (c .before .before .before .before .before .before .before .before .pre) ((global-word _ _ (c .before .before .before .before .before .global-of .ensures) ∙ ap globalWord (c .before .before .before .g .given .1)))
+returns-2 c = unsampled-some _ _ _ _ (c .before .before .before .before .before .before .before .before .pre)
+    ((global-word _ _ (c .before .before .before .before .before .global-of .ensures) ∙ ap globalWord (c .before .before .before .g .given .1)))
 
 pub is-unsampled-spec : {M : Type 1} → statement M
 is-unsampled-spec =

@@ -37,7 +37,27 @@ same-length-4 : tie.Need-same-length-4
 same-length-4 c = search needs
 
 returns : tie.Need-returns
-returns c = rw (← (c .before .before .before .before .before .before .before .before .before .before .before .before .before .global-for .ensures .0)) (refl, (c .before .before .before .before .map .ensures .0, (c .before .before .before .before .before .before .before .before .before .before .before .before .before .global-for .ensures .1, (refl, (c .before .before .before .before .map .ensures .1 .0, (c .before .before .before .before .map .ensures .1 .1, (refl, c .before .before .before .before .before .before .before .before .before .put-note .ensures)))))))
+returns c =
+    let at-global-for = c .before .before .before .before .before .before .before .before .before .before .before .before .before in
+    rw (← (at-global-for .global-for .ensures .0)) (
+      refl,
+      (
+        c .before .before .before .before .map .ensures .0,
+        (
+          at-global-for .global-for .ensures .1,
+          (
+            refl,
+            (
+              c .before .before .before .before .map .ensures .1 .0,
+              (
+                c .before .before .before .before .map .ensures .1 .1,
+                (refl, c .before .before .before .before .before .before .before .before .before .put-note .ensures),
+              ),
+            ),
+          ),
+        ),
+      ),
+    )
 
 pub map-one-spec : {M : Type 1} → statement M
 map-one-spec =

@@ -18,13 +18,19 @@ add-if2 : tie.Need-add-if2
 add-if2 c = let k = used-small _ _ (yes-of (c .before .before .is-sound .ensures) (c .before .if1 .left)) (c .count-undeleted .ensures) in omega arith
 
 returns-2 : tie.Need-returns-2
-returns-2 c = new-5 _ _ (yes-of (c .before .before .before .before .is-sound .ensures) (c .before .before .before .if1 .left)) _ (undeleted-is _ _ (yes-of (c .before .before .before .before .is-sound .ensures) (c .before .before .before .if1 .left)) (c .before .before .count-undeleted .ensures)) (omega arith)
+returns-2 c = new-5 _ _ (yes-of (c .before .before .before .before .is-sound .ensures) (c .before .before .before .if1 .left)) _
+    (undeleted-is _ _ (yes-of (c .before .before .before .before .is-sound .ensures) (c .before .before .before .if1 .left))
+    (c .before .before .count-undeleted .ensures)) (omega arith)
 
 returns-3 : tie.Need-returns-3
-returns-3 c = new-2 _ _ (yes-of (c .before .before .before .before .before .is-sound .ensures) (c .before .before .before .before .if1 .left)) _ (undeleted-is _ _ (yes-of (c .before .before .before .before .before .is-sound .ensures) (c .before .before .before .before .if1 .left)) (c .before .before .before .count-undeleted .ensures)) (omega arith) (c .if3 .taken)
+returns-3 c = new-2 _ _ (yes-of (c .before .before .before .before .before .is-sound .ensures) (c .before .before .before .before .if1 .left)) _
+    (undeleted-is _ _ (yes-of (c .before .before .before .before .before .is-sound .ensures) (c .before .before .before .before .if1 .left))
+    (c .before .before .before .count-undeleted .ensures)) (omega arith) (c .if3 .taken)
 
 returns-4 : tie.Need-returns-4
-returns-4 c = new-0 _ _ (yes-of (c .before .before .before .before .before .is-sound .ensures) (c .before .before .before .before .if1 .left)) _ (undeleted-is _ _ (yes-of (c .before .before .before .before .before .is-sound .ensures) (c .before .before .before .before .if1 .left)) (c .before .before .before .count-undeleted .ensures)) (omega arith) (c .if3 .left)
+returns-4 c = new-0 _ _ (yes-of (c .before .before .before .before .before .is-sound .ensures) (c .before .before .before .before .if1 .left)) _
+    (undeleted-is _ _ (yes-of (c .before .before .before .before .before .is-sound .ensures) (c .before .before .before .before .if1 .left))
+    (c .before .before .before .count-undeleted .ensures)) (omega arith) (c .if3 .left)
 
 pub new-user-refusal-spec : {M : Type 1} → statement M
 new-user-refusal-spec =

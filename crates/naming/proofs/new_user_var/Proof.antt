@@ -25,10 +25,25 @@ least-free-requires : tie.Need-least-free-requires
 least-free-requires c κs = ((new-asks _ _ _ (c .before .before .new-user-refusal .ensures) (c .before .if1 .left)) .marked, cursor-start _ _)
 
 map-up-requires : tie.Need-map-up-requires
-map-up-requires c κs = (up-asks _ _ _ _ (found-asks _ _ _ (new-asks _ _ _ (c .before .before .before .before .before .before .before .new-user-refusal .ensures) (c .before .before .before .before .before .before .if1 .left)) (c .before .before .before .before .least-free .ensures)), cursor-start _ _)
+map-up-requires c κs = (
+  up-asks _ _ _ _ (found-asks _ _ _ (new-asks _ _ _ (c .before .before .before .before .before .before .before .new-user-refusal .ensures)
+      (c .before .before .before .before .before .before .if1 .left)) (c .before .before .before .before .least-free .ensures)),
+  cursor-start _ _,
+)
 
 cast-t22 : tie.Need-cast-t22
-cast-t22 c = record { fits = notes-fit ((up-leaves _ _ _ _ _ _ _ _ _ _ _ (found-asks _ _ _ (new-asks _ _ _ (c .before .before .before .before .before .before .before .before .before .before .before .before .before .before .before .before .before .before .before .new-user-refusal .ensures) (c .before .before .before .before .before .before .before .before .before .before .before .before .before .before .before .before .before .before .if1 .left)) (c .before .before .before .before .before .before .before .before .before .before .before .before .before .before .before .before .least-free .ensures)) (c .before .before .before .before .before .before .before .before .before .before .before .map-up .ensures .0)) .1) (map-few _ _ _ _ (found-asks _ _ _ (new-asks _ _ _ (c .before .before .before .before .before .before .before .before .before .before .before .before .before .before .before .before .before .before .before .new-user-refusal .ensures) (c .before .before .before .before .before .before .before .before .before .before .before .before .before .before .before .before .before .before .if1 .left)) (c .before .before .before .before .before .before .before .before .before .before .before .before .before .before .before .before .least-free .ensures))) }
+cast-t22 c =
+    let at-map-up = c .before .before .before .before .before .before .before .before .before .before .before in
+    let at-least-free = at-map-up .before .before .before .before .before in
+    let at-if1 = at-least-free .before .before in
+    let at-new-user-refusal = at-if1 .before in
+    record {
+      fits = notes-fit
+          ((up-leaves _ _ _ _ _ _ _ _ _ _ _ (found-asks _ _ _ (new-asks _ _ _ (at-new-user-refusal .new-user-refusal .ensures) (at-if1 .if1 .left))
+          (at-least-free .least-free .ensures)) (at-map-up .map-up .ensures .0)) .1)
+          (map-few _ _ _ _ (found-asks _ _ _ (new-asks _ _ _ (at-new-user-refusal .new-user-refusal .ensures) (at-if1 .if1 .left))
+          (at-least-free .least-free .ensures)));
+    }
 
 same-length-4 : tie.Need-same-length-4
 same-length-4 c = search needs
@@ -43,7 +58,14 @@ same-length-7 : tie.Need-same-length-7
 same-length-7 c = search needs
 
 returns-2 : tie.Need-returns-2
-returns-2 c = new-done _ _ _ _ _ _ _ _ (c .before .before .before .before .before .before .before .before .before .before .before .before .before .before .before .before .before .before .before .new-user-refusal .ensures) (c .before .before .before .before .before .before .before .before .before .before .before .before .before .before .before .before .before .before .if1 .left) (c .before .before .before .before .before .before .before .before .before .before .before .before .before .before .before .before .least-free .ensures) (up-leaves _ _ _ _ _ _ _ _ _ _ _ (found-asks _ _ _ (new-asks _ _ _ (c .before .before .before .before .before .before .before .before .before .before .before .before .before .before .before .before .before .before .before .new-user-refusal .ensures) (c .before .before .before .before .before .before .before .before .before .before .before .before .before .before .before .before .before .before .if1 .left)) (c .before .before .before .before .before .before .before .before .before .before .before .before .before .before .before .before .least-free .ensures)) (c .before .before .before .before .before .before .before .before .before .before .before .map-up .ensures .0))
+returns-2 c =
+    let at-map-up = c .before .before .before .before .before .before .before .before .before .before .before in
+    let at-least-free = at-map-up .before .before .before .before .before in
+    let at-if1 = at-least-free .before .before in
+    let at-new-user-refusal = at-if1 .before in
+    new-done _ _ _ _ _ _ _ _ (at-new-user-refusal .new-user-refusal .ensures) (at-if1 .if1 .left) (at-least-free .least-free .ensures)
+    (up-leaves _ _ _ _ _ _ _ _ _ _ _ (found-asks _ _ _ (new-asks _ _ _ (at-new-user-refusal .new-user-refusal .ensures) (at-if1 .if1 .left))
+    (at-least-free .least-free .ensures)) (at-map-up .map-up .ensures .0))
 
 pub new-user-var-spec : {M : Type 1} → statement M
 new-user-var-spec =

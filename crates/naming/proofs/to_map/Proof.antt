@@ -18,7 +18,8 @@ gap-requires : tie.Need-gap-requires
 gap-requires c κs = search needs
 
 returns : tie.Need-returns
-returns c = c .gap .ensures ∙ sym (word-none _ _ _ ((global-word _ _ (c .before .before .before .global-of .ensures) ∙ ap globalWord (c .before .enum-told2 .given .1))))
+returns c = c .gap .ensures
+    ∙ sym (word-none _ _ _ ((global-word _ _ (c .before .before .before .global-of .ensures) ∙ ap globalWord (c .before .enum-told2 .given .1))))
 
 returns-2 : tie.Need-returns-2
 returns-2 c = sym (word-some _ _ _ _ ((global-word _ _ (c .before .before .global-of .ensures) ∙ ap globalWord (c .enum-told .given .1))))

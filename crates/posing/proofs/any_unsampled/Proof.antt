@@ -21,10 +21,16 @@ abbrev μ-loop : tie.MeasureT-loop
 μ-loop gu records lits sampling i₀ i = length lits - i
 
 returns : tie.Need-returns Inv-loop μ-loop
-returns c = sym (and-not-left (c .before .before .before .before .args .sampling) (anyOf (λ x. isUnsampled (c .before .before .before .before .args .gu .now) (c .before .before .before .before .args .records .now) (indexOf x)) (c .before .before .before .before .args .lits .now)) (not-true _ (c .if1 .taken)))
+returns c = sym (and-not-left (c .before .before .before .before .args .sampling)
+    (anyOf (λ x. isUnsampled (c .before .before .before .before .args .gu .now) (c .before .before .before .before .args .records .now) (indexOf x))
+    (c .before .before .before .before .args .lits .now)) (not-true _ (c .if1 .taken)))
 
 loop-holds : tie.Need-loop-holds Inv-loop μ-loop
-loop-holds c = (omega arith, any-start (λ x. isUnsampled (c .before .before .before .before .args .gu .now) (c .before .before .before .before .args .records .now) (indexOf x)) (c .before .before .before .before .args .lits .now))
+loop-holds c = (
+  omega arith,
+  any-start (λ x. isUnsampled (c .before .before .before .before .args .gu .now)
+      (c .before .before .before .before .args .records .now) (indexOf x)) (c .before .before .before .before .args .lits .now),
+)
 
 mul-t7 : tie.Need-mul-t7 Inv-loop μ-loop
 mul-t7 c = search needs
@@ -36,7 +42,15 @@ is-unsampled-requires : tie.Need-is-unsampled-requires Inv-loop μ-loop
 is-unsampled-requires c κs = search needs
 
 returns-2 : tie.Need-returns-2 Inv-loop μ-loop
-returns-2 c = asked (c .before .before .before .before .before .before .before .before .before .args .sampling) (anyOf (λ x. isUnsampled (c .before .before .before .before .before .before .before .before .before .args .gu .now) (c .before .before .before .before .before .before .before .before .before .args .records .now) (indexOf x)) (c .before .before .before .before .before .before .before .before .before .args .lits .now)) _ (not-false _ (c .before .before .before .before .before .if1 .left)) (sym (any-some (λ x. isUnsampled (c .before .before .before .before .before .before .before .before .before .args .gu .now) (c .before .before .before .before .before .before .before .before .before .args .records .now) (indexOf x)) (c .before .before .before .before .before .before .before .before .before .args .lits .now) _ 0 (c .before .before .before .loop-test .taken) (sym (c .before .is-unsampled .ensures) ∙ c .if2 .taken)))
+returns-2 c = asked (c .before .before .before .before .before .before .before .before .before .args .sampling)
+    (anyOf (λ x. isUnsampled (c .before .before .before .before .before .before .before .before .before .args .gu .now)
+    (c .before .before .before .before .before .before .before .before .before .args .records .now) (indexOf x))
+    (c .before .before .before .before .before .before .before .before .before .args .lits .now)) _
+    (not-false _ (c .before .before .before .before .before .if1 .left))
+    (sym (any-some (λ x. isUnsampled (c .before .before .before .before .before .before .before .before .before .args .gu .now)
+    (c .before .before .before .before .before .before .before .before .before .args .records .now) (indexOf x))
+    (c .before .before .before .before .before .before .before .before .before .args .lits .now) _ 0 (c .before .before .before .loop-test .taken)
+    (sym (c .before .is-unsampled .ensures) ∙ c .if2 .taken)))
 
 add-i : tie.Need-add-i Inv-loop μ-loop
 add-i c = search needs
@@ -45,10 +59,23 @@ loop-less : tie.Need-loop-less Inv-loop μ-loop
 loop-less c = search needs
 
 loop-again : tie.Need-loop-again Inv-loop μ-loop
-loop-again c = (let l = c .before .before .before .loop-test .taken in omega arith, any-step (λ x. isUnsampled (c .before .before .before .before .before .before .before .before .before .args .gu .now) (c .before .before .before .before .before .before .before .before .before .args .records .now) (indexOf x)) (c .before .before .before .before .before .before .before .before .before .args .lits .now) _ 0 (c .before .before .before .loop-test .taken) (c .before .before .before .before .loop .inv .1) (sym (c .before .is-unsampled .ensures) ∙ c .if2 .left))
+loop-again c = (
+  let l = c .before .before .before .loop-test .taken in
+      omega arith,
+  any-step (λ x. isUnsampled (c .before .before .before .before .before .before .before .before .before .args .gu .now)
+      (c .before .before .before .before .before .before .before .before .before .args .records .now) (indexOf x))
+      (c .before .before .before .before .before .before .before .before .before .args .lits .now) _ 0 (c .before .before .before .loop-test .taken)
+      (c .before .before .before .before .loop .inv .1) (sym (c .before .is-unsampled .ensures) ∙ c .if2 .left),
+)
 
 returns-3 : tie.Need-returns-3 Inv-loop μ-loop
-returns-3 c = asked (c .before .before .before .before .before .before .args .sampling) (anyOf (λ x. isUnsampled (c .before .before .before .before .before .before .args .gu .now) (c .before .before .before .before .before .before .args .records .now) (indexOf x)) (c .before .before .before .before .before .before .args .lits .now)) _ (not-false _ (c .before .before .if1 .left)) (sym (any-end (λ x. isUnsampled (c .before .before .before .before .before .before .args .gu .now) (c .before .before .before .before .before .before .args .records .now) (indexOf x)) (c .before .before .before .before .before .before .args .lits .now) _ (c .loop-test .left) (c .before .loop .inv .1)))
+returns-3 c = asked (c .before .before .before .before .before .before .args .sampling)
+    (anyOf (λ x. isUnsampled (c .before .before .before .before .before .before .args .gu .now)
+    (c .before .before .before .before .before .before .args .records .now) (indexOf x)) (c .before .before .before .before .before .before .args .lits .now)) _
+    (not-false _ (c .before .before .if1 .left))
+    (sym (any-end (λ x. isUnsampled (c .before .before .before .before .before .before .args .gu .now)
+    (c .before .before .before .before .before .before .args .records .now) (indexOf x)) (c .before .before .before .before .before .before .args .lits .now) _
+    (c .loop-test .left) (c .before .loop .inv .1)))
 
 pub any-unsampled-spec : {M : Type 1} → statement M
 any-unsampled-spec =

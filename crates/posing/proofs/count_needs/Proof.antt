@@ -26,16 +26,19 @@ cast-fresh : tie.Need-cast-fresh Inv-loop μ-loop
 cast-fresh c = let b = c .before .before .before .before .before .before .pre .1 .at _ (c .before .loop-test .taken) in omega arith
 
 array-read-fresh : tie.Need-array-read-fresh Inv-loop μ-loop
-array-read-fresh c = let b = c .before .before .before .before .before .before .pre .1 .at _ (c .before .loop-test .taken) in let z = c .before .before .loop .inv .0 in omega arith
+array-read-fresh c = let b = c .before .before .before .before .before .before .pre .1 .at _ (c .before .loop-test .taken) in
+    let z = c .before .before .loop .inv .0 in omega arith
 
 count-one-requires : tie.Need-count-one-requires Inv-loop μ-loop
-count-one-requires c κs = let b = c .before .before .before .before .before .before .pre .1 .at _ (c .before .loop-test .taken) in let s = counted-small _ _ _ _ _ _ _ (c .before .before .loop .inv .1) in (b, (s .0, s .1))
+count-one-requires c κs = let b = c .before .before .before .before .before .before .pre .1 .at _ (c .before .loop-test .taken) in
+    let s = counted-small _ _ _ _ _ _ _ (c .before .before .loop .inv .1) in (b, (s .0, s .1))
 
 cast-seen : tie.Need-cast-seen Inv-loop μ-loop
 cast-seen c = search needs
 
 array-write-seen : tie.Need-array-write-seen Inv-loop μ-loop
-array-write-seen c = let b = c .before .before .before .before .before .before .before .pre .1 .at _ (c .before .before .loop-test .taken) in let z = c .before .before .before .loop .inv .0 in omega arith
+array-write-seen c = let b = c .before .before .before .before .before .before .before .pre .1 .at _ (c .before .before .loop-test .taken) in
+    let z = c .before .before .before .loop .inv .0 in omega arith
 
 add-i : tie.Need-add-i Inv-loop μ-loop
 add-i c = search needs
@@ -44,7 +47,12 @@ loop-less : tie.Need-loop-less Inv-loop μ-loop
 loop-less c = search needs
 
 loop-again : tie.Need-loop-again Inv-loop μ-loop
-loop-again c = (simp length-set (c .before .before .before .loop .inv .0), counted-more _ _ _ _ _ _ _ _ (c .before .before .before .loop .inv .0) (c .before .before .before .before .before .before .before .pre .1) (c .before .before .loop-test .taken) (c .before .before .before .loop .inv .1) (c .count-one .ensures))
+loop-again c = (
+  simp length-set (c .before .before .before .loop .inv .0),
+  counted-more _ _ _ _ _ _ _ _ (c .before .before .before .loop .inv .0)
+      (c .before .before .before .before .before .before .before .pre .1) (c .before .before .loop-test .taken) (c .before .before .before .loop .inv .1)
+      (c .count-one .ensures),
+)
 
 returns : tie.Need-returns Inv-loop μ-loop
 returns c = counted-end _ _ _ _ _ _ _ (c .loop-test .left) (c .before .loop .inv .1)

@@ -21,7 +21,8 @@ solver-of-requires : tie.Need-solver-of-requires
 solver-of-requires c κs = search needs
 
 returns-2 : tie.Need-returns-2
-returns-2 c = held-some _ _ _ _ _ (global-word _ _ (c .before .before .before .before .global-of .ensures) ∙ ap globalWord (c .before .before .g .given .1)) (c .solver-of .ensures)
+returns-2 c = held-some _ _ _ _ _ (global-word _ _ (c .before .before .before .before .global-of .ensures) ∙ ap globalWord (c .before .before .g .given .1))
+    (c .solver-of .ensures)
 
 pub held-solver-spec : {M : Type 1} → statement M
 held-solver-spec =

@@ -27,10 +27,14 @@ enum-told-3 : tie.Need-enum-told-3
 enum-told-3 c = search needs
 
 returns-2 : tie.Need-returns-2
-returns-2 c = needs-free _ _ _ _ ((global-word _ _ (c .before .before .before .before .before .before .global-of .ensures) ∙ ap globalWord (c .before .before .before .before .g .given .1))) ((solver-word _ _ (c .before .before .solver-of .ensures) ∙ ap solverWord (c .enum-told3 .given .1)))
+returns-2 c = needs-free _ _ _ _ ((global-word _ _ (c .before .before .before .before .before .before .global-of .ensures)
+    ∙ ap globalWord (c .before .before .before .before .g .given .1)))
+    ((solver-word _ _ (c .before .before .solver-of .ensures) ∙ ap solverWord (c .enum-told3 .given .1)))
 
 returns-3 : tie.Need-returns-3
-returns-3 c = needs-held _ _ _ _ _ ((global-word _ _ (c .before .before .before .before .before .before .global-of .ensures) ∙ ap globalWord (c .before .before .before .before .g .given .1))) ((solver-word _ _ (c .before .before .solver-of .ensures) ∙ ap solverWord (c .enum-told2 .given .1)))
+returns-3 c = needs-held _ _ _ _ _ ((global-word _ _ (c .before .before .before .before .before .before .global-of .ensures)
+    ∙ ap globalWord (c .before .before .before .before .g .given .1)))
+    ((solver-word _ _ (c .before .before .solver-of .ensures) ∙ ap solverWord (c .enum-told2 .given .1)))
 
 pub needs-grant-spec : {M : Type 1} → statement M
 needs-grant-spec =

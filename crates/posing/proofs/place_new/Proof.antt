@@ -5,12 +5,19 @@ use Rattle.posing.proofs.place_new.Statement.{statement}
 use Rattle.posing.proofs.place_new.Tie as tie
 
 map-up-requires : tie.Need-map-up-requires
-map-up-requires c κs = (up-asks _ _ _ _ (place-map-asks _ _ _ _ (c .before .before .before .before .before .before .before .before .before .before .before .pre .0)), (c .before .before .before .before .before .before .before .before .before .before .before .pre .1 .global))
+map-up-requires c κs =
+    let entry = c .before .before .before .before .before .before .before .before .before .before .before in
+    (up-asks _ _ _ _ (place-map-asks _ _ _ _ (entry .pre .0)), (entry .pre .1 .global))
 
 grant-index-requires : tie.Need-grant-index-requires
 grant-index-requires c κs =
-    let m = (up-leaves _ _ _ _ _ _ _ _ _ _ _ (place-map-asks _ _ _ _ (c .before .before .before .before .before .before .before .before .before .before .before .before .before .before .before .before .before .before .before .before .before .before .before .before .before .before .before .pre .0)) (c .before .before .before .before .before .before .before .before .before .before .before .before .before .before .before .map-up .ensures .0)) in
-    (record { gu = _; ug = _; asks = place-grant-asks _ _ _ _ _ _ _ _ (c .before .before .before .before .before .before .before .before .before .before .before .before .before .before .before .before .before .before .before .before .before .before .before .before .before .before .before .pre .0) (m .0) (m .1) }, solver-ahead _ _ _ _ _ _ _ _ (c .before .before .before .before .before .before .before .before .before .before .before .before .before .before .before .before .before .before .before .before .before .before .before .before .before .before .before .pre .0) (m .1) (c .before .before .before .before .before .before .before .before .before .before .before .before .before .before .before .before .before .before .before .before .before .before .before .before .before .before .before .pre .1 .solver))
+    let at-map-up = c .before .before .before .before .before .before .before .before .before .before .before .before .before .before .before in
+    let entry = at-map-up .before .before .before .before .before .before .before .before .before .before .before .before in
+    let m = (up-leaves _ _ _ _ _ _ _ _ _ _ _ (place-map-asks _ _ _ _ (entry .pre .0)) (at-map-up .map-up .ensures .0)) in (
+      record { gu = _; ug = _; asks = place-grant-asks _ _ _ _ _ _ _ _ (entry .pre .0) (m .0) (m .1) },
+      solver-ahead _ _ _ _ _ _ _ _ (entry .pre .0) (m .1)
+          (entry .pre .1 .solver),
+    )
 
 same-length : tie.Need-same-length
 same-length c = search needs
@@ -35,10 +42,20 @@ same-length-7 c = search needs
 
 returns : tie.Need-returns
 returns c =
-    let m = (up-leaves _ _ _ _ _ _ _ _ _ _ _ (place-map-asks _ _ _ _ (c .before .before .before .before .before .before .before .before .before .before .before .before .before .before .before .before .before .before .before .before .before .before .before .before .before .before .before .before .before .before .before .before .before .before .before .before .before .before .pre .0)) (c .before .before .before .before .before .before .before .before .before .before .before .before .before .before .before .before .before .before .before .before .before .before .before .before .before .before .map-up .ensures .0)) in
-    let g = (c .before .before .before .before .before .before .before .before .before .before .grant-index .ensures .1 .0) _ _ in
-    let p = place-leaves _ _ _ _ _ _ _ _ _ _ _ _ (m .0) (m .1) ((c .before .before .before .before .before .before .before .before .before .before .grant-index .ensures .0) _ _) g in
-    (p .0, (p .1, global-ahead _ _ _ _ _ _ _ _ _ (place-grant-asks _ _ _ _ _ _ _ _ (c .before .before .before .before .before .before .before .before .before .before .before .before .before .before .before .before .before .before .before .before .before .before .before .before .before .before .before .before .before .before .before .before .before .before .before .before .before .before .pre .0) (m .0) (m .1)) g (c .before .before .before .before .before .before .before .before .before .before .before .before .before .before .before .before .before .before .before .before .before .before .before .before .before .before .map-up .ensures .1) (c .before .before .before .before .before .before .before .before .before .before .grant-index .ensures .1 .1)))
+    let at-grant-index = c .before .before .before .before .before .before .before .before .before .before in
+    let at-map-up = at-grant-index .before .before .before .before .before .before .before .before .before .before .before .before .before .before .before
+    .before in
+    let entry = at-map-up .before .before .before .before .before .before .before .before .before .before .before .before in
+    let m = (up-leaves _ _ _ _ _ _ _ _ _ _ _ (place-map-asks _ _ _ _ (entry .pre .0)) (at-map-up .map-up .ensures .0)) in
+    let g = (at-grant-index .grant-index .ensures .1 .0) _ _ in
+    let p = place-leaves _ _ _ _ _ _ _ _ _ _ _ _ (m .0) (m .1) ((at-grant-index .grant-index .ensures .0) _ _) g in (
+      p .0,
+      (
+        p .1,
+        global-ahead _ _ _ _ _ _ _ _ _ (place-grant-asks _ _ _ _ _ _ _ _ (entry .pre .0) (m .0) (m .1)) g (at-map-up .map-up .ensures .1)
+            (at-grant-index .grant-index .ensures .1 .1),
+      ),
+    )
 
 pub place-new-spec : {M : Type 1} → statement M
 place-new-spec =

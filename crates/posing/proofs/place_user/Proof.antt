@@ -1,6 +1,6 @@
 use mathlib.Core.Path.{_∙_, ap}
 use Rattle.table.proofs.FoundLaws.{solverWord, solver-word}
-use Rattle.posing.proofs.PlaceLaws.{held-leaves}
+use Rattle.posing.proofs.PlaceLaws.{place-held}
 use borrow.Author.Needs.{needs}
 use Rattle.posing.proofs.place_user.Statement.{statement}
 use Rattle.posing.proofs.place_user.Tie as tie
@@ -48,7 +48,10 @@ same-length-9 : tie.Need-same-length-9
 same-length-9 c = search needs
 
 returns-2 : tie.Need-returns-2
-returns-2 c = let p = held-leaves _ _ _ _ _ (solver-word _ _ (c .before .before .before .held-solver .ensures) ∙ ap solverWord (c .before .solver .given .1)) in (p .0, (p .1, (c .before .before .before .before .before .before .before .before .before .before .before .before .before .pre .1)))
+returns-2 c =
+    let entry = c .before .before .before .before .before .before .before .before .before .before .before .before .before in
+    let p = place-held _ _ _ _ _ (solver-word _ _ (c .before .before .before .held-solver .ensures) ∙ ap solverWord (c .before .solver .given .1)) in
+    (p .0, (p .1, (entry .pre .1)))
 
 pub place-user-spec : {M : Type 1} → statement M
 place-user-spec =

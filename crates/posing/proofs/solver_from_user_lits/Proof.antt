@@ -30,13 +30,27 @@ returns : tie.Need-returns
 returns c = pose-refused _ _ _ _ _ _ (c .before .pose-refusal .ensures) (c .if1 .taken)
 
 place-all-requires : tie.Need-place-all-requires
-place-all-requires c κs = (pose-asks _ _ _ _ _ _ (c .before .before .before .before .before .before .before .before .before .pose-refusal .ensures) (c .before .before .before .before .before .before .before .before .if1 .left))
+place-all-requires c κs =
+    (pose-asks _ _ _ _ _ _ (c .before .before .before .before .before .before .before .before .before .pose-refusal .ensures)
+    (c .before .before .before .before .before .before .before .before .if1 .left))
 
 cast-t46 : tie.Need-cast-t46
-cast-t46 c = let f = (pose-asks _ _ _ _ _ _ (c .before .before .before .before .before .before .before .before .before .before .before .before .before .before .before .before .before .before .before .before .before .before .before .before .before .before .before .pose-refusal .ensures) (c .before .before .before .before .before .before .before .before .before .before .before .before .before .before .before .before .before .before .before .before .before .before .before .before .before .before .if1 .left)) .few in omega arith
+cast-t46 c =
+    let at-if1 = c .before .before .before .before .before .before .before .before .before .before .before .before .before .before .before .before .before
+    .before .before .before .before .before .before .before .before .before in
+    let at-pose-refusal = at-if1 .before in
+    let f = (pose-asks _ _ _ _ _ _ (at-pose-refusal .pose-refusal .ensures) (at-if1 .if1 .left)) .few in omega arith
 
 cast-t47 : tie.Need-cast-t47
-cast-t47 c = record { fits = notes-fit (c .before .before .before .before .before .before .before .before .before .before .before .before .before .before .before .before .before .before .place-all .ensures .0) (pose-few _ _ _ _ (pose-asks _ _ _ _ _ _ (c .before .before .before .before .before .before .before .before .before .before .before .before .before .before .before .before .before .before .before .before .before .before .before .before .before .before .before .before .pose-refusal .ensures) (c .before .before .before .before .before .before .before .before .before .before .before .before .before .before .before .before .before .before .before .before .before .before .before .before .before .before .before .if1 .left))) }
+cast-t47 c =
+    let at-place-all = c .before .before .before .before .before .before .before .before .before .before .before .before .before .before .before .before .before
+    .before in
+    let at-if1 = at-place-all .before .before .before .before .before .before .before .before .before in
+    let at-pose-refusal = at-if1 .before in
+    record {
+      fits = notes-fit (at-place-all .place-all .ensures .0)
+          (pose-few _ _ _ _ (pose-asks _ _ _ _ _ _ (at-pose-refusal .pose-refusal .ensures) (at-if1 .if1 .left)));
+    }
 
 same-length-7 : tie.Need-same-length-7
 same-length-7 c = search needs
@@ -63,7 +77,12 @@ same-length-14 : tie.Need-same-length-14
 same-length-14 c = search needs
 
 returns-2 : tie.Need-returns-2
-returns-2 c = pose-done _ _ _ _ _ _ _ _ _ _ (c .before .before .before .before .before .before .before .before .before .before .before .before .before .before .before .before .before .before .before .before .before .before .before .before .before .before .before .before .pose-refusal .ensures) (c .before .before .before .before .before .before .before .before .before .before .before .before .before .before .before .before .before .before .before .before .before .before .before .before .before .before .before .if1 .left) (c .before .before .before .before .before .before .before .before .before .before .before .before .before .before .before .before .before .before .place-all .ensures)
+returns-2 c =
+    let at-place-all = c .before .before .before .before .before .before .before .before .before .before .before .before .before .before .before .before .before
+    .before in
+    let at-if1 = at-place-all .before .before .before .before .before .before .before .before .before in
+    let at-pose-refusal = at-if1 .before in
+    pose-done _ _ _ _ _ _ _ _ _ _ (at-pose-refusal .pose-refusal .ensures) (at-if1 .if1 .left) (at-place-all .place-all .ensures)
 
 pub solver-from-user-lits-spec : {M : Type 1} → statement M
 solver-from-user-lits-spec =

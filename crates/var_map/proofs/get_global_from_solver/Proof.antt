@@ -1,7 +1,7 @@
 use Rattle.scope.specs.Lookup.{globalFromSolverOf}
 use mathlib.Core.Path.{sym, _∙_}
 use Rattle.table.proofs.FoundLaws.{global-word}
-use Rattle.var_map.proofs.LookupLaws.{refused-1, told, beyond, none, one}
+use Rattle.var_map.proofs.LookupLaws.{lookup-1, lookup-told, lookup-beyond, lookup-none, lookup-one}
 use borrow.Author.Needs.{needs}
 use Rattle.var_map.proofs.get_global_from_solver.Statement.{statement}
 use Rattle.var_map.proofs.get_global_from_solver.Tie as tie
@@ -11,12 +11,12 @@ is-sound-requires c κs = search needs
 
 returns : tie.Need-returns
 unfolding globalFromSolverOf
-returns c = refused-1 _ _ _ _ (c .before .is-sound .ensures) (c .if1 .taken)
+returns c = lookup-1 _ _ _ _ (c .before .is-sound .ensures) (c .if1 .taken)
 
 returns-2 : tie.Need-returns-2
 unfolding globalFromSolverOf
 returns-2 c =
-    told _ _ _ _ _ (c .before .before .before .before .is-sound .ensures) (c .before .before .before .if1 .left) (beyond _ _ _ (c .if2 .taken))
+    lookup-told _ _ _ _ _ (c .before .before .before .before .is-sound .ensures) (c .before .before .before .if1 .left) (lookup-beyond _ _ _ (c .if2 .taken))
 
 holder-requires : tie.Need-holder-requires
 holder-requires c κs = search needs
@@ -30,12 +30,17 @@ enum-told c = search needs
 returns-3 : tie.Need-returns-3
 unfolding globalFromSolverOf
 returns-3 c =
-    told _ _ _ _ _ (c .before .before .before .before .before .before .before .is-sound .ensures) (c .before .before .before .before .before .before .if1 .left) (none _ _ _ (c .before .before .before .if2 .left) (global-word _ _ (sym (c .enum-told .given .1) ∙ (c .before .before .holder .ensures))))
+    lookup-told _ _ _ _ _ (c .before .before .before .before .before .before .before .is-sound .ensures)
+    (c .before .before .before .before .before .before .if1 .left)
+    (lookup-none _ _ _ (c .before .before .before .if2 .left) (global-word _ _ (sym (c .enum-told .given .1) ∙ (c .before .before .holder .ensures))))
 
 returns-4 : tie.Need-returns-4
 unfolding globalFromSolverOf
 returns-4 c =
-    told _ _ _ _ _ (c .before .before .before .before .before .before .before .before .is-sound .ensures) (c .before .before .before .before .before .before .before .if1 .left) (one _ _ _ _ (c .before .before .before .before .if2 .left) (global-word _ _ (sym (c .before .found .given .1) ∙ (c .before .before .before .holder .ensures))))
+    lookup-told _ _ _ _ _ (c .before .before .before .before .before .before .before .before .is-sound .ensures)
+    (c .before .before .before .before .before .before .before .if1 .left)
+    (lookup-one _ _ _ _ (c .before .before .before .before .if2 .left)
+    (global-word _ _ (sym (c .before .found .given .1) ∙ (c .before .before .before .holder .ensures))))
 
 pub get-global-from-solver-spec : {M : Type 1} → statement M
 get-global-from-solver-spec =

@@ -1,5 +1,5 @@
 use Rattle.scope.specs.Lookup.{recordWordOf}
-use Rattle.var_map.proofs.LookupLaws.{refused-1, told, no-word, a-word, record-word}
+use Rattle.var_map.proofs.LookupLaws.{lookup-1, lookup-told, no-word, a-word, record-word}
 use borrow.Author.Needs.{needs}
 use Rattle.var_map.proofs.get_record.Statement.{statement}
 use Rattle.var_map.proofs.get_record.Tie as tie
@@ -9,12 +9,12 @@ is-sound-requires c κs = search needs
 
 returns : tie.Need-returns
 unfolding recordWordOf
-returns c = refused-1 _ _ _ _ (c .before .is-sound .ensures) (c .if1 .taken)
+returns c = lookup-1 _ _ _ _ (c .before .is-sound .ensures) (c .if1 .taken)
 
 returns-2 : tie.Need-returns-2
 unfolding recordWordOf
 returns-2 c =
-    told _ _ _ _ _ (c .before .before .before .before .is-sound .ensures) (c .before .before .before .if1 .left) (no-word _ _ _ (c .if2 .taken))
+    lookup-told _ _ _ _ _ (c .before .before .before .before .is-sound .ensures) (c .before .before .before .if1 .left) (no-word _ _ _ (c .if2 .taken))
 
 word-at-requires : tie.Need-word-at-requires
 word-at-requires c κs = search needs
@@ -22,7 +22,9 @@ word-at-requires c κs = search needs
 returns-3 : tie.Need-returns-3
 unfolding recordWordOf
 returns-3 c =
-    told _ _ _ _ _ (c .before .before .before .before .before .is-sound .ensures) (c .before .before .before .before .if1 .left) (a-word _ _ _ _ (c .before .if2 .left) (record-word _ _ _ _ (c .before .before .before .before .before .is-sound .ensures) (c .before .before .before .before .if1 .left) (c .before .if2 .left) (c .word-at .ensures)))
+    lookup-told _ _ _ _ _ (c .before .before .before .before .before .is-sound .ensures) (c .before .before .before .before .if1 .left)
+    (a-word _ _ _ _ (c .before .if2 .left) (record-word _ _ _ _ (c .before .before .before .before .before .is-sound .ensures)
+    (c .before .before .before .before .if1 .left) (c .before .if2 .left) (c .word-at .ensures)))
 
 pub get-record-spec : {M : Type 1} → statement M
 get-record-spec =

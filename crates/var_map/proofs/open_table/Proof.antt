@@ -65,7 +65,15 @@ same-length-12 c = search needs
 
 returns-2 : tie.Need-returns-2
 returns-2 c =
-    opened-empty _ _ _ _ _ _ _ _ _ _ _ _ _ _ (c .before .before .before .before .before .before .before .before .before .before .before .before .before .before .before .before .before .before .before .before .before .before .before .before .before .sizes-ok .ensures) (c .before .before .before .before .before .before .before .before .before .before .before .before .before .before .before .before .before .before .before .before .before .before .before .before .if1 .left) (c .before .before .before .before .before .before .before .before .before .before .before .before .before .before .before .before .before .before .before .before .before .before .blank .ensures) (c .before .before .before .before .before .before .before .before .before .before .before .before .before .before .before .before .before .before .blank2 .ensures) (c .before .before .before .before .before .before .before .before .before .before .before .before .before .before .blank3 .ensures) (c .before .before .before .before .before .before .before .before .before .before .blank4 .ensures) (c .before .before .before .before .before .before .blank5 .ensures) (c .before .before .blank6 .ensures)
+    let at-blank4 = c .before .before .before .before .before .before .before .before .before .before in
+    let at-blank3 = at-blank4 .before .before .before .before in
+    let at-blank2 = at-blank3 .before .before .before .before in
+    let at-blank = at-blank2 .before .before .before .before in
+    let at-if1 = at-blank .before .before in
+    let at-sizes-ok = at-if1 .before in
+    opened-empty _ _ _ _ _ _ _ _ _ _ _ _ _ _ (at-sizes-ok .sizes-ok .ensures) (at-if1 .if1 .left) (at-blank .blank .ensures) (at-blank2 .blank2 .ensures)
+    (at-blank3 .blank3 .ensures) (at-blank4 .blank4 .ensures) (c .before .before .before .before .before .before .blank5 .ensures)
+    (c .before .before .blank6 .ensures)
 
 pub open-table-spec : {M : Type 1} → statement M
 open-table-spec =
