@@ -16,12 +16,14 @@ use Rattle.answers.specs.Surface.{located, measured, Given}
 use Rattle.answers.specs.Flat.{Numbered}
 
 -- an answer, by what it is
-pub numbered-by : {said said' : Said} {layout : Answer → List ℕ} {ns : List ℕ} {d : Counts} → said ≡ said' → ns ≡ layout (said' .answer) → d ≡ said' .counts → Numbered said layout ns d
+pub numbered-by : {said said' : Said} {layout : Answer → List ℕ} {ns : List ℕ} {d : Counts} → said ≡ said' → ns ≡ layout (said' .answer) → d ≡ said' .counts
+    → Numbered said layout ns d
 numbered-by {layout = layout} e n h =
     record { fields = n ∙ sym (ap (λ (s : Said). layout (s .answer)) e); counts = h ∙ sym (ap (λ (s : Said). s .counts) e) }
 
 -- What a call does, with its answer told in numbers.
-pub numbered-given : {o : Outcome} {said : Said} {layout : Answer → List ℕ} {ns : List ℕ} {d : Counts} {gu ug sg gs a r words words' : List ℕ} → Does o said (tableOf (said .counts) gu ug sg gs a r) words words' → Numbered said layout ns d → Given o layout ns (tableOf d gu ug sg gs a r) words words'
+pub numbered-given : {o : Outcome} {said : Said} {layout : Answer → List ℕ} {ns : List ℕ} {d : Counts} {gu ug sg gs a r words words' : List ℕ}
+    → Does o said (tableOf (said .counts) gu ug sg gs a r) words words' → Numbered said layout ns d → Given o layout ns (tableOf d gu ug sg gs a r) words words'
 numbered-given {layout = layout} {gu = gu} {ug = ug} {sg = sg} {gs = gs} {a = a} {r = r} does told =
     record {
       fields = told .fields ∙ ap layout (does .answer);
@@ -30,14 +32,21 @@ numbered-given {layout = layout} {gu = gu} {ug = ug} {sg = sg} {gs = gs} {a = a}
     }
 
 -- nothing is done
-pub refused-given : {n : ℕ} {layout : Answer → List ℕ} {ns : List ℕ} {t : Table} {words : List ℕ} → ns ≡ layout (refused n []) → Given (refusal n t) layout ns t words words
+pub refused-given : {n : ℕ} {layout : Answer → List ℕ} {ns : List ℕ} {t : Table} {words : List ℕ} → ns ≡ layout (refused n [])
+    → Given (refusal n t) layout ns t words words
 unfolding notesWords
 refused-given e = record { fields = e; table = refl; noted = refl }
 
 -- the same outcome, told in numbers
-pub same-given : {o o' : Outcome} {layout : Answer → List ℕ} {ns : List ℕ} {left : Table} {words words' : List ℕ} → o' ≡ o → Given o layout ns left words words' → Given o' layout ns left words words'
+pub same-given : {o o' : Outcome} {layout : Answer → List ℕ} {ns : List ℕ} {left : Table} {words words' : List ℕ} → o' ≡ o → Given o layout ns left words words'
+    → Given o' layout ns left words words'
 same-given {layout = layout} {ns = ns} {left = left} {words = words} {words' = words'} e g =
     subst (λ (o : Outcome). Given o layout ns left words words') (sym e) g
+
+-- a call that is a refusal and is lent no words for notes
+pub quiet-refused : {o : Outcome} {n : ℕ} {layout : Answer → List ℕ} {ns : List ℕ} {t : Table} → o ≡ refusal n t → ns ≡ layout (refused n [])
+    → Given o layout ns t [] []
+quiet-refused e h = same-given e (refused-given h)
 
 -- another word for the first value
 pub second-same : {k n m : ℕ} {ns : List ℕ} → n ≡ m → k ∷ n ∷ ns ≡ k ∷ m ∷ ns

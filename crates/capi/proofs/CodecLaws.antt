@@ -27,7 +27,8 @@ same-numbers layout e h = h ∙ sym (ap layout e)
 -- ---- the writer of one clause
 
 module _ (format kind : ℕ) (buf : List ℕ) (a b room at : ℕ) where
-  pub write-clause-is : {f : Format} {k : Kind} → formatFor format ≡ known f → kindFor kind ≡ known k → writeClauseAt format kind buf a b room at ≡ writeOf f k buf a b room at
+  pub write-clause-is : {f : Format} {k : Kind} → formatFor format ≡ known f → kindFor kind ≡ known k
+      → writeClauseAt format kind buf a b room at ≡ writeOf f k buf a b room at
   unfolding writeClauseAt
   write-clause-is e g = known-is _ _ e ∙ known-is _ _ g
 
@@ -91,7 +92,8 @@ first-length [] = refl
 first-length (b ∷ l) = refl
 
 -- the part answered is the first so many bytes
-pub first-taken : (f : Format) (l s : List ℕ) {k p n : ℕ} → first l ≡ firstOf f s → k ∷ p ∷ n ∷ [] ≡ located 1 (measured (first l)) → take n s ≡ partOf (firstOf f s)
+pub first-taken : (f : Format) (l s : List ℕ) {k p n : ℕ} → first l ≡ firstOf f s → k ∷ p ∷ n ∷ [] ≡ located 1 (measured (first l))
+    → take n s ≡ partOf (firstOf f s)
 first-taken f l s h g =
     let e = ap (λ (ns : List ℕ). getD ns 2 0) g ∙ first-length l in
     ap (λ (n : ℕ). take n s) e ∙ part-taken l s (oneStep f 0 s) (part-is l ∙ ap partOf h)

@@ -19,7 +19,8 @@ use Rattle.capi.specs.Lines.{stepGiven, renameAt, writeAt, simplifyAt}
 use Rattle.numbers.proofs.NumberLaws.{known-is, unknown-is}
 
 module _ (format : ℕ) (step : HzStep) (t : Table) (solverVars : Bool) (lits hashes : List ℕ) (room : ℕ) where
-  pub write-is : {f : Format} {s : ProofStep} → formatFor format ≡ known f → stepGiven step ≡ known s → writeAt format step t solverVars lits hashes room ≡ writeOf f t s solverVars lits hashes room
+  pub write-is : {f : Format} {s : ProofStep} → formatFor format ≡ known f → stepGiven step ≡ known s
+      → writeAt format step t solverVars lits hashes room ≡ writeOf f t s solverVars lits hashes room
   unfolding writeAt
   write-is e g = known-is _ _ e ∙ known-is _ _ g
 
@@ -27,12 +28,14 @@ module _ (format : ℕ) (step : HzStep) (t : Table) (solverVars : Bool) (lits ha
   unfolding writeAt
   no-write-format e = unknown-is _ _ e
 
-  pub no-write-step : {f : Format} → formatFor format ≡ known f → stepGiven step ≡ unknown → writeAt format step t solverVars lits hashes room ≡ refusal 4294967295 t
+  pub no-write-step : {f : Format} → formatFor format ≡ known f → stepGiven step ≡ unknown
+      → writeAt format step t solverVars lits hashes room ≡ refusal 4294967295 t
   unfolding writeAt
   no-write-step e g = known-is _ _ e ∙ unknown-is _ _ g
 
 module _ (step : HzStep) (t : Table) (solverVars : Bool) (lits hashes : List ℕ) (outs hashOuts : ℕ) where
-  pub rename-is : {s : ProofStep} → stepGiven step ≡ known s → renameAt step t solverVars lits hashes outs hashOuts ≡ renameOf t s solverVars lits hashes outs hashOuts
+  pub rename-is : {s : ProofStep} → stepGiven step ≡ known s
+      → renameAt step t solverVars lits hashes outs hashOuts ≡ renameOf t s solverVars lits hashes outs hashOuts
   unfolding renameAt
   rename-is e = known-is _ _ e
 
@@ -50,17 +53,22 @@ module _ (format : ℕ) (t : Table) (lits : List ℕ) (redundant : Bool) (outs r
   no-simplify-format e = unknown-is _ _ e
 
 -- with the step's words after the two values
-stepped-numbers : (k : ℕ) (t : Table) (o : Outcome) {p n m a b : ℕ} {ws : List ℕ} → o .answer ≡ accepted (a ∷ b ∷ ws) → p ∷ n ∷ m ∷ [] ≡ stepless (unless k t o .answer) → p ∷ n ∷ m ∷ ws ≡ stepped ws (unless k t o .answer)
+stepped-numbers : (k : ℕ) (t : Table) (o : Outcome) {p n m a b : ℕ} {ws : List ℕ} → o .answer ≡ accepted (a ∷ b ∷ ws)
+    → p ∷ n ∷ m ∷ [] ≡ stepless (unless k t o .answer) → p ∷ n ∷ m ∷ ws ≡ stepped ws (unless k t o .answer)
 unfolding unless
 stepped-numbers zero t o {ws = ws} e h = ap (λ (l : List ℕ). l ++ ws) (h ∙ ap stepless e) ∙ sym (ap (stepped ws) e)
 stepped-numbers (suc k) t o {ws = ws} e h = ap (λ (l : List ℕ). l ++ ws) h
 
 -- Rename gives the step back as it was given.
-pub stepped-given : (t : Table) (s : ProofStep) (solverVars : Bool) (lits hashes : List ℕ) (outs hashOuts : ℕ) {k n m : ℕ} {us vs : List ℕ} {left : Table} {words words' : List ℕ} → stepWords s ≡ us → stepWords s ≡ vs → Given (renameOf t s solverVars lits hashes outs hashOuts) stepless (k ∷ n ∷ m ∷ []) left words words' → Given (renameOf t s solverVars lits hashes outs hashOuts) (stepped vs) (k ∷ n ∷ m ∷ us) left words words'
+pub stepped-given : (t : Table) (s : ProofStep) (solverVars : Bool) (lits hashes : List ℕ) (outs hashOuts : ℕ) {k n m : ℕ} {us vs : List ℕ} {left : Table}
+    {words words' : List ℕ} → stepWords s ≡ us → stepWords s ≡ vs
+    → Given (renameOf t s solverVars lits hashes outs hashOuts) stepless (k ∷ n ∷ m ∷ []) left words words'
+    → Given (renameOf t s solverVars lits hashes outs hashOuts) (stepped vs) (k ∷ n ∷ m ∷ us) left words words'
 unfolding renameOf
 stepped-given t s solverVars lits hashes outs hashOuts {k = k} {n = n} {m = m} e g h =
     record {
-      fields = ap (λ (us : List ℕ). k ∷ n ∷ m ∷ us) (sym e) ∙ stepped-numbers _ _ _ refl (h .fields) ∙ ap (λ (vs : List ℕ). stepped vs (renameOf t s solverVars lits hashes outs hashOuts .answer)) g;
+      fields = ap (λ (us : List ℕ). k ∷ n ∷ m ∷ us) (sym e) ∙ stepped-numbers _ _ _ refl (h .fields)
+          ∙ ap (λ (vs : List ℕ). stepped vs (renameOf t s solverVars lits hashes outs hashOuts .answer)) g;
       table = h .table;
       noted = h .noted;
     }

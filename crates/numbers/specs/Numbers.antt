@@ -18,7 +18,8 @@ use Rattle.scope.specs.declared.SolverName.the-variants as S
 use Rattle.scope.specs.declared.UserName.{UserName}
 use Rattle.scope.specs.declared.UserName.the-variants as U
 use Rattle.scope.specs.declared.ProofStep.{ProofStep}
-use Rattle.scope.specs.declared.ProofStep.the-variants.{AddClause, AtClause, UnitClauses, DeleteClause, Model, Assumptions, FailedAssumptions, SolverVarName, UserVarName, DeleteVar, ChangeSamplingMode, ChangeHashBits, End}
+use Rattle.scope.specs.declared.ProofStep.the-variants.{AddClause, AtClause, UnitClauses, DeleteClause, Model, Assumptions, FailedAssumptions, SolverVarName}
+use Rattle.scope.specs.declared.ProofStep.the-variants.{UserVarName, DeleteVar, ChangeSamplingMode, ChangeHashBits, End}
 use Rattle.scope.specs.declared.Global.{Global}
 use Rattle.scope.specs.Table.{Table, word}
 use Rattle.scope.specs.Outcome.{Outcome, refusal}
@@ -68,8 +69,8 @@ delete unknown = unknown
 abbrev pub flagFor : ℕ → Bool
 flagFor n = not (eqb n 0)
 
-abbrev pub globalFor : ℕ → Global
-globalFor n = record { 0 = n }
+abbrev pub globalAt : ℕ → Global
+globalAt n = record { 0 = n }
 
 -- a name by its word: index + 1, or 0 where it is withdrawn
 abbrev pub solverNameFor : ℕ → SolverName
@@ -88,9 +89,9 @@ stepFor k a b =
     (pick (eqb k 4) (known Model)
     (pick (eqb k 5) (known Assumptions)
     (pick (eqb k 6) (known FailedAssumptions)
-    (pick (eqb k 7) (known (SolverVarName (globalFor a) (solverNameFor b)))
-    (pick (eqb k 8) (known (UserVarName (globalFor a) (userNameFor b)))
-    (pick (eqb k 9) (known (DeleteVar (globalFor a)))
-    (pick (eqb k 10) (known (ChangeSamplingMode (globalFor a) (flagFor b)))
+    (pick (eqb k 7) (known (SolverVarName (globalAt a) (solverNameFor b)))
+    (pick (eqb k 8) (known (UserVarName (globalAt a) (userNameFor b)))
+    (pick (eqb k 9) (known (DeleteVar (globalAt a)))
+    (pick (eqb k 10) (known (ChangeSamplingMode (globalAt a) (flagFor b)))
     (pick (eqb k 11) (known (ChangeHashBits a))
     (pick (eqb k 12) (known End) unknown))))))))))))

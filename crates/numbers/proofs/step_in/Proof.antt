@@ -3,7 +3,7 @@ use mathlib.Core.Path.{sym, ap, _∙_}
 use Rattle.scope.specs.declared.SolverName.{SolverName}
 use Rattle.scope.specs.declared.UserName.{UserName}
 use Rattle.scope.specs.declared.ProofStep.the-variants.{SolverVarName, UserVarName}
-use Rattle.numbers.specs.Numbers.{known, globalFor, stepFor}
+use Rattle.numbers.specs.Numbers.{known, globalAt, stepFor}
 use Rattle.numbers.proofs.NumberLaws.{no-step}
 use borrow.Author.Needs.{needs}
 use Rattle.numbers.proofs.step_in.Statement.{statement}
@@ -32,7 +32,8 @@ returns-3 c = sym (ap (λ (n : ℕ). stepFor n (c .before .args .step .a) (c .be
 
 returns-4 : tie.Need-returns-4
 unfolding stepFor
-returns-4 c = c .delete-in .ensures ∙ sym (ap (λ (n : ℕ). stepFor n (c .before .before .args .step .a) (c .before .before .args .step .b)) (c .before .match .keys4))
+returns-4 c = c .delete-in .ensures ∙ sym (ap (λ (n : ℕ). stepFor n (c .before .before .args .step .a) (c .before .before .args .step .b))
+    (c .before .match .keys4))
 
 returns-5 : tie.Need-returns-5
 unfolding stepFor
@@ -50,13 +51,15 @@ returns-8 : tie.Need-returns-8
 unfolding stepFor
 returns-8 c =
     let a = c .before .before .args .step in
-    ap (λ (n : SolverName). known (SolverVarName (globalFor (a .a)) n)) (c .solver-name-in .ensures) ∙ sym (ap (λ (n : ℕ). stepFor n (a .a) (a .b)) (c .before .match .keys8))
+    ap (λ (n : SolverName). known (SolverVarName (globalAt (a .a)) n)) (c .solver-name-in .ensures)
+    ∙ sym (ap (λ (n : ℕ). stepFor n (a .a) (a .b)) (c .before .match .keys8))
 
 returns-9 : tie.Need-returns-9
 unfolding stepFor
 returns-9 c =
     let a = c .before .before .args .step in
-    ap (λ (n : UserName). known (UserVarName (globalFor (a .a)) n)) (c .user-name-in .ensures) ∙ sym (ap (λ (n : ℕ). stepFor n (a .a) (a .b)) (c .before .match .keys9))
+    ap (λ (n : UserName). known (UserVarName (globalAt (a .a)) n)) (c .user-name-in .ensures)
+    ∙ sym (ap (λ (n : ℕ). stepFor n (a .a) (a .b)) (c .before .match .keys9))
 
 returns-10 : tie.Need-returns-10
 unfolding stepFor

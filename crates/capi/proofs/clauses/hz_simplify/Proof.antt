@@ -3,7 +3,7 @@ use lib.ListN.{length}
 use Rattle.scope.specs.Table.{Table, tableOf}
 use Rattle.scope.specs.Outcome.{Outcome}
 use Rattle.numbers.specs.Meant.{meantFormat}
-use Rattle.answers.proofs.SurfaceLaws.{same-given, refused-given, numbered-given}
+use Rattle.answers.proofs.SurfaceLaws.{same-given, quiet-refused, numbered-given}
 use Rattle.capi.proofs.CodecLaws.{filled-same}
 use Rattle.capi.proofs.LineLaws.{simplify-is, no-simplify-format}
 use borrow.Author.Needs.{needs}
@@ -21,10 +21,18 @@ enum-told c = search needs
 
 returns : tie.Need-returns
 returns c =
-    let a = c .before .before .before .before .before .before .before .before .before .before .before .before .args in
+    let entry = c .before .before .before .before .before .before .before .before .before .before .before .before in
+    let a = entry .args in
     let t : Table = tableOf (a .c) (a .gu .now) (a .ug .now) (a .sg .now) (a .gs .now) (a .assignment .now) (a .records .now) in
-    let e = no-simplify-format (a .format) t (a .lits .now) (a .redundant) (length (a .out .now)) (length (a .bytes .now)) (sym (c .before .before .format-in .ensures) ∙ ap meantFormat (c .enum-told .given .1)) in
-    (same-given e (refused-given refl), (filled-same (a .out .now) 0 (ap (λ (o : Outcome). o .words) e) refl, filled-same (a .bytes .now) 0 (ap (λ (o : Outcome). o .bytes) e) refl))
+    let e = no-simplify-format (a .format) t (a .lits .now) (a .redundant) (length (a .out .now)) (length (a .bytes .now))
+    (sym (c .before .before .format-in .ensures) ∙ ap meantFormat (c .enum-told .given .1)) in (
+      quiet-refused e refl,
+      (
+        filled-same (a .out .now) 0 (ap (λ (o : Outcome). o .words) e) refl,
+        filled-same (a .bytes .now) 0
+            (ap (λ (o : Outcome). o .bytes) e) refl,
+      ),
+    )
 
 simplify-clause-requires : tie.Need-simplify-clause-requires
 simplify-clause-requires c κs = search needs
@@ -40,10 +48,13 @@ same-length-2 c = search needs
 
 returns-2 : tie.Need-returns-2
 returns-2 c =
-    let a = c .before .before .before .before .before .before .before .before .before .before .before .before .before .before .before .before .before .before .before .before .before .args in
+    let at-format-in = c .before .before .before .before .before .before .before .before .before .before .before in
+    let entry = at-format-in .before .before .before .before .before .before .before .before .before .before in
+    let a = entry .args in
     let t : Table = tableOf (a .c) (a .gu .now) (a .ug .now) (a .sg .now) (a .gs .now) (a .assignment .now) (a .records .now) in
     let w = c .before .before .before .before .before .simplify-clause .ensures in
-    let e = simplify-is (a .format) t (a .lits .now) (a .redundant) (length (a .out .now)) (length (a .bytes .now)) (sym (c .before .before .before .before .before .before .before .before .before .before .before .format-in .ensures) ∙ ap meantFormat (c .before .before .before .before .before .before .before .before .before .f .given .1)) in (
+    let e = simplify-is (a .format) t (a .lits .now) (a .redundant) (length (a .out .now)) (length (a .bytes .now))
+    (sym (at-format-in .format-in .ensures) ∙ ap meantFormat (c .before .before .before .before .before .before .before .before .before .f .given .1)) in (
       same-given e (numbered-given (w .0) (c .reduced-out .ensures _)),
       (filled-same (a .out .now) 0 (ap (λ (o : Outcome). o .words) e) (w .1 .0), filled-same (a .bytes .now) 0 (ap (λ (o : Outcome). o .bytes) e) (w .1 .1)),
     )

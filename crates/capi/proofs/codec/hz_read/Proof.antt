@@ -20,7 +20,8 @@ enum-told c = search needs
 returns : tie.Need-returns
 returns c =
     let a = c .before .before .before .before .before .before .before .args in
-    let e = no-read-format (a .format) (a .bytes .now) (length (a .codes .now)) (length (a .ends .now)) (length (a .kinds .now)) (sym (c .before .before .format-in .ensures) ∙ ap meantFormat (c .enum-told .given .1)) in (
+    let e = no-read-format (a .format) (a .bytes .now) (length (a .codes .now)) (length (a .ends .now)) (length (a .kinds .now))
+    (sym (c .before .before .format-in .ensures) ∙ ap meantFormat (c .enum-told .given .1)) in (
       same-numbers (located 2) (ap (λ (w : Filling). w .answer) e) refl,
       (
         filled-same (a .codes .now) 0 (ap (λ (w : Filling). w .codes) e) refl,
@@ -48,9 +49,13 @@ same-length-3 c = search needs
 
 returns-2 : tie.Need-returns-2
 returns-2 c =
-    let a = c .before .before .before .before .before .before .before .before .before .before .before .before .before .before .before .before .before .before .before .args in
+    let at-f = c .before .before .before .before .before .before .before .before .before .before .before .before in
+    let at-format-in = at-f .before .before in
+    let entry = at-format-in .before .before .before .before .before in
+    let a = entry .args in
     let w = c .before .before .before .before .before .before .before .read-proof .ensures in
-    let e = read-is (a .format) (a .bytes .now) (length (a .codes .now)) (length (a .ends .now)) (length (a .kinds .now)) (sym (c .before .before .before .before .before .before .before .before .before .before .before .before .before .before .format-in .ensures) ∙ ap meantFormat (c .before .before .before .before .before .before .before .before .before .before .before .before .f .given .1)) in (
+    let e = read-is (a .format) (a .bytes .now) (length (a .codes .now)) (length (a .ends .now)) (length (a .kinds .now))
+    (sym (at-format-in .format-in .ensures) ∙ ap meantFormat (at-f .f .given .1)) in (
       same-numbers (located 2) (ap (λ (w : Filling). w .answer) e ∙ sym (w .0)) (c .read-out .ensures),
       (
         filled-same (a .codes .now) 0 (ap (λ (w : Filling). w .codes) e) (w .1 .0),

@@ -20,7 +20,8 @@ enum-told c = search needs
 returns : tie.Need-returns
 returns c =
     let a = c .before .before .before .before .before .args in
-    let e = no-clause-format (a .format) (a .kind) (a .buf .now) (a .a) (a .b) (length (a .out .now)) (a .at) (sym (c .before .before .format-in .ensures) ∙ ap meantFormat (c .enum-told .given .1)) in
+    let e = no-clause-format (a .format) (a .kind) (a .buf .now) (a .a) (a .b) (length (a .out .now)) (a .at)
+    (sym (c .before .before .format-in .ensures) ∙ ap meantFormat (c .enum-told .given .1)) in
     (same-numbers (plain 1) (ap (λ (w : Writing). w .answer) e) refl, filled-same (a .out .now) (a .at) (ap (λ (w : Writing). w .bytes) e) refl)
 
 kind-in-requires : tie.Need-kind-in-requires
@@ -35,7 +36,9 @@ enum-told-2 c = search needs
 returns-2 : tie.Need-returns-2
 returns-2 c =
     let a = c .before .before .before .before .before .before .before .before .before .args in
-    let e = no-clause-kind (a .format) (a .kind) (a .buf .now) (a .a) (a .b) (length (a .out .now)) (a .at) (sym (c .before .before .before .before .before .before .format-in .ensures) ∙ ap meantFormat (c .before .before .before .before .f .given .1)) (sym (c .before .before .kind-in .ensures) ∙ ap meantKind (c .enum-told2 .given .1)) in
+    let e = no-clause-kind (a .format) (a .kind) (a .buf .now) (a .a) (a .b) (length (a .out .now)) (a .at)
+    (sym (c .before .before .before .before .before .before .format-in .ensures) ∙ ap meantFormat (c .before .before .before .before .f .given .1))
+    (sym (c .before .before .kind-in .ensures) ∙ ap meantKind (c .enum-told2 .given .1)) in
     (same-numbers (plain 1) (ap (λ (w : Writing). w .answer) e) refl, filled-same (a .out .now) (a .at) (ap (λ (w : Writing). w .bytes) e) refl)
 
 write-clause-requires : tie.Need-write-clause-requires
@@ -49,10 +52,19 @@ same-length c = search needs
 
 returns-3 : tie.Need-returns-3
 returns-3 c =
-    let a = c .before .before .before .before .before .before .before .before .before .before .before .before .before .before .before .args in
+    let at-f = c .before .before .before .before .before .before .before .before .before .before in
+    let at-format-in = at-f .before .before in
+    let entry = at-format-in .before .before .before in
+    let a = entry .args in
     let w = c .before .before .before .write-clause .ensures in
-    let e = write-clause-is (a .format) (a .kind) (a .buf .now) (a .a) (a .b) (length (a .out .now)) (a .at) (sym (c .before .before .before .before .before .before .before .before .before .before .before .before .format-in .ensures) ∙ ap meantFormat (c .before .before .before .before .before .before .before .before .before .before .f .given .1)) (sym (c .before .before .before .before .before .before .before .before .kind-in .ensures) ∙ ap meantKind (c .before .before .before .before .before .before .k .given .1)) in
-    (same-numbers (plain 1) (ap (λ (w : Writing). w .answer) e ∙ sym (w .0)) (c .wrote-out .ensures), filled-same (a .out .now) (a .at) (ap (λ (w : Writing). w .bytes) e) (w .1))
+    let e = write-clause-is (a .format) (a .kind) (a .buf .now) (a .a) (a .b) (length (a .out .now)) (a .at)
+    (sym (at-format-in .format-in .ensures) ∙ ap meantFormat (at-f .f .given .1))
+    (sym (c .before .before .before .before .before .before .before .before .kind-in .ensures)
+    ∙ ap meantKind (c .before .before .before .before .before .before .k .given .1)) in (
+      same-numbers (plain 1) (ap (λ (w : Writing). w .answer) e ∙ sym (w .0)) (c .wrote-out .ensures),
+      filled-same (a .out .now) (a .at)
+          (ap (λ (w : Writing). w .bytes) e) (w .1),
+    )
 
 pub hz-write-clause-spec : {M : Type 1} → statement M
 hz-write-clause-spec =

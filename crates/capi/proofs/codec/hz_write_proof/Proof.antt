@@ -20,7 +20,8 @@ enum-told c = search needs
 returns : tie.Need-returns
 returns c =
     let a = c .before .before .before .before .before .before .before .args in
-    let e = no-proof-format (a .format) (a .codes .now) (a .ends .now) (a .kinds .now) (length (a .out .now)) (sym (c .before .before .format-in .ensures) ∙ ap meantFormat (c .enum-told .given .1)) in
+    let e = no-proof-format (a .format) (a .codes .now) (a .ends .now) (a .kinds .now) (length (a .out .now))
+    (sym (c .before .before .format-in .ensures) ∙ ap meantFormat (c .enum-told .given .1)) in
     (same-numbers (plain 1) (ap (λ (w : Writing). w .answer) e) refl, filled-same (a .out .now) 0 (ap (λ (w : Writing). w .bytes) e) refl)
 
 write-proof-requires : tie.Need-write-proof-requires
@@ -34,10 +35,16 @@ same-length c = search needs
 
 returns-2 : tie.Need-returns-2
 returns-2 c =
-    let a = c .before .before .before .before .before .before .before .before .before .before .before .before .before .args in
+    let entry = c .before .before .before .before .before .before .before .before .before .before .before .before .before in
+    let a = entry .args in
     let w = c .before .before .before .write-proof .ensures in
-    let e = write-proof-is (a .format) (a .codes .now) (a .ends .now) (a .kinds .now) (length (a .out .now)) (sym (c .before .before .before .before .before .before .before .before .format-in .ensures) ∙ ap meantFormat (c .before .before .before .before .before .before .f .given .1)) in
-    (same-numbers (plain 1) (ap (λ (w : Writing). w .answer) e ∙ sym (w .0)) (c .wrote-out .ensures), filled-same (a .out .now) 0 (ap (λ (w : Writing). w .bytes) e) (w .1))
+    let e = write-proof-is (a .format) (a .codes .now) (a .ends .now) (a .kinds .now) (length (a .out .now))
+    (sym (c .before .before .before .before .before .before .before .before .format-in .ensures)
+    ∙ ap meantFormat (c .before .before .before .before .before .before .f .given .1)) in (
+      same-numbers (plain 1) (ap (λ (w : Writing). w .answer) e ∙ sym (w .0)) (c .wrote-out .ensures),
+      filled-same (a .out .now) 0
+          (ap (λ (w : Writing). w .bytes) e) (w .1),
+    )
 
 pub hz-write-proof-spec : {M : Type 1} → statement M
 hz-write-proof-spec =

@@ -6,7 +6,7 @@ use Rattle.numbers.specs.declared.HzStep.{HzStep}
 use Rattle.numbers.specs.Numbers.{known}
 use Rattle.numbers.specs.Meant.{meantStep}
 use Rattle.capi.specs.Lines.{stepGiven, wordsAt}
-use Rattle.answers.proofs.SurfaceLaws.{same-given, refused-given, numbered-given}
+use Rattle.answers.proofs.SurfaceLaws.{same-given, quiet-refused, numbered-given}
 use Rattle.capi.proofs.CodecLaws.{filled-same}
 use Rattle.capi.proofs.LineLaws.{rename-is, no-rename-step, stepped-given}
 use borrow.Author.Needs.{needs}
@@ -24,10 +24,14 @@ enum-told c = search needs
 
 returns : tie.Need-returns
 returns c =
-    let a = c .before .before .before .before .before .before .before .before .before .before .before .before .before .args in
+    let entry = c .before .before .before .before .before .before .before .before .before .before .before .before .before in
+    let a = entry .args in
     let t : Table = tableOf (a .c) (a .gu .now) (a .ug .now) (a .sg .now) (a .gs .now) (a .assignment .now) (a .records .now) in
-    let e = no-rename-step (a .step) t (a .solvervars) (a .lits .now) (a .hashes .now) (length (a .out .now)) (length (a .hashout .now)) (sym (c .before .before .step-in .ensures) ∙ ap meantStep (c .enum-told .given .1)) in
-    (same-given e (refused-given refl), (refl, (filled-same (a .out .now) 0 (ap (λ (o : Outcome). o .words) e) refl, filled-same (a .hashout .now) 0 (ap (λ (o : Outcome). o .more) e) refl)))
+    let e = no-rename-step (a .step) t (a .solvervars) (a .lits .now) (a .hashes .now) (length (a .out .now)) (length (a .hashout .now))
+    (sym (c .before .before .step-in .ensures) ∙ ap meantStep (c .enum-told .given .1)) in (
+      quiet-refused e refl,
+      (refl, (filled-same (a .out .now) 0 (ap (λ (o : Outcome). o .words) e) refl, filled-same (a .hashout .now) 0 (ap (λ (o : Outcome). o .more) e) refl)),
+    )
 
 rename-step-requires : tie.Need-rename-step-requires
 rename-step-requires c κs = search needs
@@ -43,16 +47,26 @@ same-length-2 c = search needs
 
 returns-2 : tie.Need-returns-2
 returns-2 c =
-    let a = c .before .before .before .before .before .before .before .before .before .before .before .before .before .before .before .before .before .before .before .before .before .before .args in
+    let at-step-in = c .before .before .before .before .before .before .before .before .before .before .before in
+    let entry = at-step-in .before .before .before .before .before .before .before .before .before .before .before in
+    let a = entry .args in
     let t : Table = tableOf (a .c) (a .gu .now) (a .ug .now) (a .sg .now) (a .gs .now) (a .assignment .now) (a .records .now) in
     let w = c .before .before .before .before .before .rename-step .ensures in
     let s = c .before .before .before .before .before .before .before .before .before .s .given in
-    let g : stepGiven (a .step) ≡ known (s .0 .0) = sym (c .before .before .before .before .before .before .before .before .before .before .before .step-in .ensures) ∙ ap meantStep (s .1) in
+    let g : stepGiven (a .step) ≡ known (s .0 .0) = sym (at-step-in .step-in .ensures) ∙ ap meantStep (s .1) in
     let e = rename-is (a .step) t (a .solvervars) (a .lits .now) (a .hashes .now) (length (a .out .now)) (length (a .hashout .now)) g in
     let o = c .renamed-out .ensures in
     let ws = sym (ap wordsAt g) in (
-      same-given e (stepped-given t _ (a .solvervars) (a .lits .now) (a .hashes .now) (length (a .out .now)) (length (a .hashout .now)) (ws ∙ sym (ap (λ (z : HzStep). wordsAt (stepGiven z)) (o .1))) ws (numbered-given (w .0) (o .0 _))),
-      (o .1, (filled-same (a .out .now) 0 (ap (λ (o : Outcome). o .words) e) (w .1 .0), filled-same (a .hashout .now) 0 (ap (λ (o : Outcome). o .more) e) (w .1 .1))),
+      same-given e (stepped-given t _ (a .solvervars) (a .lits .now) (a .hashes .now) (length (a .out .now)) (length (a .hashout .now))
+          (ws ∙ sym (ap (λ (z : HzStep). wordsAt (stepGiven z)) (o .1))) ws (numbered-given (w .0) (o .0 _))),
+      (
+        o .1,
+        (
+          filled-same (a .out .now) 0 (ap (λ (o : Outcome). o .words) e) (w .1 .0),
+          filled-same (a .hashout .now) 0 (ap (λ (o : Outcome). o .more) e)
+              (w .1 .1),
+        ),
+      ),
     )
 
 pub hz-rename-spec : {M : Type 1} → statement M

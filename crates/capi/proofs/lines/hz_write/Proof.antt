@@ -3,7 +3,7 @@ use lib.ListN.{length}
 use Rattle.scope.specs.Table.{Table, tableOf}
 use Rattle.scope.specs.Outcome.{Outcome}
 use Rattle.numbers.specs.Meant.{meantFormat, meantStep}
-use Rattle.answers.proofs.SurfaceLaws.{same-given, refused-given, numbered-given}
+use Rattle.answers.proofs.SurfaceLaws.{same-given, quiet-refused, numbered-given}
 use Rattle.capi.proofs.CodecLaws.{filled-same}
 use Rattle.capi.proofs.LineLaws.{write-is, no-write-format, no-write-step}
 use borrow.Author.Needs.{needs}
@@ -21,10 +21,12 @@ enum-told c = search needs
 
 returns : tie.Need-returns
 returns c =
-    let a = c .before .before .before .before .before .before .before .before .before .before .before .before .args in
+    let entry = c .before .before .before .before .before .before .before .before .before .before .before .before in
+    let a = entry .args in
     let t : Table = tableOf (a .c) (a .gu .now) (a .ug .now) (a .sg .now) (a .gs .now) (a .assignment .now) (a .records .now) in
-    let e = no-write-format (a .format) (a .step) t (a .solvervars) (a .lits .now) (a .hashes .now) (length (a .out .now)) (sym (c .before .before .format-in .ensures) ∙ ap meantFormat (c .enum-told .given .1)) in
-    (same-given e (refused-given refl), filled-same (a .out .now) 0 (ap (λ (o : Outcome). o .bytes) e) refl)
+    let e = no-write-format (a .format) (a .step) t (a .solvervars) (a .lits .now) (a .hashes .now) (length (a .out .now))
+    (sym (c .before .before .format-in .ensures) ∙ ap meantFormat (c .enum-told .given .1)) in
+    (quiet-refused e refl, filled-same (a .out .now) 0 (ap (λ (o : Outcome). o .bytes) e) refl)
 
 step-in-requires : tie.Need-step-in-requires
 step-in-requires c κs = search needs
@@ -37,10 +39,13 @@ enum-told-2 c = search needs
 
 returns-2 : tie.Need-returns-2
 returns-2 c =
-    let a = c .before .before .before .before .before .before .before .before .before .before .before .before .before .before .before .before .args in
+    let entry = c .before .before .before .before .before .before .before .before .before .before .before .before .before .before .before .before in
+    let a = entry .args in
     let t : Table = tableOf (a .c) (a .gu .now) (a .ug .now) (a .sg .now) (a .gs .now) (a .assignment .now) (a .records .now) in
-    let e = no-write-step (a .format) (a .step) t (a .solvervars) (a .lits .now) (a .hashes .now) (length (a .out .now)) (sym (c .before .before .before .before .before .before .format-in .ensures) ∙ ap meantFormat (c .before .before .before .before .f .given .1)) (sym (c .before .before .step-in .ensures) ∙ ap meantStep (c .enum-told2 .given .1)) in
-    (same-given e (refused-given refl), filled-same (a .out .now) 0 (ap (λ (o : Outcome). o .bytes) e) refl)
+    let e = no-write-step (a .format) (a .step) t (a .solvervars) (a .lits .now) (a .hashes .now) (length (a .out .now))
+    (sym (c .before .before .before .before .before .before .format-in .ensures) ∙ ap meantFormat (c .before .before .before .before .f .given .1))
+    (sym (c .before .before .step-in .ensures) ∙ ap meantStep (c .enum-told2 .given .1)) in
+    (quiet-refused e refl, filled-same (a .out .now) 0 (ap (λ (o : Outcome). o .bytes) e) refl)
 
 write-step-requires : tie.Need-write-step-requires
 write-step-requires c κs = search needs
@@ -53,10 +58,16 @@ same-length c = search needs
 
 returns-3 : tie.Need-returns-3
 returns-3 c =
-    let a = c .before .before .before .before .before .before .before .before .before .before .before .before .before .before .before .before .before .before .before .before .before .before .args in
+    let at-f = c .before .before .before .before .before .before .before .before .before .before in
+    let at-format-in = at-f .before .before in
+    let entry = at-format-in .before .before .before .before .before .before .before .before .before .before in
+    let a = entry .args in
     let t : Table = tableOf (a .c) (a .gu .now) (a .ug .now) (a .sg .now) (a .gs .now) (a .assignment .now) (a .records .now) in
     let w = c .before .before .before .write-step .ensures in
-    let e = write-is (a .format) (a .step) t (a .solvervars) (a .lits .now) (a .hashes .now) (length (a .out .now)) (sym (c .before .before .before .before .before .before .before .before .before .before .before .before .format-in .ensures) ∙ ap meantFormat (c .before .before .before .before .before .before .before .before .before .before .f .given .1)) (sym (c .before .before .before .before .before .before .before .before .step-in .ensures) ∙ ap meantStep (c .before .before .before .before .before .before .s .given .1)) in
+    let e = write-is (a .format) (a .step) t (a .solvervars) (a .lits .now) (a .hashes .now) (length (a .out .now))
+    (sym (at-format-in .format-in .ensures) ∙ ap meantFormat (at-f .f .given .1))
+    (sym (c .before .before .before .before .before .before .before .before .step-in .ensures)
+    ∙ ap meantStep (c .before .before .before .before .before .before .s .given .1)) in
     (same-given e (numbered-given (w .0) (c .recorded-out .ensures _)), filled-same (a .out .now) 0 (ap (λ (o : Outcome). o .bytes) e) (w .1))
 
 pub hz-write-spec : {M : Type 1} → statement M

@@ -28,7 +28,9 @@ same-length-6 : tie.Need-same-length-6
 same-length-6 c = search needs
 
 returns : tie.Need-returns
-returns c = numbered-given (c .before .before .before .before .before .before .before .before .before .before .before .before .before .open-table .ensures) (c .opened-out .ensures)
+returns c =
+    let at-open-table = c .before .before .before .before .before .before .before .before .before .before .before .before .before in
+    numbered-given (at-open-table .open-table .ensures) (c .opened-out .ensures)
 
 pub hz-open-spec : {M : Type 1} → statement M
 hz-open-spec =

@@ -35,7 +35,8 @@ same-length-8 c = search needs
 
 returns : tie.Need-returns
 returns c =
-    let e = c .before .before .before .before .before .before .before .before .before .before .before .before .before .before .before .before .before .solver-from-user-lits .ensures in
+    let called = c .before .before .before .before .before .before .before .before .before .before .before .before .before .before .before .before .before in
+    let e = called .solver-from-user-lits .ensures in
     (numbered-given (e .0) (c .posed-out .ensures), e .1)
 
 pub hz-pose-spec : {M : Type 1} → statement M

@@ -26,7 +26,8 @@ same-length-5 c = search needs
 
 returns : tie.Need-returns
 returns c =
-    let e = c .before .before .before .before .before .before .before .before .before .before .before .observe-internal-vars .ensures in
+    let at-observe-internal-vars = c .before .before .before .before .before .before .before .before .before .before .before in
+    let e = at-observe-internal-vars .observe-internal-vars .ensures in
     (numbered-given (e .0) (c .observed-out .ensures), e .1)
 
 pub hz-observe-spec : {M : Type 1} → statement M

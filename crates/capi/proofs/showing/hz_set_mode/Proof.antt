@@ -38,7 +38,9 @@ same-length-4 c = search needs
 
 returns-2 : tie.Need-returns-2
 returns-2 c =
-    same-given (known-is _ _ (sym (c .before .before .before .before .before .before .before .before .before .before .before .before .before .before .before .before .before .mode-in .ensures) ∙ ap meantMode (c .before .before .before .before .before .before .before .before .before .before .before .before .before .before .before .m .given .1)))
+    let at-m = c .before .before .before .before .before .before .before .before .before .before .before .before .before .before .before in
+    let at-mode-in = at-m .before .before in
+    same-given (known-is _ _ (sym (at-mode-in .mode-in .ensures) ∙ ap meantMode (at-m .m .given .1)))
     (numbered-given (c .before .before .before .before .before .before .before .before .before .set-sampling-mode .ensures) (c .mode-set-out .ensures))
 
 pub hz-set-mode-spec : {M : Type 1} → statement M
