@@ -3,14 +3,16 @@ use Prim.Native.Nat.{ℕ, zero, suc, _+_, _≤_, _<_}
 use mathlib.Core.Path.{_≡_, refl, sym, ap, _∙_}
 use mathlib.Core.Bool.{Bool, true, false, _&&_, _||_, true≢false}
 use mathlib.Core.List.{List, [], _∷_, _++_}
+use mathlib.Core.Logic.{_≢_, ⊎-elim}
 use native.Mathlib.Nat.{le-of-suc-le-suc, not-suc-le-zero}
 use native.Mathlib.Numerals.{add-one}
 use native.Mathlib.Omega.{arith}
-use lib.ListN.{length, getD, take}
+use lib.ListN.{length, getD, take, List·getD-eq-default}
 use lib.Seq.{take-suc, take-all}
 use Rattle.base.specs.Choice.{pick}
 use Rattle.base.specs.Bounded.{everyOf, anyOf, keepOf}
 use Rattle.base.proofs.BelowLaws.{and-left, and-right, and-both, and-not-left, and-not-right}
+use Rattle.base.proofs.Truth.{split}
 
 -- ---- a disjunction that is false has neither part
 
@@ -133,6 +135,10 @@ module _ {A : Type 0} (p : A → Bool) where
       go : (b : Bool) → length (keepOf p xs) ≤ length xs → length (pick b (x ∷ keepOf p xs) (keepOf p xs)) ≤ suc (length xs)
       go true h = omega arith
       go false h = omega arith
+
+-- a word other than the default stands in the list
+pub word-inside : (xs : List ℕ) (i : ℕ) → getD xs i 0 ≢ 0 → i < length xs
+word-inside xs i n = ⊎-elim (λ (l : i < length xs). l) (λ (l : length xs ≤ i). absurd (n (List·getD-eq-default xs 0 l))) (split i (length xs))
 
 -- a word read with another default
 pub getD-default : (xs : List ℕ) (i d e : ℕ) → i < length xs → getD xs i d ≡ getD xs i e

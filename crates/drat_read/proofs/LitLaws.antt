@@ -5,10 +5,11 @@ use mathlib.Core.List.{List}
 use mathlib.Core.Logic.{_⊎_, ⊎-elim}
 use mathlib.Core.Path.{_≡_, refl, sym, ap, ap₂, _∙_}
 use lib.Dec.{eqb, ltb}
-use lib.ListN.{length, getD, drop, List·getD-eq-default}
+use lib.ListN.{length, getD, drop}
 use lib.Seq.{getD-drop}
 use native.Mathlib.Omega.{arith}
 use borrow.Author.Tests.{eqb-false, ltb-false, ne-eqb, lt-ltb, le-ltb}
+use Rattle.base.proofs.MemberLaws.{word-inside}
 use Rattle.base.proofs.Truth.{split}
 use Rattle.base.specs.Choice.{pick}
 use Rattle.drat.proofs.At.{digits-here, signed-here, leb-here, text-here, binary-here, digits-past, leb-past, token-past}
@@ -74,10 +75,6 @@ module _ (s : List ℕ) (sign v i : ℕ) (t : Token) (n : IsNumber s t) (e : dig
 pub token-inside : (f : Format) (s : List ℕ) (i c j : ℕ) → token f i (drop i s) ≡ Lit c j → i < length s
 token-inside f s i c j e = standing s i (token f i (drop i s)) c j e (λ h. token-past s i h f)
 
--- a byte above 0 stands in the input
-byte-inside : (s : List ℕ) (i : ℕ) → 0 < getD s i 0 → i < length s
-byte-inside s i h = ⊎-elim (λ (k : i < length s). k) (λ (k : length s ≤ i). absurd (omega (arith, List·getD-eq-default s 0 k))) (split i (length s))
-
 -- a number: an optional minus, then digits
 pub signed-digits : (s : List ℕ) (i sign : ℕ) → i < length s → sign ≡ pick (eqb (getD s i 0) 45) 1 0
     → signedFrom i (drop i s) ≡ digitsFrom sign 0 (i + sign) (drop (i + sign) s)
@@ -107,7 +104,7 @@ text-number s i sign c j h n q e =
     let m = signed-moves i (drop i s) c (r .0) (r .1) in
     let k : i + (r .0 - i) ≡ r .0 = omega (arith, m .0) in
     let b : getD s (r .0) 0 ≡ 32 = sym (getD-drop i s (r .0 - i) 0 ∙ ap (λ (x : ℕ). getD s x 0) k) ∙ r .3 in
-    record { code = c; next = r .0; is = sym (signed-digits s i sign h q) ∙ r .1; inside = byte-inside s (r .0) (omega arith); below = omega arith }
+    record { code = c; next = r .0; is = sym (signed-digits s i sign h q) ∙ r .1; inside = word-inside s (r .0) (λ z. omega arith); below = omega arith }
 
 pub text-read : (s : List ℕ) (i sign c k : ℕ) (t : IsLit (token Text i (drop i s))) → i < length s → (getD s i 0 ≡ 48 → ⊥)
     → sign ≡ pick (eqb (getD s i 0) 45) 1 0

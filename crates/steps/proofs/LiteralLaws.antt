@@ -6,13 +6,13 @@ use mathlib.Core.Logic.{⊎-elim, _≢_}
 use mathlib.Core.List.{List, [], _∷_, map}
 use native.Mathlib.Omega.{arith}
 use lib.Dec.{eqb, ltb, leb}
-use lib.ListN.{length, getD, take, length-map, List·getD-eq-default}
+use lib.ListN.{length, getD, take, length-map}
 use lib.Seq.{sets, length-sets}
 use borrow.Author.Tests.{ne-eqb, lt-ltb, le-ltb, ltb-false, eqb-false, leb-false}
 use Rattle.base.specs.Choice.{pick}
 use Rattle.base.specs.Bounded.{anyOf}
-use Rattle.base.proofs.Truth.{same, split}
-use Rattle.base.proofs.MemberLaws.{any-none, or-left, or-right}
+use Rattle.base.proofs.Truth.{same}
+use Rattle.base.proofs.MemberLaws.{any-none, or-left, or-right, word-inside}
 use Rattle.drat.specs.Grammar.{Codes}
 use Rattle.scope.specs.declared.Counts.{Counts}
 use Rattle.scope.specs.Table.{Table}
@@ -75,9 +75,6 @@ few t s lits e = ltb-false 8192 (length lits) (or-left (ltb 8192 (length lits)) 
 pub word-filled : (w g : ℕ) → w ≡ g + 1 → eqb w 0 ≡ false
 word-filled w g e = ne-eqb w 0 (λ z. omega arith)
 
-there : (l : List ℕ) (i : ℕ) → getD l i 0 ≢ 0 → i < length l
-there l i n = ⊎-elim (λ (h : i < length l). h) (λ (h : length l ≤ i). absurd (n (List·getD-eq-default l 0 h))) (split i (length l))
-
 -- a map's word of a sound table is at most 4,096
 pub word-small : (t : Table) → soundb t ≡ true → (s : ℕ) → getD (t .globalFromSolver) s 0 ≤ 4096
 word-small t h s = ⊎-elim
@@ -103,7 +100,7 @@ held-at t s lits i u l e =
     and-held false b p q = absurd (true≢false (sym q))
 
 pub word-there : (l : List ℕ) (s : Bool) (i : ℕ) → (s ≡ true → getD l i 0 ≢ 0) → s ≡ true → i < length l
-word-there l s i n e = there l i (n e)
+word-there l s i n e = word-inside l i (n e)
 
 pub name-global : (h : ℕ → ℕ) (s : Bool) (c : ℕ) → s ≡ false → c ≡ renameLit h s c
 name-global h s c e = rw e

@@ -13,6 +13,7 @@ use borrow.Author.Tests.{eq-eqb, ne-eqb, eqb-true}
 use Rattle.base.specs.Choice.{pick}
 use Rattle.base.specs.Bounded.{count}
 use Rattle.base.proofs.BelowLaws.{all-at, all-intro}
+use Rattle.base.proofs.MemberLaws.{word-inside}
 use Rattle.base.proofs.Truth.{truth, same, split}
 use Rattle.base.proofs.CountLaws.{count-same, count-more}
 use Rattle.scope.specs.Sound.{backb}
@@ -131,14 +132,10 @@ back-is : (a b : List ℕ) → Back a b → backb a b ≡ true
 unfolding backb
 back-is a b h = all-intro (length a) _ (λ i l. simp truth (h i))
 
--- a word that is not 0 stands in the list
-inside : (xs : List ℕ) (i : ℕ) → getD xs i 0 ≢ 0 → i < length xs
-inside xs i n = ⊎-elim (λ (l : i < length xs). l) (λ (l : length xs ≤ i). absurd (n (List·getD-eq-default xs 0 l))) (split i (length xs))
-
 pub back-low : (a b : List ℕ) → Back a b → (i : ℕ) → getD a i 0 ≤ length b
 back-low a b h i = ⊎-elim
     (λ (e : getD a i 0 ≡ 0). omega arith)
-    (λ (e : getD a i 0 ≢ 0). let k = h i e in let l = inside b (getD a i 0 - 1) (λ z. omega arith) in omega arith)
+    (λ (e : getD a i 0 ≢ 0). let k = h i e in let l = word-inside b (getD a i 0 - 1) (λ z. omega arith) in omega arith)
     (same (getD a i 0) 0)
 
 pub pair-counts : (a b : List ℕ) → backb a b ≡ true → eqb (count (length a) (isFilled a)) (count (length b) (isFilled b)) ≡ backb b a
@@ -152,7 +149,7 @@ pair-counts a b e = same-test (eqb (count (length a) (isFilled a)) (count (lengt
     over : eqb (count (length a) (isFilled a)) (count (length b) (isFilled b)) ≡ true → (j : ℕ) → getD b j 0 ≢ 0 → TakenBack a b (length a) j
     over q j n = taken-of a b (length a) j
         (count-equal (taken a b (length a)) (isFilled b) (λ i t. simp truth (taken-of a b (length a) i t .some)) (length b)
-        (taken-filled a b (length b) h (back-low a b h) (length a) ∙ eqb-true _ _ q) j (inside b j n) (simp truth n))
+        (taken-filled a b (length b) h (back-low a b h) (length a) ∙ eqb-true _ _ q) j (word-inside b j n) (simp truth n))
 
     both : backb b a ≡ true → (j : ℕ) → taken a b (length a) j ≡ isFilled b j
     both q j = same-test (taken a b (length a) j) (isFilled b j)
@@ -160,5 +157,5 @@ pair-counts a b e = same-test (eqb (count (length a) (isFilled a)) (count (lengt
         (λ t.
         let n = simp truth at t in
         let k = back-has b a q j n in
-        let l = inside a (getD b j 0 - 1) (λ z. omega arith) in
+        let l = word-inside a (getD b j 0 - 1) (λ z. omega arith) in
         taken-to a b (length a) j (record { back = k; some = n; low = omega arith }))
