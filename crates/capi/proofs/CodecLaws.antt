@@ -7,7 +7,7 @@ use lib.Seq.{sets}
 use Rattle.base.specs.Answer.{Answer, refused}
 use Rattle.drat.specs.declared.Format.{Format}
 use Rattle.drat.specs.declared.Kind.{Kind}
-use Rattle.drat.specs.Writing.{writeOf}
+use Rattle.drat.specs.Writing.{writeClauseOf}
 use Rattle.drat.specs.Listed.{writeAllOf}
 use Rattle.drat.specs.Filled.{refusing, readOf, firstOf, firstBy, first}
 use Rattle.drat.specs.Reading.{One, got, fault, oneStep}
@@ -28,7 +28,7 @@ same-numbers layout e h = h ∙ sym (ap layout e)
 
 module _ (format kind : ℕ) (buf : List ℕ) (a b room at : ℕ) where
   pub write-clause-is : {f : Format} {k : Kind} → formatFor format ≡ known f → kindFor kind ≡ known k
-      → writeClauseAt format kind buf a b room at ≡ writeOf f k buf a b room at
+      → writeClauseAt format kind buf a b room at ≡ writeClauseOf f k buf a b room at
   unfolding writeClauseAt
   write-clause-is e g = known-is _ _ e ∙ known-is _ _ g
 

@@ -2,7 +2,7 @@
 use Prim.Native.Nat.{ℕ}
 use mathlib.Core.List.{List, []}
 use Rattle.base.specs.Answer.{Answer, refused}
-use Rattle.drat.specs.Writing.{Writing, writeOf}
+use Rattle.drat.specs.Writing.{Writing, writeClauseOf}
 use Rattle.drat.specs.Listed.{writeAllOf}
 use Rattle.drat.specs.Filled.{Filling, refusing, readOf, firstOf}
 use Rattle.numbers.specs.Numbers.{whenKnown, formatFor, kindFor}
@@ -12,7 +12,7 @@ noWriting = record { answer = refused 4294967295 []; bytes = [] }
 
 unfoldable pub writeClauseAt : ℕ → ℕ → List ℕ → ℕ → ℕ → ℕ → ℕ → Writing
 writeClauseAt format kind buf a b room at =
-    whenKnown (formatFor format) noWriting (λ f. whenKnown (kindFor kind) noWriting (λ k. writeOf f k buf a b room at))
+    whenKnown (formatFor format) noWriting (λ f. whenKnown (kindFor kind) noWriting (λ k. writeClauseOf f k buf a b room at))
 
 unfoldable pub writeProofAt : ℕ → List ℕ → List ℕ → List ℕ → ℕ → Writing
 writeProofAt format codes es ks room = whenKnown (formatFor format) noWriting (λ f. writeAllOf f codes es ks room)

@@ -7,14 +7,14 @@ use Rattle.drat.specs.Reading.{digitsFrom, signedFrom, thenBlank, lebFro
 use Rattle.drat.specs.Reading.{consStep, stepsFrom, readProof}
 use Rattle.drat.specs.Filled.{codesOf, endsFrom, kindsOf, answerOf, firstBy}
 use Rattle.drat.specs.Listed.{listed, risesTo}
-use Rattle.drat.specs.Anchors.{Agree, literals, written, reads, firsts, answers, parts, wholes}
+use Rattle.drat.specs.Anchors.{Agree, literalRows, writeRows, reads, firsts, answerRows, partRows, wholes}
 
-literals-hold : Agree literals
+literals-hold : Agree literalRows
 unfolding allBelow spell further bytesOf number numbers encodeStep encode digitsFrom signedFrom thenBlank lebFrom endFrom lineFrom token blankFrom opening
     consPart body asStep oneStep consStep stepsFrom readProof codesOf endsFrom kindsOf answerOf firstBy listed risesTo
 literals-hold = (refl, (refl, (refl, (refl, (refl, (refl, (refl, (refl, (refl, (refl, (refl, (refl, (refl, (refl, (refl, tt)))))))))))))))
 
-written-hold : Agree written
+written-hold : Agree writeRows
 unfolding allBelow spell further bytesOf number numbers encodeStep encode digitsFrom signedFrom thenBlank lebFrom endFrom lineFrom token blankFrom opening
     consPart body asStep oneStep consStep stepsFrom readProof codesOf endsFrom kindsOf answerOf firstBy listed risesTo
 written-hold = (refl, (refl, (refl, (refl, (refl, (refl, (refl, (refl, (refl, (refl, (refl, tt)))))))))))
@@ -29,12 +29,12 @@ unfolding allBelow spell further bytesOf number numbers encodeStep encode digits
     consPart body asStep oneStep consStep stepsFrom readProof codesOf endsFrom kindsOf answerOf firstBy listed risesTo
 firsts-hold = (refl, (refl, (refl, (refl, (refl, (refl, (refl, (refl, (refl, (refl, tt))))))))))
 
-answers-hold : Agree answers
+answers-hold : Agree answerRows
 unfolding allBelow spell further bytesOf number numbers encodeStep encode digitsFrom signedFrom thenBlank lebFrom endFrom lineFrom token blankFrom opening
     consPart body asStep oneStep consStep stepsFrom readProof codesOf endsFrom kindsOf answerOf firstBy listed risesTo
 answers-hold = (refl, (refl, (refl, (refl, (refl, (refl, (refl, (refl, tt))))))))
 
-parts-hold : Agree parts
+parts-hold : Agree partRows
 unfolding allBelow spell further bytesOf number numbers encodeStep encode digitsFrom signedFrom thenBlank lebFrom endFrom lineFrom token blankFrom opening
     consPart body asStep oneStep consStep stepsFrom readProof codesOf endsFrom kindsOf answerOf firstBy listed risesTo
 parts-hold = (refl, (refl, (refl, (refl, (refl, (refl, (refl, (refl, (refl, tt)))))))))
@@ -44,5 +44,5 @@ unfolding allBelow spell further bytesOf number numbers encodeStep encode digits
     consPart body asStep oneStep consStep stepsFrom readProof codesOf endsFrom kindsOf answerOf firstBy listed risesTo
 wholes-hold = (refl, (refl, (refl, (refl, (refl, (refl, (refl, (refl, (refl, (refl, (refl, tt)))))))))))
 
-pub anchored : Agree literals × Agree written × Agree reads × Agree firsts × Agree answers × Agree parts × Agree wholes
+pub anchored : Agree literalRows × Agree writeRows × Agree reads × Agree firsts × Agree answerRows × Agree partRows × Agree wholes
 anchored = (literals-hold, written-hold, reads-hold, firsts-hold, answers-hold, parts-hold, wholes-hold)

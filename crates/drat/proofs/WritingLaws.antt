@@ -12,7 +12,7 @@ use Rattle.base.proofs.MemberLaws.{or-left, or-right}
 use Rattle.base.specs.Bounded.{allBelow}
 use Rattle.base.specs.Answer.{accepted, refused}
 use Rattle.drat.specs.Grammar.{stepOf, encodeStep, Codes}
-use Rattle.drat.specs.Writing.{part, codesTest, outside, writeOf, wrote}
+use Rattle.drat.specs.Writing.{part, codesTest, noClause, writeClauseOf, wrote}
 use Rattle.drat.specs.declared.Wrote.{Wrote}
 use Rattle.drat.specs.declared.Wrote.the-variants.{Done, Outside, Lacking}
 use Rattle.drat.specs.declared.Kind.{Kind}
@@ -31,16 +31,16 @@ test-more b l i t e = rw add-one (ap (λ (x : Bool). x && ltb (getD l i 0) b) e)
 
 -- the four ways to be no clause, in the order in which they are tried
 module _ (buf : List ℕ) (a b : ℕ) where
-  pub outside-turned : b < a → outside buf a b ≡ true
+  pub outside-turned : b < a → noClause buf a b ≡ true
   outside-turned h = rw (lt-ltb b a h)
 
-  pub outside-past : a ≤ b → length buf < b → outside buf a b ≡ true
+  pub outside-past : a ≤ b → length buf < b → noClause buf a b ≡ true
   outside-past h k = rw (le-ltb b a h, lt-ltb (length buf) b k)
 
-  pub outside-long : a ≤ b → b ≤ length buf → 8192 < b - a → outside buf a b ≡ true
+  pub outside-long : a ≤ b → b ≤ length buf → 8192 < b - a → noClause buf a b ≡ true
   outside-long h k l = rw (le-ltb b a h, le-ltb (length buf) b k, lt-ltb 8192 (b - a) l)
 
-  pub outside-codes : a ≤ b → b ≤ length buf → b - a ≤ 8192 → outside buf a b ≡ not (codesTest (part a b buf))
+  pub outside-codes : a ≤ b → b ≤ length buf → b - a ≤ 8192 → noClause buf a b ≡ not (codesTest (part a b buf))
   outside-codes h k l = rw (le-ltb b a h, le-ltb (length buf) b k, le-ltb 8192 (b - a) l)
 
   pub record Clause : Type 0 where
@@ -50,7 +50,7 @@ module _ (buf : List ℕ) (a b : ℕ) where
     pub codes : Codes (part a b buf)
 
   -- what is not outside is a clause that can be written
-  pub inside : outside buf a b ≡ false → Clause
+  pub inside : noClause buf a b ≡ false → Clause
   inside h =
       let x = or-right (ltb b a) _ h in
       let y = or-right (ltb (length buf) b) _ x in
@@ -63,15 +63,15 @@ module _ (buf : List ℕ) (a b : ℕ) where
 
 -- the call's three answers
 module _ (f : Format) (k : Kind) (buf : List ℕ) (a b room at : ℕ) where
-  pub write-outside : outside buf a b ≡ true → writeOf f k buf a b room at ≡ record { answer = refused 3 []; bytes = [] }
+  pub write-outside : noClause buf a b ≡ true → writeClauseOf f k buf a b room at ≡ record { answer = refused 3 []; bytes = [] }
   write-outside h = rw h
 
-  pub write-lacking : outside buf a b ≡ false → room < at + length (encodeStep f (stepOf k (part a b buf)))
-      → writeOf f k buf a b room at ≡ record { answer = refused 2 []; bytes = [] }
+  pub write-lacking : noClause buf a b ≡ false → room < at + length (encodeStep f (stepOf k (part a b buf)))
+      → writeClauseOf f k buf a b room at ≡ record { answer = refused 2 []; bytes = [] }
   write-lacking h l = rw (h, lt-ltb room (at + length (encodeStep f (stepOf k (part a b buf)))) l)
 
-  pub write-done : outside buf a b ≡ false → at + length (encodeStep f (stepOf k (part a b buf))) ≤ room
-      → writeOf f k buf a b room at ≡ record {
+  pub write-done : noClause buf a b ≡ false → at + length (encodeStep f (stepOf k (part a b buf))) ≤ room
+      → writeClauseOf f k buf a b room at ≡ record {
         answer = accepted ((at + length (encodeStep f (stepOf k (part a b buf)))) ∷ []);
         bytes =
             encodeStep f (stepOf k (part a b buf));

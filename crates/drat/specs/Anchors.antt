@@ -6,7 +6,7 @@ use mathlib.Core.List.{List, [], _∷_}
 use Rattle.base.specs.Answer.{Answer, accepted, refused}
 use Rattle.drat.specs.Grammar.{stepOf, number, encodeStep, encode}
 use Rattle.drat.specs.Filled.{Filling, readOf, firstOf, read, first}
-use Rattle.drat.specs.Writing.{Writing, writeOf, wrote}
+use Rattle.drat.specs.Writing.{Writing, writeClauseOf, wrote}
 use Rattle.drat.specs.Listed.{writeAllOf}
 use Rattle.drat.specs.declared.Format.the-variants.{Text, Binary}
 use Rattle.drat.specs.declared.Kind.the-variants.{Add, Delete}
@@ -21,17 +21,17 @@ pub data Seen : Type 0 where
   writing : Writing → Seen
 
 -- what the definitions give, and what document 01 says
-pub record Row : Type 0 where
+pub record CodecRow : Type 0 where
   pub gives : Seen
   pub says : Seen
 
 -- In every row they are the same.
-abbrev pub Agree : List Row → Type 0
+abbrev pub Agree : List CodecRow → Type 0
 Agree [] = Unit {0}
 Agree (r ∷ rows) = (r .gives ≡ r .says) × Agree rows
 
 infix 80 _is_
-abbrev pub _is_ : Seen → Seen → Row
+abbrev pub _is_ : Seen → Seen → CodecRow
 x is y = record { gives = x; says = y }
 
 -- 1 -2 0, d 3 0, 0, in the two formats
@@ -44,12 +44,12 @@ binary3 = 97 ∷ 2 ∷ 5 ∷ 0 ∷ 100 ∷ 6 ∷ 0 ∷ 97 ∷ 0 ∷ []
 abbrev pub filled : Answer → List ℕ → List ℕ → List ℕ → Seen
 filled a cs es ks = filling (record { answer = a; codes = cs; ends = es; kinds = ks })
 
-abbrev pub writes : Answer → List ℕ → Seen
-writes a bs = writing (record { answer = a; bytes = bs })
+abbrev pub puts : Answer → List ℕ → Seen
+puts a bs = writing (record { answer = a; bytes = bs })
 
 -- What is written for a literal code: its DIMACS number and a blank; code + 2 in LEB128.
-abbrev pub literals : List Row
-literals =
+abbrev pub literalRows : List CodecRow
+literalRows =
     bytes (number Text 0) is bytes (49 ∷ 32 ∷ [])
     ∷ bytes (number Text 1) is bytes (45 ∷ 49 ∷ 32 ∷ [])
     ∷ bytes (number Text 17) is bytes (45 ∷ 57 ∷ 32 ∷ [])
@@ -68,8 +68,8 @@ literals =
     ∷ []
 
 -- Steps: nothing or `d` and a blank, numbers, `0` and a line feed; `a` or `d`, codes, byte 0.
-abbrev pub written : List Row
-written =
+abbrev pub writeRows : List CodecRow
+writeRows =
     bytes (encodeStep Text (stepOf Add (0 ∷ 3 ∷ []))) is bytes (49 ∷ 32 ∷ 45 ∷ 50 ∷ 32 ∷ 48 ∷ 10 ∷ [])
     ∷ bytes (encodeStep Text (stepOf Delete (0 ∷ 3 ∷ []))) is bytes (100 ∷ 32 ∷ 49 ∷ 32 ∷ 45 ∷ 50 ∷ 32 ∷ 48 ∷ 10 ∷ [])
     ∷ bytes (encodeStep Text (stepOf Add [])) is bytes (48 ∷ 10 ∷ [])
@@ -85,7 +85,7 @@ written =
     ∷ []
 
 -- Read: 13, with where the broken step starts, before 2. Codes, ends, kinds (0 add, 1 delete); literals, steps.
-abbrev pub reads : List Row
+abbrev pub reads : List CodecRow
 reads =
     -- with just enough room
     filling (readOf Text text3 3 3 3) is filled (accepted (3 ∷ 3 ∷ [])) (0 ∷ 3 ∷ 4 ∷ []) (2 ∷ 3 ∷ 3 ∷ []) (0 ∷ 1 ∷ 0 ∷ [])
@@ -150,7 +150,7 @@ reads =
     ∷ []
 
 -- The first step alone: its part of the bytes; 13 at 0.
-abbrev pub firsts : List Row
+abbrev pub firsts : List CodecRow
 firsts =
     answer (firstOf Text text3) is answer (accepted (49 ∷ 32 ∷ 45 ∷ 50 ∷ 32 ∷ 48 ∷ 10 ∷ []))
     ∷ answer (firstOf Text (100 ∷ 32 ∷ 51 ∷ 32 ∷ 48 ∷ 10 ∷ 48 ∷ 49 ∷ [])) is answer (accepted (100 ∷ 32 ∷ 51 ∷ 32 ∷ 48 ∷ 10 ∷ []))
@@ -165,8 +165,8 @@ firsts =
     ∷ []
 
 -- The numbers of the answers: literals and steps; 13 and the place; 2. The place after what was written; 3; 2.
-abbrev pub answers : List Row
-answers =
+abbrev pub answerRows : List CodecRow
+answerRows =
     answer (read (Filled 5 2)) is answer (accepted (5 ∷ 2 ∷ []))
     ∷ answer (read (Broken 4)) is answer (refused 13 (4 ∷ []))
     ∷ answer (read Short) is answer (refused 2 [])
@@ -178,31 +178,31 @@ answers =
     ∷ []
 
 -- One clause of a buffer, from a to b, into so much room from a place on: 3, 2.
-abbrev pub parts : List Row
-parts =
-    writing (writeOf Text Add (0 ∷ 3 ∷ 4 ∷ 8191 ∷ []) 1 3 9 2) is writes (accepted (9 ∷ [])) (45 ∷ 50 ∷ 32 ∷ 51 ∷ 32 ∷ 48 ∷ 10 ∷ [])
-    ∷ writing (writeOf Text Add (0 ∷ 3 ∷ 4 ∷ 8191 ∷ []) 1 3 8 2) is writes (refused 2 []) []
-    ∷ writing (writeOf Binary Delete (0 ∷ 3 ∷ 4 ∷ 8191 ∷ []) 3 4 4 0) is writes (accepted (4 ∷ [])) (100 ∷ 129 ∷ 64 ∷ 0 ∷ [])
-    ∷ writing (writeOf Binary Delete (0 ∷ 3 ∷ 4 ∷ 8191 ∷ []) 3 4 3 0) is writes (refused 2 []) []
-    ∷ writing (writeOf Text Add (0 ∷ 3 ∷ 4 ∷ 8191 ∷ []) 2 1 99 0) is writes (refused 3 []) []
-    ∷ writing (writeOf Text Add (0 ∷ 3 ∷ 4 ∷ 8191 ∷ []) 0 5 99 0) is writes (refused 3 []) []
-    ∷ writing (writeOf Text Add (8192 ∷ []) 0 1 0 0) is writes (refused 3 []) []
-    ∷ writing (writeOf Text Add (8192 ∷ 0 ∷ []) 1 2 4 0) is writes (accepted (4 ∷ [])) (49 ∷ 32 ∷ 48 ∷ 10 ∷ [])
-    ∷ writing (writeOf Binary Add (0 ∷ 3 ∷ 4 ∷ 8191 ∷ []) 4 4 2 0) is writes (accepted (2 ∷ [])) (97 ∷ 0 ∷ [])
+abbrev pub partRows : List CodecRow
+partRows =
+    writing (writeClauseOf Text Add (0 ∷ 3 ∷ 4 ∷ 8191 ∷ []) 1 3 9 2) is puts (accepted (9 ∷ [])) (45 ∷ 50 ∷ 32 ∷ 51 ∷ 32 ∷ 48 ∷ 10 ∷ [])
+    ∷ writing (writeClauseOf Text Add (0 ∷ 3 ∷ 4 ∷ 8191 ∷ []) 1 3 8 2) is puts (refused 2 []) []
+    ∷ writing (writeClauseOf Binary Delete (0 ∷ 3 ∷ 4 ∷ 8191 ∷ []) 3 4 4 0) is puts (accepted (4 ∷ [])) (100 ∷ 129 ∷ 64 ∷ 0 ∷ [])
+    ∷ writing (writeClauseOf Binary Delete (0 ∷ 3 ∷ 4 ∷ 8191 ∷ []) 3 4 3 0) is puts (refused 2 []) []
+    ∷ writing (writeClauseOf Text Add (0 ∷ 3 ∷ 4 ∷ 8191 ∷ []) 2 1 99 0) is puts (refused 3 []) []
+    ∷ writing (writeClauseOf Text Add (0 ∷ 3 ∷ 4 ∷ 8191 ∷ []) 0 5 99 0) is puts (refused 3 []) []
+    ∷ writing (writeClauseOf Text Add (8192 ∷ []) 0 1 0 0) is puts (refused 3 []) []
+    ∷ writing (writeClauseOf Text Add (8192 ∷ 0 ∷ []) 1 2 4 0) is puts (accepted (4 ∷ [])) (49 ∷ 32 ∷ 48 ∷ 10 ∷ [])
+    ∷ writing (writeClauseOf Binary Add (0 ∷ 3 ∷ 4 ∷ 8191 ∷ []) 4 4 2 0) is puts (accepted (2 ∷ [])) (97 ∷ 0 ∷ [])
     ∷ []
 
 -- A whole proof from the three lists that Read fills: 3, 2.
-abbrev pub wholes : List Row
+abbrev pub wholes : List CodecRow
 wholes =
-    writing (writeAllOf Text (0 ∷ 3 ∷ 4 ∷ []) (2 ∷ 3 ∷ 3 ∷ []) (0 ∷ 1 ∷ 0 ∷ []) 15) is writes (accepted (15 ∷ [])) text3
-    ∷ writing (writeAllOf Binary (0 ∷ 3 ∷ 4 ∷ []) (2 ∷ 3 ∷ 3 ∷ []) (0 ∷ 1 ∷ 0 ∷ []) 9) is writes (accepted (9 ∷ [])) binary3
-    ∷ writing (writeAllOf Text (0 ∷ 3 ∷ 4 ∷ []) (2 ∷ 3 ∷ 3 ∷ []) (0 ∷ 1 ∷ 0 ∷ []) 14) is writes (refused 2 []) []
-    ∷ writing (writeAllOf Text [] [] [] 0) is writes (accepted (0 ∷ [])) []
-    ∷ writing (writeAllOf Text (0 ∷ 3 ∷ 8192 ∷ []) (2 ∷ 3 ∷ 3 ∷ []) (0 ∷ 1 ∷ 0 ∷ []) 0) is writes (refused 3 []) []
-    ∷ writing (writeAllOf Text (0 ∷ 3 ∷ 4 ∷ []) (2 ∷ 3 ∷ []) (0 ∷ 1 ∷ 0 ∷ []) 0) is writes (refused 3 []) []
-    ∷ writing (writeAllOf Text (0 ∷ 3 ∷ 4 ∷ []) (2 ∷ 1 ∷ 3 ∷ []) (0 ∷ 1 ∷ 0 ∷ []) 0) is writes (refused 3 []) []
-    ∷ writing (writeAllOf Text (0 ∷ 3 ∷ 4 ∷ []) (2 ∷ 2 ∷ 2 ∷ []) (0 ∷ 1 ∷ 0 ∷ []) 0) is writes (refused 3 []) []
-    ∷ writing (writeAllOf Text (0 ∷ 3 ∷ 4 ∷ []) (2 ∷ 3 ∷ 4 ∷ []) (0 ∷ 1 ∷ 0 ∷ []) 0) is writes (refused 3 []) []
-    ∷ writing (writeAllOf Text (0 ∷ 3 ∷ 4 ∷ []) (2 ∷ 3 ∷ 3 ∷ []) (0 ∷ 2 ∷ 0 ∷ []) 0) is writes (refused 3 []) []
-    ∷ writing (writeAllOf Text (0 ∷ []) [] [] 0) is writes (refused 3 []) []
+    writing (writeAllOf Text (0 ∷ 3 ∷ 4 ∷ []) (2 ∷ 3 ∷ 3 ∷ []) (0 ∷ 1 ∷ 0 ∷ []) 15) is puts (accepted (15 ∷ [])) text3
+    ∷ writing (writeAllOf Binary (0 ∷ 3 ∷ 4 ∷ []) (2 ∷ 3 ∷ 3 ∷ []) (0 ∷ 1 ∷ 0 ∷ []) 9) is puts (accepted (9 ∷ [])) binary3
+    ∷ writing (writeAllOf Text (0 ∷ 3 ∷ 4 ∷ []) (2 ∷ 3 ∷ 3 ∷ []) (0 ∷ 1 ∷ 0 ∷ []) 14) is puts (refused 2 []) []
+    ∷ writing (writeAllOf Text [] [] [] 0) is puts (accepted (0 ∷ [])) []
+    ∷ writing (writeAllOf Text (0 ∷ 3 ∷ 8192 ∷ []) (2 ∷ 3 ∷ 3 ∷ []) (0 ∷ 1 ∷ 0 ∷ []) 0) is puts (refused 3 []) []
+    ∷ writing (writeAllOf Text (0 ∷ 3 ∷ 4 ∷ []) (2 ∷ 3 ∷ []) (0 ∷ 1 ∷ 0 ∷ []) 0) is puts (refused 3 []) []
+    ∷ writing (writeAllOf Text (0 ∷ 3 ∷ 4 ∷ []) (2 ∷ 1 ∷ 3 ∷ []) (0 ∷ 1 ∷ 0 ∷ []) 0) is puts (refused 3 []) []
+    ∷ writing (writeAllOf Text (0 ∷ 3 ∷ 4 ∷ []) (2 ∷ 2 ∷ 2 ∷ []) (0 ∷ 1 ∷ 0 ∷ []) 0) is puts (refused 3 []) []
+    ∷ writing (writeAllOf Text (0 ∷ 3 ∷ 4 ∷ []) (2 ∷ 3 ∷ 4 ∷ []) (0 ∷ 1 ∷ 0 ∷ []) 0) is puts (refused 3 []) []
+    ∷ writing (writeAllOf Text (0 ∷ 3 ∷ 4 ∷ []) (2 ∷ 3 ∷ 3 ∷ []) (0 ∷ 2 ∷ 0 ∷ []) 0) is puts (refused 3 []) []
+    ∷ writing (writeAllOf Text (0 ∷ []) [] [] 0) is puts (refused 3 []) []
     ∷ []

@@ -8,7 +8,7 @@ use Rattle.base.specs.Choice.{pick}
 use Rattle.base.specs.Bounded.{allBelow}
 use Rattle.base.specs.Answer.{refused}
 use Rattle.drat.specs.Grammar.{Step, stepOf, encode}
-use Rattle.drat.specs.Writing.{Writing, part, codesTest, laid}
+use Rattle.drat.specs.Writing.{Writing, part, codesTest, fitted}
 use Rattle.drat.specs.declared.Kind.{Kind}
 use Rattle.drat.specs.declared.Kind.the-variants.{Add, Delete}
 use Rattle.drat.specs.declared.Format.{Format}
@@ -38,4 +38,4 @@ unlisted codes es ks = not (codesTest codes) || (not (eqb (length es) (length ks
 
 -- The steps of the lists, from the start of an output of `room` bytes: 3, 2.
 abbrev pub writeAllOf : Format → List ℕ → List ℕ → List ℕ → ℕ → Writing
-writeAllOf f codes es ks room = pick (unlisted codes es ks) (record { answer = refused 3 []; bytes = [] }) (laid (encode f (listed codes 0 es ks)) room 0)
+writeAllOf f codes es ks room = pick (unlisted codes es ks) (record { answer = refused 3 []; bytes = [] }) (fitted (encode f (listed codes 0 es ks)) room 0)

@@ -27,17 +27,17 @@ abbrev pub codesTest : List ℕ → Bool
 codesTest cs = allBelow (length cs) (λ i. ltb (getD cs i 0) 8192)
 
 -- a to b is no part of the buffer, or over 8192 literals long, or has a code that is too large.
-abbrev pub outside : List ℕ → ℕ → ℕ → Bool
-outside buf a b = ltb b a || (ltb (length buf) b || (ltb 8192 (b - a) || not (codesTest (part a b buf))))
+abbrev pub noClause : List ℕ → ℕ → ℕ → Bool
+noClause buf a b = ltb b a || (ltb (length buf) b || (ltb 8192 (b - a) || not (codesTest (part a b buf))))
 
 -- Bytes written from the place `at` on of an output of `room` bytes: 2 where they do not fit, else the place after them.
-abbrev pub laid : List ℕ → ℕ → ℕ → Writing
-laid bytes room at = pick (ltb room (at + length bytes)) (record { answer = refused 2 []; bytes = [] })
+abbrev pub fitted : List ℕ → ℕ → ℕ → Writing
+fitted bytes room at = pick (ltb room (at + length bytes)) (record { answer = refused 2 []; bytes = [] })
     (record { answer = accepted ((at + length bytes) ∷ []); bytes = bytes })
 
 -- The literals from a to b of a buffer as one step: 3, 2.
-abbrev pub writeOf : Format → Kind → List ℕ → ℕ → ℕ → ℕ → ℕ → Writing
-writeOf f k buf a b room at = pick (outside buf a b) (record { answer = refused 3 []; bytes = [] }) (laid (encodeStep f (stepOf k (part a b buf))) room at)
+abbrev pub writeClauseOf : Format → Kind → List ℕ → ℕ → ℕ → ℕ → ℕ → Writing
+writeClauseOf f k buf a b room at = pick (noClause buf a b) (record { answer = refused 3 []; bytes = [] }) (fitted (encodeStep f (stepOf k (part a b buf))) room at)
 
 -- The answer's enum: the place after what was filled; 3; 2.
 abbrev pub wrote : Wrote → Answer

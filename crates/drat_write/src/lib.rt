@@ -17,7 +17,7 @@ ghost use Rattle.base.specs.Bounded.{allBelow};
 ghost use Rattle.drat.specs.declared.Format.the-variants.{Text, Binary};
 ghost use Rattle.drat.specs.Numeral.{bytesOf, leb128};
 ghost use Rattle.drat.specs.Grammar.{blanked, number, numbers, opens, ends, stepOf, encodeStep, Codes};
-ghost use Rattle.drat.specs.Writing.{outside, writeOf, wrote};
+ghost use Rattle.drat.specs.Writing.{noClause, writeClauseOf, wrote};
 ghost use Rattle.drat.specs.Listed.{writeAllOf};
 ghost use Rattle.drat.proofs.Shapes.{Short};
 
@@ -380,7 +380,7 @@ pub fn put_step(f: Format, k: Kind, lits: &[u32], out: &mut [u8], at: usize) -> 
 }
 
 fn no_clause(buf: &[u32], a: usize, b: usize) -> bool
-    ensures { λ r. ⌜ r ≡ outside (old buf) a b ⌝ }
+    ensures { λ r. ⌜ r ≡ noClause (old buf) a b ⌝ }
 {
     if b < a {
         return true;
@@ -395,7 +395,7 @@ fn no_clause(buf: &[u32], a: usize, b: usize) -> bool
 }
 
 // Writes the clause that stands from a to b in a buffer of literal codes, as one step, from the place `at` of the output on: 3, 2.
-// `writeOf` and `wrote` of drat's specs/Writing.antt.
+// `writeClauseOf` and `wrote` of drat's specs/Writing.antt.
 pub fn write_clause(
     f: Format,
     k: Kind,
@@ -405,8 +405,8 @@ pub fn write_clause(
     out: &mut [u8],
     at: usize,
 ) -> Wrote
-    ensures { λ r. ⌜ wrote r ≡ writeOf f k (old buf) a b (length (old out)) at .answer ⌝ }
-    ensures { λ _. ⌜ Fills out at (writeOf f k (old buf) a b (length (old out)) at .bytes) ⌝ }
+    ensures { λ r. ⌜ wrote r ≡ writeClauseOf f k (old buf) a b (length (old out)) at .answer ⌝ }
+    ensures { λ _. ⌜ Fills out at (writeClauseOf f k (old buf) a b (length (old out)) at .bytes) ⌝ }
 {
     if no_clause(buf, a, b) {
         return Wrote::Outside;

@@ -16,7 +16,7 @@ use Rattle.scope.specs.Remove.{removeHeld, learn, sweepHeld, sweepOne, sweep}
 use Rattle.scope.proofs.ResultLaws.{each-zero}
 use Rattle.scope.proofs.RemoveLaws.{Swept, sweep-passed, learn-same}
 use Rattle.changes.proofs.TurnLaws.{each-count}
-use Rattle.removal.specs.Counting.{learnt, isLoose, sweptNotes, notesAt, notesBy, Counted}
+use Rattle.removal.specs.Counting.{learnt, isLoose, sweptNotes, notesAt, notesBy, NotesCounted}
 use Rattle.removal.proofs.CountingLaws.{removal-notes, removal-few}
 use Rattle.removal.proofs.HeldLaws.{holding-of}
 
@@ -68,30 +68,30 @@ notes-ahead t n left a = rw (a .holders n (omega arith), a .userFromGlobal, a .a
     go (suc g) e = ap (λ (r : ℕ). sweptNotes (getD (t .userFromGlobal) g 0) r (getD (t .assignment) n 0)) (a .records n g (omega arith) (e ∙ sym (add-one g)))
 
 -- one more index is counted
-pub count-more : (t : Table) → Sound t → (s n k : ℕ) → n ≡ length (each s sweepOne t .notes) → k ≡ notesAt t s → n + k ≡ length (each (s + 1) sweepOne t .notes)
-count-more t h s n k p q =
+pub swept-more : (t : Table) → Sound t → (s n k : ℕ) → n ≡ length (each s sweepOne t .notes) → k ≡ notesAt t s → n + k ≡ length (each (s + 1) sweepOne t .notes)
+swept-more t h s n k p q =
     let a = sweep-passed t h s in
     let x = each-count s sweepOne t in
     let y = one-notes s (each s sweepOne t .table) (λ g e. holding-of (each s sweepOne t .table) (a .sound) s g e .live .words) in
     let z = notes-ahead t s (each s sweepOne t .table) a in
     omega arith
 
-pub count-none : (t : Table) → 0 ≡ length (each 0 sweepOne t .notes)
-count-none t = ap (λ (x : Result (List ℕ)). length (x .notes)) (sym (each-zero sweepOne t))
+pub swept-none : (t : Table) → 0 ≡ length (each 0 sweepOne t .notes)
+swept-none t = ap (λ (x : Result (List ℕ)). length (x .notes)) (sym (each-zero sweepOne t))
 
-pub counted-none : (ug gs assignment records : List ℕ) → Counted ug gs assignment records 0 0
-counted-none ug gs assignment records t h e = count-none t
+pub notes-counted-none : (ug gs assignment records : List ℕ) → NotesCounted ug gs assignment records 0 0
+notes-counted-none ug gs assignment records t h e = swept-none t
 
-pub counted-more : (ug gs assignment records : List ℕ) (s n k : ℕ) → Counted ug gs assignment records s n → k ≡ notesBy ug gs assignment records s
-    → Counted ug gs assignment records (s + 1) (n + k)
-counted-more ug gs assignment records s n k p q t h e = count-more t h s n k (p t h e) (rw (e .0, e .1, e .2, e .3) q)
+pub notes-counted-more : (ug gs assignment records : List ℕ) (s n k : ℕ) → NotesCounted ug gs assignment records s n → k ≡ notesBy ug gs assignment records s
+    → NotesCounted ug gs assignment records (s + 1) (n + k)
+notes-counted-more ug gs assignment records s n k p q t h e = swept-more t h s n k (p t h e) (rw (e .0, e .1, e .2, e .3) q)
 
-pub counted-end : (ug gs assignment records : List ℕ) (s mark n : ℕ) → s ≡ mark → Counted ug gs assignment records s n → Counted ug gs assignment records mark n
-counted-end ug gs assignment records s mark n e p t h q = p t h q ∙ ap (λ (i : ℕ). length (each i sweepOne t .notes)) e
+pub notes-counted-end : (ug gs assignment records : List ℕ) (s mark n : ℕ) → s ≡ mark → NotesCounted ug gs assignment records s n → NotesCounted ug gs assignment records mark n
+notes-counted-end ug gs assignment records s mark n e p t h q = p t h q ∙ ap (λ (i : ℕ). length (each i sweepOne t .notes)) e
 
-pub count-end : (t : Table) (s n : ℕ) → s ≡ t .counts .solver → n ≡ length (each s sweepOne t .notes) → n ≡ length (sweep t .notes)
+pub swept-end : (t : Table) (s n : ℕ) → s ≡ t .counts .solver → n ≡ length (each s sweepOne t .notes) → n ≡ length (sweep t .notes)
 unfolding sweep
-count-end t s n e p = p ∙ ap (λ (i : ℕ). length (each i sweepOne t .notes)) e
+swept-end t s n e p = p ∙ ap (λ (i : ℕ). length (each i sweepOne t .notes)) e
 
 -- an index makes two notes at most
 pub notes-few : (ug gs assignment records : List ℕ) (s : ℕ) → notesBy ug gs assignment records s ≤ 2
@@ -116,10 +116,10 @@ count-fits ug gs assignment records mark s n k l z m e = let w = count-small ug 
 
 -- a sweep makes two notes at most of each index
 turns-few : (t : Table) → Sound t → (s : ℕ) → length (each s sweepOne t .notes) ≤ 2 * s
-turns-few t h zero = let e = count-none t in omega arith
+turns-few t h zero = let e = swept-none t in omega arith
 turns-few t h (suc s) =
     let x = turns-few t h s in
-    let y = count-more t h s _ _ refl refl in
+    let y = swept-more t h s _ _ refl refl in
     let w = notes-few (t .userFromGlobal) (t .globalFromSolver) (t .assignment) (t .records) s in
     rw (← add-one s) (omega arith)
 

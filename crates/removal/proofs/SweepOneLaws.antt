@@ -20,7 +20,7 @@ use Rattle.changes.specs.Leaves.{Leaves, Room}
 use Rattle.changes.proofs.LeavesLaws.{leaves-stay}
 use Rattle.changes.proofs.DeletionLaws.{record-read}
 use Rattle.removal.specs.Counting.{removalNotes, learnt, isLoose, sweptNotes, notesBy}
-use Rattle.removal.specs.Asks.{Holding, Readable}
+use Rattle.removal.specs.Asks.{Holding, SlotReadable}
 
 -- ---- a record
 
@@ -39,7 +39,7 @@ learnt-small w zero l k = l
 learnt-small w (suc v) l k = omega arith
 
 -- the global of a held index, as the code reads it
-pub readable : (t : Table) (g s : ℕ) → Holding t g s → Readable (t .userFromGlobal) (t .assignment) (t .records) g s
+pub readable : (t : Table) (g s : ℕ) → Holding t g s → SlotReadable (t .userFromGlobal) (t .assignment) (t .records) g s
 readable t g s h =
     let e = record-read t g (h .live .words) in
     let l = h .live .undeleted in
@@ -62,7 +62,7 @@ module _ (ug gs assignment records : List ℕ) (s : ℕ) where
   unfolding notesBy word
   notes-none e = rw (global-word (getD gs s 0) Nothing e)
 
-  module _ (g : Global) (e : At g ≡ foundGlobal (getD gs s 0)) (h : Readable ug assignment records (g .0) s)
+  module _ (g : Global) (e : At g ≡ foundGlobal (getD gs s 0)) (h : SlotReadable ug assignment records (g .0) s)
       (w : ℕ) (p : w ≡ learnt (getD records (g .0) 0) (getD assignment s 0)) where
     pub notes-kept : isLoose w ≡ false → 0 ≡ notesBy ug gs assignment records s
     unfolding notesBy sweptNotes word

@@ -18,7 +18,7 @@ abbrev pub Sweepable : Table → ℕ → Type 0
 Sweepable t s = (g : ℕ) → getD (t .globalFromSolver) s 0 ≡ g + 1 → Holding t g s
 
 -- What is read of a solver index s that the global g holds: the words are there, and g is undeleted.
-pub record Readable (ug assignment records : List ℕ) (g s : ℕ) : Type 0 where
+pub record SlotReadable (ug assignment records : List ℕ) (g s : ℕ) : Type 0 where
   pub user : g < length ug
   pub words : g < length records
   pub undeleted : getD records g 0 < 36

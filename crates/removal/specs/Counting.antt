@@ -35,7 +35,7 @@ abbrev pub notesAt : Table → ℕ → ℕ
 notesAt t s = notesBy (t .userFromGlobal) (t .globalFromSolver) (t .assignment) (t .records) s
 
 -- So many are made of the solver indices below s, of every sound table with these lists.
-abbrev pub Counted : List ℕ → List ℕ → List ℕ → List ℕ → ℕ → ℕ → Type 0
-Counted ug gs assignment records s n =
+abbrev pub NotesCounted : List ℕ → List ℕ → List ℕ → List ℕ → ℕ → ℕ → Type 0
+NotesCounted ug gs assignment records s n =
     (t : Table) → Sound t → (t .userFromGlobal ≡ ug) × (t .globalFromSolver ≡ gs) × (t .assignment ≡ assignment) × (t .records ≡ records)
     → n ≡ length (each s sweepOne t .notes)

@@ -20,8 +20,8 @@ ghost use Rattle.scope.specs.Sound.{soundb};
 ghost use Rattle.scope.specs.Outcome.{each};
 ghost use Rattle.scope.specs.Remove.{removeHeld, removeRefusal, removeOf, sweepOne, sweep, sweepRefusal, sweepOf};
 ghost use Rattle.changes.specs.Leaves.{Leaves, Room};
-ghost use Rattle.removal.specs.Counting.{removalNotes, learnt, isLoose, notesBy, Counted};
-ghost use Rattle.removal.specs.Asks.{Holding, Readable, Sweepable};
+ghost use Rattle.removal.specs.Counting.{removalNotes, learnt, isLoose, notesBy, NotesCounted};
+ghost use Rattle.removal.specs.Asks.{Holding, SlotReadable, Sweepable};
 ghost use Rattle.removal.specs.Answers.{removed};
 
 // The counts after, and how many notes were made; or the number of the refusal.
@@ -153,7 +153,7 @@ fn is_loose(w: u32) -> bool
 
 // How many notes the sweep of a solver index makes.
 fn notes_at(ug: &[u32], gs: &[u32], assignment: &[u32], records: &[u32], solver: Solver) -> u32
-    requires { ⌜ ((g : ℕ) → getD (now gs) (solver .0) 0 ≡ g + 1 → Readable (now ug) (now assignment) (now records) g (solver .0)) ⌝ }
+    requires { ⌜ ((g : ℕ) → getD (now gs) (solver .0) 0 ≡ g + 1 → SlotReadable (now ug) (now assignment) (now records) g (solver .0)) ⌝ }
     ensures { λ r. ⌜ r ≡ notesBy (old ug) (old gs) (old assignment) (old records) (solver .0) ⌝ }
 {
     let FoundGlobal::At(global) = holder(gs, solver) else {
@@ -170,8 +170,8 @@ fn notes_at(ug: &[u32], gs: &[u32], assignment: &[u32], records: &[u32], solver:
 // How many notes a sweep makes of the solver indices below the mark. Nothing is written.
 fn count_notes(mark: u32, ug: &[u32], gs: &[u32], assignment: &[u32], records: &[u32]) -> u32
     requires { ⌜ mark ≤ 4096 ⌝ }
-    requires { ⌜ ((g s : ℕ) → getD (now gs) s 0 ≡ g + 1 → Readable (now ug) (now assignment) (now records) g s) ⌝ }
-    ensures { λ r. ⌜ Counted (old ug) (old gs) (old assignment) (old records) mark r ⌝ }
+    requires { ⌜ ((g s : ℕ) → getD (now gs) s 0 ≡ g + 1 → SlotReadable (now ug) (now assignment) (now records) g s) ⌝ }
+    ensures { λ r. ⌜ NotesCounted (old ug) (old gs) (old assignment) (old records) mark r ⌝ }
 {
     let mut n: u32 = 0;
     let mut s: u32 = 0;

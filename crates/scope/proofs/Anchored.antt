@@ -22,14 +22,14 @@ use Rattle.scope.specs.Write.{renameLits, unmatched, outside, stepRefusa
 use Rattle.scope.specs.Simplify.{unfalse, simplified, simplifyBytes, simplifyRefusal, simplifyOf}
 use Rattle.scope.specs.Models.{globalValue, rowOf, globalModel, userLiteral, userModel, modelRefusal, modelOf}
 use Rattle.scope.specs.Anchors.{AnchorsAgree}
-use Rattle.scope.specs.AnchorsWords.{literals, recordParts, everyPart, noteRows, heldRows}
+use Rattle.scope.specs.AnchorsWords.{literalAnchors, recordParts, everyPart, noteRows, heldRows}
 use Rattle.scope.specs.AnchorsSound.{sounds}
-use Rattle.scope.specs.AnchorsNames.{opens, lookups, mapAnswers, maps, newUsers, grants, poses}
+use Rattle.scope.specs.AnchorsNames.{openAnchors, lookups, mapAnswers, maps, newUsers, grantAnchors, poses}
 use Rattle.scope.specs.AnchorsModes.{setModes, observes, removes, sweeps, models}
 use Rattle.scope.specs.AnchorsMarks.{markRows, assigns}
-use Rattle.scope.specs.AnchorsSteps.{simplifies, kinds, causes, renames, written}
+use Rattle.scope.specs.AnchorsSteps.{simplifies, kindAnchors, causes, renames, writeAnchors}
 
-literals-hold : AnchorsAgree literals
+literals-hold : AnchorsAgree literalAnchors
 unfolding allBelow least count anyOf keepOf word isShown giveUser takeUser giveSolver takeSolver putRecord putValue dropGlobal soundb sizesb marksb
     atMostb tailb backb namedb deletedb tailsb pairsb notesWords heldBy choose each unless
 literals-hold = (refl, (refl, (refl, (refl, (refl, (refl, (refl, (refl, tt))))))))
@@ -62,7 +62,7 @@ unfolding allBelow least count anyOf keepOf word isShown giveUser takeUser giveS
     solverFromGlobalOf globalFromSolverOf recordWordOf assignmentWordOf
 sounds-hold = (refl, (refl, (refl, (refl, (refl, (refl, (refl, (refl, (refl, (refl, (refl, (refl, (refl, (refl, (refl, (refl, (refl, (refl, (refl, (refl, (refl, (refl, (refl, (refl, (refl, (refl, (refl, (refl, (refl, (refl, (refl, (refl, (refl, (refl, (refl, (refl, (refl, (refl, (refl, (refl, (refl, (refl, (refl, (refl, (refl, (refl, (refl, (refl, (refl, (refl, (refl, (refl, (refl, (refl, (refl, (refl, (refl, (refl, (refl, (refl, (refl, (refl, (refl, (refl, (refl, (refl, tt))))))))))))))))))))))))))))))))))))))))))))))))))))))))))))))))))
 
-opens-hold : AnchorsAgree opens
+opens-hold : AnchorsAgree openAnchors
 unfolding allBelow least count anyOf keepOf word isShown giveUser takeUser giveSolver takeSolver putRecord putValue dropGlobal soundb sizesb marksb
     atMostb tailb backb namedb deletedb tailsb pairsb notesWords heldBy choose each unless emptyTable openOf
 opens-hold = (refl, (refl, (refl, (refl, (refl, (refl, (refl, (refl, (refl, (refl, (refl, tt)))))))))))
@@ -91,7 +91,7 @@ unfolding allBelow least count anyOf keepOf word isShown giveUser takeUser giveS
     undeleted toMap unsampled mapRefusal mapOf newUserRefusal newUserOf
 newUsers-hold = (refl, (refl, (refl, (refl, (refl, (refl, tt))))))
 
-grants-hold : AnchorsAgree grants
+grants-hold : AnchorsAgree grantAnchors
 unfolding allBelow least count anyOf keepOf word isShown giveUser takeUser giveSolver takeSolver putRecord putValue dropGlobal soundb sizesb marksb
     atMostb tailb backb namedb deletedb tailsb pairsb notesWords heldBy choose each unless leastFree globalFor mapOne fillGap mapUser nextUser newUser
     undeleted toMap unsampled mapRefusal mapOf newUserRefusal newUserOf nextSolver grantOne grant grantRefusal grantOf
@@ -159,7 +159,7 @@ unfolding allBelow least count anyOf keepOf word isShown giveUser takeUser giveS
     renameOf stepBytes writeRefusal writeOf unfalse simplified simplifyBytes simplifyRefusal simplifyOf
 simplifies-hold = (refl, (refl, (refl, (refl, (refl, (refl, (refl, (refl, (refl, (refl, (refl, (refl, (refl, (refl, (refl, (refl, (refl, (refl, (refl, (refl, (refl, (refl, (refl, (refl, tt))))))))))))))))))))))))
 
-kinds-hold : AnchorsAgree kinds
+kinds-hold : AnchorsAgree kindAnchors
 unfolding allBelow least count anyOf keepOf word isShown giveUser takeUser giveSolver takeSolver putRecord putValue dropGlobal soundb sizesb marksb
     atMostb tailb backb namedb deletedb tailsb pairsb notesWords heldBy choose each unless
 kinds-hold = (refl, (refl, (refl, (refl, tt))))
@@ -175,18 +175,18 @@ unfolding allBelow least count anyOf keepOf word isShown giveUser takeUser giveS
     markOf assignRefusal assignOf renameLits unmatched outside stepRefusal renameRefusal renameOf stepBytes writeRefusal writeOf
 renames-hold = (refl, (refl, (refl, (refl, (refl, (refl, (refl, (refl, (refl, (refl, (refl, (refl, (refl, (refl, (refl, (refl, (refl, (refl, (refl, (refl, (refl, (refl, (refl, (refl, (refl, (refl, (refl, (refl, (refl, (refl, (refl, (refl, (refl, (refl, (refl, tt)))))))))))))))))))))))))))))))))))
 
-written-hold : AnchorsAgree written
+written-hold : AnchorsAgree writeAnchors
 unfolding allBelow least count anyOf keepOf word isShown giveUser takeUser giveSolver takeSolver putRecord putValue dropGlobal soundb sizesb marksb
     atMostb tailb backb namedb deletedb tailsb pairsb notesWords heldBy choose each unless notHeld unheld heldElse litsHeldElse mark markRefusal
     markOf assignRefusal assignOf spell further bytesOf number numbers encodeStep encode renameLits unmatched outside stepRefusal renameRefusal
     renameOf stepBytes writeRefusal writeOf
 written-hold = (refl, (refl, (refl, (refl, (refl, (refl, (refl, (refl, (refl, (refl, (refl, (refl, (refl, (refl, (refl, (refl, (refl, (refl, (refl, (refl, (refl, (refl, (refl, (refl, (refl, (refl, (refl, (refl, (refl, (refl, (refl, (refl, (refl, (refl, (refl, tt)))))))))))))))))))))))))))))))))))
 
-pub anchored : AnchorsAgree literals × AnchorsAgree recordParts × AnchorsAgree everyPart × AnchorsAgree noteRows × AnchorsAgree heldRows
-    × AnchorsAgree sounds × AnchorsAgree opens × AnchorsAgree lookups × AnchorsAgree mapAnswers × AnchorsAgree maps
-    × AnchorsAgree newUsers × AnchorsAgree grants × AnchorsAgree poses × AnchorsAgree setModes × AnchorsAgree observes
+pub anchored : AnchorsAgree literalAnchors × AnchorsAgree recordParts × AnchorsAgree everyPart × AnchorsAgree noteRows × AnchorsAgree heldRows
+    × AnchorsAgree sounds × AnchorsAgree openAnchors × AnchorsAgree lookups × AnchorsAgree mapAnswers × AnchorsAgree maps
+    × AnchorsAgree newUsers × AnchorsAgree grantAnchors × AnchorsAgree poses × AnchorsAgree setModes × AnchorsAgree observes
     × AnchorsAgree removes × AnchorsAgree sweeps × AnchorsAgree models × AnchorsAgree markRows × AnchorsAgree assigns
-    × AnchorsAgree simplifies × AnchorsAgree kinds × AnchorsAgree causes × AnchorsAgree renames × AnchorsAgree written
+    × AnchorsAgree simplifies × AnchorsAgree kindAnchors × AnchorsAgree causes × AnchorsAgree renames × AnchorsAgree writeAnchors
 anchored = (
   literals-hold,
   recordParts-hold,

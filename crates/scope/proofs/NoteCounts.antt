@@ -15,20 +15,20 @@ use Rattle.scope.specs.Modes.{modeNumber, setMode, setModeRefusal, setMo
 use Rattle.scope.specs.Remove.{remove, removeRefusal, removeOf, sweep, sweepRefusal, sweepOf}
 
 -- the last of the values answered; 0 where a call is refused
-abbrev pub lastOf : List ℕ → ℕ
-lastOf [] = 0
-lastOf (v ∷ []) = v
-lastOf (v ∷ w ∷ vs) = lastOf (w ∷ vs)
+abbrev pub lastValue : List ℕ → ℕ
+lastValue [] = 0
+lastValue (v ∷ []) = v
+lastValue (v ∷ w ∷ vs) = lastValue (w ∷ vs)
 
 abbrev pub countOf : Answer → ℕ
-countOf (accepted vs) = lastOf vs
+countOf (accepted vs) = lastValue vs
 countOf (refused n vs) = 0
 
 -- The count answered is the number of notes.
 abbrev pub Counted : Outcome → Type 0
 Counted o = countOf (o .answer) ≡ length (o .notes)
 
-last-append : (vs : List ℕ) (n : ℕ) → lastOf (vs ++ n ∷ []) ≡ n
+last-append : (vs : List ℕ) (n : ℕ) → lastValue (vs ++ n ∷ []) ≡ n
 last-append [] n = refl
 last-append (v ∷ []) n = refl
 last-append (v ∷ w ∷ vs) n = last-append (w ∷ vs) n

@@ -9,8 +9,8 @@ use Rattle.scope.specs.AnchorsNames.{unsound, mixed, holed}
 use Rattle.scope.specs.AnchorsModes.{lone, held1}
 
 -- `mixed` with other records, or with another assignment
-abbrev pub recorded : ℕ → ℕ → ℕ → Table
-recorded a b c = tab 4 3 3 2 (w4 2 3 1 0) (w4 3 1 2 0) (w4 2 0 1 0) (w4 3 1 0 0) (w4 2 0 0 0) (w4 a b c 47)
+abbrev pub withRecords : ℕ → ℕ → ℕ → Table
+withRecords a b c = tab 4 3 3 2 (w4 2 3 1 0) (w4 3 1 2 0) (w4 2 0 1 0) (w4 3 1 0 0) (w4 2 0 0 0) (w4 a b c 47)
 
 abbrev pub assigned : ℕ → ℕ → Table
 assigned a b = tab 4 3 3 2 (w4 2 3 1 0) (w4 3 1 2 0) (w4 2 0 1 0) (w4 3 1 0 0) (w4 a b 0 0) (w4 9 13 18 47)
@@ -27,9 +27,9 @@ markRows =
     ∷ does (markOf mixed Assumed 2) is turns 8 mixed
     ∷ does (markOf mixed Released 9) is turns 8 mixed
     -- the record is that of the global which holds the index
-    ∷ does (markOf mixed Used 1) is says [] (recorded 0 13 18)
-    ∷ does (markOf mixed Assumed 1) is says [] (recorded 27 13 18)
-    ∷ does (markOf mixed Released 0) is says [] (recorded 9 13 0)
+    ∷ does (markOf mixed Used 1) is says [] (withRecords 0 13 18)
+    ∷ does (markOf mixed Assumed 1) is says [] (withRecords 27 13 18)
+    ∷ does (markOf mixed Released 0) is says [] (withRecords 9 13 0)
     -- with all other parts set, and with none: Witness, unit true, isolated, assumed is 34; Witness, unit true is 7
     ∷ does (markOf (lone 0 34) Used 0) is says [] (lone 0 25)
     ∷ does (markOf (lone 0 34) Assumed 0) is says [] (lone 0 34)

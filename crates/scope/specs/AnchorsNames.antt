@@ -33,8 +33,8 @@ lengths n a b c d e f = tab n 0 0 0 (replicate a 1) (replicate b 1) (replicate c
 abbrev pub blank : ℕ → Table
 blank n = tab n 0 0 0 (replicate n 0) (replicate n 0) (replicate n 0) (replicate n 0) (replicate n 0) (replicate n 47)
 
-abbrev pub opens : List Anchor
-opens =
+abbrev pub openAnchors : List Anchor
+openAnchors =
     does (openOf lent2) is says [] opened2
     ∷ does (openOf (lengths 0 0 0 0 0 0 0)) is turns 10 (lengths 0 0 0 0 0 0 0)
     ∷ does (openOf (lengths 4096 4096 4096 4096 4096 4096 4096)) is says [] (blank 4096)
@@ -183,8 +183,8 @@ newUsers =
 
 -- ---- Grant: 1, 3, 6, 2
 
-abbrev pub grants : List Anchor
-grants =
+abbrev pub grantAnchors : List Anchor
+grantAnchors =
     -- 1 before 3; 3 before 6, at the watermark; 6 before 2
     does (grantOf unsound 0 0) is turns 1 unsound
     ∷ does (grantOf mixed 3 0) is turns 3 mixed

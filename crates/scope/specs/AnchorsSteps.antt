@@ -76,8 +76,8 @@ simplifies =
     ∷ []
 
 -- The thirteen kinds, by their place in the table.
-abbrev pub kinds : List Anchor
-kinds =
+abbrev pub kindAnchors : List Anchor
+kindAnchors =
     words (kindOf AddClause ∷ kindOf (AtClause true) ∷ kindOf UnitClauses ∷ kindOf (DeleteClause Satisfied) ∷ []) is words (w4 0 1 2 3)
     ∷ words (kindOf Model ∷ kindOf Assumptions ∷ kindOf FailedAssumptions ∷ []) is words (w3 4 5 6)
     ∷ words (kindOf (SolverVarName (the 2) (theSolver 3)) ∷ kindOf (UserVarName (the 2) (theUser 3)) ∷ kindOf (DeleteVar (the 2)) ∷ []) is words (w3 7 8 9)
@@ -140,8 +140,8 @@ renames =
 
 -- ---- Write: 1, 14, 3, 8, 11, 2. The answer is the bytes filled.
 
-abbrev pub written : List Anchor
-written =
+abbrev pub writeAnchors : List Anchor
+writeAnchors =
     -- 1 before 14; 14 before 3; 3 before 8, and before 11; 8 before 11; 11; 2
     does (writeOf Text unsound UnitClauses true (w1 0) [] 0) is turns 1 unsound
     ∷ does (writeOf Text held4 UnitClauses false (w1 8) [] 0) is turns 14 held4

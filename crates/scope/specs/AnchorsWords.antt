@@ -15,8 +15,8 @@ use Rattle.scope.specs.Anchors.{Anchor, _is_, words, number, test, w2, w
 
 -- ---- literals: 2 × index, plus 1 if negative; the DIMACS number is index + 1
 
-abbrev pub literals : List Anchor
-literals =
+abbrev pub literalAnchors : List Anchor
+literalAnchors =
     words (codeOf 0 0 ∷ codeOf 0 1 ∷ codeOf 5 0 ∷ codeOf 4095 1 ∷ []) is words (w4 0 1 10 8191)
     ∷ words (indexOf 0 ∷ indexOf 1 ∷ indexOf 10 ∷ indexOf 8191 ∷ []) is words (w4 0 0 5 4095)
     ∷ words (signOf 0 ∷ signOf 1 ∷ signOf 10 ∷ signOf 8191 ∷ []) is words (w4 0 1 0 1)

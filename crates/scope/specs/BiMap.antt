@@ -19,9 +19,9 @@ indexIn (User u) = u .0
 indexIn (Solver s) = s .0
 
 -- the watermark of its map
-abbrev pub markOf : Name → Counts → ℕ
-markOf (User u) c = c .user
-markOf (Solver s) c = c .solver
+abbrev pub watermarkOf : Name → Counts → ℕ
+watermarkOf (User u) c = c .user
+watermarkOf (Solver s) c = c .solver
 
 -- the counts that cover it and its global
 abbrev pub coverName : Name → Counts → ℕ → Counts
@@ -41,7 +41,7 @@ pub record Inserts (c : Counts) (fwd bwd : List ℕ) (n : Name) (g k : ℕ) (r :
 
 -- Both maps of a pair are empty from their watermarks up, and the watermarks are at most the capacity.
 pub record Covered (n : Name) (c : Counts) (fwd bwd : List ℕ) : Type 0 where
-  pub forward : (i : ℕ) → markOf n c ≤ i → getD fwd i 0 ≡ 0
+  pub forward : (i : ℕ) → watermarkOf n c ≤ i → getD fwd i 0 ≡ 0
   pub backward : (g : ℕ) → c .global ≤ g → getD bwd g 0 ≡ 0
-  pub mark : markOf n c ≤ c .capacity
+  pub mark : watermarkOf n c ≤ c .capacity
   pub global : c .global ≤ c .capacity

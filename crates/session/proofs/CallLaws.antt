@@ -57,7 +57,7 @@ use Rattle.session.specs.Ledger.{EntersLit, Pairwise, nil, cons, Enters}
 use Rattle.session.specs.Entered.{hiddenBy, entriesOf, simplifyLines, linesOf}
 use Rattle.session.specs.Session.{Turn, turn, turnDoes}
 use Rattle.session.specs.Made.{filledBy}
-use Rattle.session.proofs.ToldLaws.{Told, last-snoc, take-filled}
+use Rattle.session.proofs.ToldLaws.{ToldFor, last-snoc, take-filled}
 use Rattle.session.proofs.EnterLaws.{Tell, solver-lits, lits-enter, write-enters}
 
 -- ---- what is owed
@@ -69,7 +69,7 @@ pub record Lawful (f : Format) (x : Turn) (t : Table) (vs : List ℕ) (o : Outco
   pub enters : (notes : List Note) → Tell notes (o .table) → Enters (linesOf (x .call) vs (o .words) notes) steps
   pub bytes : o .bytes ≡ encode f steps
   pub valid : Valid steps
-  pub told : Told x vs o
+  pub told : ToldFor x vs o
 
 pub data Owed (f : Format) (x : Turn) (t : Table) : Outcome → Type 0 where
   refusing : {n : ℕ} → Owed f x t (refusal n t)

@@ -18,7 +18,7 @@ use Rattle.session.specs.Ledger.{notesOf}
 use Rattle.session.specs.Entered.{entriesOf, linesOf}
 use Rattle.session.specs.Session.{turnDoes, State, start, enter, Holds}
 use Rattle.session.specs.Made.{notesIn, filledBy, Has, Made, turnOf, leaves, Met, Program, ends, calls, seen, ledger}
-use Rattle.session.proofs.ToldLaws.{Told, take-filled, notes-filled}
+use Rattle.session.proofs.ToldLaws.{ToldFor, take-filled, notes-filled}
 use Rattle.session.proofs.CallLaws.{Owed, refusing, accepting, turn-owed}
 use Rattle.session.proofs.SessionLaws.{Invariant, enter-keeps, invariant-holds, open-start}
 
@@ -41,7 +41,7 @@ record Filled (m : Made) (o : Outcome) : Type 0 where
   words : Has (m .words) (o .words)
   bytes : Has (m .bytes) (o .bytes)
 
-seen-accepted : (σ : State) (m : Made) (o : Outcome) (vs : List ℕ) → Filled m o → o .answer ≡ accepted vs → Told (turnOf m) vs o
+seen-accepted : (σ : State) (m : Made) (o : Outcome) (vs : List ℕ) → Filled m o → o .answer ≡ accepted vs → ToldFor (turnOf m) vs o
     → enter σ (m .call) (seen m) (accepted vs) ≡ enter σ (m .call) o (accepted vs)
 unfolding seen
 seen-accepted σ m o vs k q told =

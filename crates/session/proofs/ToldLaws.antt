@@ -15,7 +15,7 @@ use Rattle.session.specs.Entered.{linesOf}
 use Rattle.session.specs.Session.{Turn}
 use Rattle.session.specs.Made.{notesIn, lastOr, filledBy}
 
-pub record Told (x : Turn) (vs : List ℕ) (o : Outcome) : Type 0 where
+pub record ToldFor (x : Turn) (vs : List ℕ) (o : Outcome) : Type 0 where
   pub notes : filledBy (x .call) vs .notes ≡ length (o .notes)
   pub noteRoom : 3 * length (o .notes) ≤ x .rooms .notes
   pub lines : (out : List ℕ) (notes : List Note) → length out ≡ x .rooms .words

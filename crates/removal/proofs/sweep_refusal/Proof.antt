@@ -3,7 +3,7 @@ use borrow.Author.Tests.{not-true, not-false}
 use native.Mathlib.Omega.{arith}
 use mathlib.Core.Path.{refl, sym, _∙_}
 use Rattle.scope.proofs.SoundLaws.{sound-of}
-use Rattle.removal.proofs.SweepLaws.{count-end}
+use Rattle.removal.proofs.SweepLaws.{swept-end}
 use Rattle.removal.proofs.SweepOneLaws.{readable}
 use Rattle.removal.proofs.HeldLaws.{holding-of}
 use borrow.Author.Needs.{needs}
@@ -31,12 +31,12 @@ mul-if2 c = search needs
 returns-2 : tie.Need-returns-2
 returns-2 c =
     let y = sym (c .before .before .before .is-sound .ensures) ∙ not-false _ (c .before .before .if1 .left) in
-    sweep-2 _ _ y _ (count-end _ _ _ refl (c .before .count-notes .ensures _ (sound-of _ y) (refl, refl, refl, refl))) (c .if2 .taken)
+    sweep-2 _ _ y _ (swept-end _ _ _ refl (c .before .count-notes .ensures _ (sound-of _ y) (refl, refl, refl, refl))) (c .if2 .taken)
 
 returns-3 : tie.Need-returns-3
 returns-3 c =
     let y = sym (c .before .before .before .is-sound .ensures) ∙ not-false _ (c .before .before .if1 .left) in
-    sweep-0 _ _ y _ (count-end _ _ _ refl (c .before .count-notes .ensures _ (sound-of _ y) (refl, refl, refl, refl))) (c .if2 .left)
+    sweep-0 _ _ y _ (swept-end _ _ _ refl (c .before .count-notes .ensures _ (sound-of _ y) (refl, refl, refl, refl))) (c .if2 .left)
 
 pub sweep-refusal-spec : {M : Type 1} → statement M
 sweep-refusal-spec =
