@@ -125,44 +125,45 @@ module _ (t : Table) (g : ℕ) where
         let k = there-live t g w .user in
         omega arith
 
-    module _ (d : Counts) (gu ug : List ℕ) (p : (d ≡ t .counts)
-        × ((gu ≡ set (t .globalFromUser) (getD (t .userFromGlobal) g 0 - 1) 0) × (ug ≡ set (t .userFromGlobal) g 0))) where
-      mid : Table
-      mid = tableOf d gu ug (t .solverFromGlobal) (t .globalFromSolver) (t .assignment) (set (t .records) g (getD (t .records) g 0 / 3 * 3 + 2))
+  module _ (l : g < length (t .records)) (d : Counts) (gu ug : List ℕ) (p : (d ≡ t .counts)
+      × ((gu ≡ set (t .globalFromUser) (getD (t .userFromGlobal) g 0 - 1) 0) × (ug ≡ set (t .userFromGlobal) g 0))) where
+    mid : Table
+    mid = tableOf d gu ug (t .solverFromGlobal) (t .globalFromSolver) (t .assignment) (set (t .records) g (getD (t .records) g 0 / 3 * 3 + 2))
 
-      mid-is : mid ≡ takeUser g (getD (t .userFromGlobal) g 0 - 1) (withMode (recordOf t g) 2) t
-      unfolding mid takeUser
-      mid-is = λ i. tableOf (p .0 i) (p .1 .0 i) (p .1 .1 i) (t .solverFromGlobal) (t .globalFromSolver) (t .assignment)
-          (mode-read t g 2 (there-live t g (h .there) .words) i)
+    mid-is : mid ≡ takeUser g (getD (t .userFromGlobal) g 0 - 1) (withMode (recordOf t g) 2) t
+    unfolding mid takeUser
+    mid-is = λ i. tableOf (p .0 i) (p .1 .0 i) (p .1 .1 i) (t .solverFromGlobal) (t .globalFromSolver) (t .assignment)
+        (mode-read t g 2 l i)
 
-      withdrawn-leaves : (at : ℕ) (words words2 : List ℕ) → words2 ≡ sets words at (0 ∷ g ∷ 0 ∷ []) → Leaves (withdrawn g t) at (at + 3) mid words words2
-      unfolding notesWords
-      withdrawn-leaves at words words2 q = record { table = mid-is; noted = q; moved = omega arith }
+    withdrawn-leaves : (at : ℕ) (words words2 : List ℕ) → words2 ≡ sets words at (0 ∷ g ∷ 0 ∷ []) → Leaves (withdrawn g t) at (at + 3) mid words words2
+    unfolding notesWords
+    withdrawn-leaves at words words2 q = record { table = mid-is; noted = q; moved = omega arith }
 
-      pub hide-leaves : (at next : ℕ) (left : Table) (words words2 words3 : List ℕ) → words2 ≡ sets words at (0 ∷ g ∷ 0 ∷ [])
-          → Leaves (deleteIfUnused g (tableOf d gu ug (t .solverFromGlobal) (t .globalFromSolver) (t .assignment)
-          (set (t .records) g (getD (t .records) g 0 / 3 * 3 + 2)))) (at + 3) next left words2 words3
-          → Leaves (hide g t) at next left words words3
-      unfolding hide mid
-      hide-leaves at next left words words2 words3 q k = leaves-then (deleteIfUnused g) (withdrawn-leaves at words words2 q) k
+    pub hide-leaves : (at next : ℕ) (left : Table) (words words2 words3 : List ℕ) → words2 ≡ sets words at (0 ∷ g ∷ 0 ∷ [])
+        → Leaves (deleteIfUnused g (tableOf d gu ug (t .solverFromGlobal) (t .globalFromSolver) (t .assignment)
+        (set (t .records) g (getD (t .records) g 0 / 3 * 3 + 2)))) (at + 3) next left words2 words3
+        → Leaves (hide g t) at next left words words3
+    unfolding hide mid
+    hide-leaves at next left words words2 words3 q k = leaves-then (deleteIfUnused g) (withdrawn-leaves at words words2 q) k
 
-      live : Live ug (t .solverFromGlobal) (set (t .records) g (getD (t .records) g 0 / 3 * 3 + 2)) g
-      live =
-          let l = there-live t g (h .there) in
-          let x : length ug ≡ length (t .userFromGlobal) = ap length (p .1 .1) ∙ length-set (t .userFromGlobal) g 0 in
-          let y = length-set (t .records) g (getD (t .records) g 0 / 3 * 3 + 2) in
-          let r = getD-set-same (t .records) g (getD (t .records) g 0 / 3 * 3 + 2) 47 (l .words) in
-          let e = record-read t g (l .words) in
-          let w = l .undeleted in
-          record { user = omega arith; solver = l .solver; words = omega arith; small = l .small; undeleted = omega arith }
+    live : There t g → Live ug (t .solverFromGlobal) (set (t .records) g (getD (t .records) g 0 / 3 * 3 + 2)) g
+    live h =
+        let o = there-live t g h in
+        let v = o .user in
+        let x : length ug ≡ length (t .userFromGlobal) = ap length (p .1 .1) ∙ length-set (t .userFromGlobal) g 0 in
+        let y = length-set (t .records) g (getD (t .records) g 0 / 3 * 3 + 2) in
+        let r = getD-set-same (t .records) g (getD (t .records) g 0 / 3 * 3 + 2) 47 l in
+        let e = record-read t g l in
+        let w = o .undeleted in
+        record { user = omega arith; solver = o .solver; words = omega arith; small = o .small; undeleted = omega arith }
 
-      pub hide-delete : (at room room2 : ℕ) → Room (hide g t) at room → room2 ≡ room
-          → Live ug (t .solverFromGlobal) (set (t .records) g (getD (t .records) g 0 / 3 * 3 + 2)) g
-          × ((gu2 gs a : List ℕ)
-          → Room (deleteIfUnused g (tableOf d gu2 ug (t .solverFromGlobal) gs a (set (t .records) g (getD (t .records) g 0 / 3 * 3 + 2)))) (at + 3) room2)
-      unfolding hide mid
-      hide-delete at room room2 r q = (
-        live,
-        delete-any g mid (at + 3) room2
-            (subst (λ (u : Table). Room (deleteIfUnused g u) (at + 3) room2) (sym mid-is) (let a = r .words in record { words = omega arith })),
-      )
+    pub hide-delete : (at room room2 : ℕ) → There t g → Room (hide g t) at room → room2 ≡ room
+        → Live ug (t .solverFromGlobal) (set (t .records) g (getD (t .records) g 0 / 3 * 3 + 2)) g
+        × ((gu2 gs a : List ℕ)
+        → Room (deleteIfUnused g (tableOf d gu2 ug (t .solverFromGlobal) gs a (set (t .records) g (getD (t .records) g 0 / 3 * 3 + 2)))) (at + 3) room2)
+    unfolding hide mid
+    hide-delete at room room2 h r q = (
+      live h,
+      delete-any g mid (at + 3) room2
+          (subst (λ (u : Table). Room (deleteIfUnused g u) (at + 3) room2) (sym mid-is) (let a = r .words in record { words = omega arith })),
+    )

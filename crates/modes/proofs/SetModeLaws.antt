@@ -27,7 +27,7 @@ use Rattle.changes.proofs.CursorLaws.{cursor-start}
 use Rattle.changes.proofs.LeavesLaws.{leaves-stay, notes-fit}
 use Rattle.changes.proofs.CallLaws.{call-refused, call-accepted, call-noted}
 use Rattle.changes.proofs.DeletionLaws.{record-read}
-use Rattle.modes.specs.Asks.{There, ShowAsks, Hides, Sets}
+use Rattle.modes.specs.Asks.{There, ShowAsks, HideAsks, Sets, SetAsks}
 use Rattle.modes.specs.Counting.{modeNotes}
 use Rattle.modes.specs.declared.ModeSet.the-variants.{Done, Shown, Refused}
 use Rattle.modes.specs.Answers.{modeSet}
@@ -99,7 +99,7 @@ unfolding setModeOf
 set-refused t g mode n words e z = call-refused (setModeRefusal t g mode (length words)) n t _ words e z
 
 module _ (t : Table) (g : ℕ) (mode : SamplingMode) (room n : ℕ) (e : n ≡ setModeRefusal t g mode room) (z : n ≡ 0) where
-  pub set-asks : (m : ℕ) → m ≡ modeNumber mode → Sets t g m room
+  pub set-asks : (m : ℕ) → m ≡ modeNumber mode → SetAsks (t .counts) (t .globalFromUser) (t .userFromGlobal) (t .solverFromGlobal) (t .records) g m room
   unfolding setModeRefusal
   set-asks m q =
       let a = past (not (soundb t)) 1 _ (omega arith) (sym e ∙ z) in
@@ -107,12 +107,15 @@ module _ (t : Table) (g : ℕ) (mode : SamplingMode) (room n : ℕ) (e : n ≡ s
       let d = past (isDeleted (recordOf t g)) 6 _ (omega arith) (b .1) in
       let f = past (eqb (assumedOf (recordOf t g)) 1) 7 _ (omega arith) (d .1) in
       let k = past (ltb room (3 * length (setMode g (modeNumber mode) t .notes))) 2 0 (omega arith) (f .1) in
-      rw q
-      (record {
-        there = record { sound = sound-of t (not-false (soundb t) (a .0)); undeleted = leb-false 36 (recordOf t g) (d .0) };
-        mode = mode-small mode;
-        words = ltb-false room (3 * length (setMode g (modeNumber mode) t .notes)) (k .0);
-      })
+      record {
+        gs = t .globalFromSolver;
+        a = t .assignment;
+        sets = rw q (record {
+          there = record { sound = sound-of t (not-false (soundb t) (a .0)); undeleted = leb-false 36 (recordOf t g) (d .0) };
+          mode = mode-small mode;
+          words = ltb-false room (3 * length (setMode g (modeNumber mode) t .notes)) (k .0);
+        });
+      }
 
   pub set-does : (m : ℕ) (said : Said) (left : Table) (words words2 : List ℕ) → m ≡ modeNumber mode
       → Does (noting (λ us. us) (setMode g m t)) said left words words2 → Does (setModeOf t g mode room) said left words words2
@@ -128,21 +131,9 @@ hide-value : (t : Table) (g : ℕ) → hide g t .value ≡ []
 unfolding hide deleteIfUnused
 hide-value t g = by-choose (λ (x : Result (List ℕ)). x .value ≡ []) (isUnused _ g) (λ e. refl) (λ e. refl)
 
-module _ (t : Table) (g m room : ℕ) (h : Sets t g m room) where
+module _ (t : Table) (g m : ℕ) (l : g < length (t .records)) where
   old-mode : modeOf (getD (t .records) g 0) ≡ modeOf (recordOf t g)
-  old-mode = ap modeOf (record-read t g (there-live t g (h .there) .words))
-
-  -- notes fit
-  pub set-fits : (x : Result (List ℕ)) → setMode g m t ≡ x → (next : ℕ) (left : Table) (words words2 : List ℕ) → Leaves x 0 next left words words2
-      → next / 3 < 2 ^ 32
-  set-fits x e next left words words2 k =
-      let b = ap (λ (r : Result (List ℕ)). length (r .notes)) e in
-      let d = mode-notes t g (h .there) m in
-      let f = mode-notes-few (getD (t .solverFromGlobal) g 0) (recordOf t g) m in
-      notes-fit k (omega arith)
-
-  room-of : (x : Result (List ℕ)) → setMode g m t ≡ x → Room x 0 room
-  room-of x e = subst (λ (r : Result (List ℕ)). Room r 0 room) e (let w = h .words in record { words = omega arith })
+  old-mode = ap modeOf (record-read t g l)
 
   -- what is left, where no user is answered, and where one is
   plain-does : (x : Result (List ℕ)) → setMode g m t ≡ x → x .value ≡ [] → (next : ℕ) (d : Counts) (left : Table) (words words2 : List ℕ)
@@ -166,9 +157,6 @@ module _ (t : Table) (g m room : ℕ) (h : Sets t g m room) where
       unfolding setMode
       hide-is = choose-else _ _ _ other-mode ∙ choose-then _ _ _ (eq-eqb _ _ e)
 
-      pub hide-asks : Hides t g × Room (hide g t) 0 room
-      hide-asks = (record { there = h .there; shown = λ z. n (old-mode ∙ z ∙ sym e) }, room-of (hide g t) hide-is)
-
       pub hide-does : (next : ℕ) (d : Counts) (left : Table) (words words2 : List ℕ) → Leaves (hide g t) 0 next left words words2
           → Does (noting (λ us. us) (setMode g m t)) (modeSet (Done d (next / 3)) d) left words words2
       hide-does = plain-does (hide g t) hide-is (hide-value t g)
@@ -178,16 +166,6 @@ module _ (t : Table) (g m room : ℕ) (h : Sets t g m room) where
         pub show-is : setMode g m t ≡ show g m t
         unfolding setMode
         show-is = choose-else _ _ _ other-mode ∙ choose-else _ _ _ (ne-eqb _ _ k) ∙ choose-then _ _ _ (eq-eqb _ _ (sym old-mode ∙ e))
-
-        pub show-asks : ShowAsks (t .counts) (t .globalFromUser) (t .userFromGlobal) (t .records) g m 0 0 room
-        unfolding show
-        show-asks =
-            let r = room-of (show g m t) show-is .words in
-            record {
-              solvers = solversOf t;
-              shows = record { there = h .there; hidden = sym old-mode ∙ e; mode = let l = h .mode in omega arith; mapped = cursor-start _ _ };
-              words = omega arith;
-            }
 
         pub show-does : (next : ℕ) (u : User) (d : Counts) (left : Table) (words words2 : List ℕ) → Leaves (show g m t) 0 next left words words2
             → u .0 ≡ leastFree (t .globalFromUser) (t .counts .user)
@@ -202,15 +180,6 @@ module _ (t : Table) (g m room : ℕ) (h : Sets t g m room) where
         unfolding setMode
         change-is = choose-else _ _ _ other-mode ∙ choose-else _ _ _ (ne-eqb _ _ k) ∙ choose-else _ _ _ (ne-eqb _ _ (λ z. e (old-mode ∙ z)))
 
-        pub change-asks : (g < length (t .records)) × ((getD (t .records) g 0 < 36) × ((m < 3) × (3 ≤ room)))
-        unfolding change
-        change-asks =
-            let r = room-of (change g m t) change-is .words in
-            let l = there-live t g (h .there) in
-            let q = record-read t g (l .words) in
-            let u = l .undeleted in
-            (l .words, (omega arith, (h .mode, omega arith)))
-
         pub change-does : (records words words2 : List ℕ) → records ≡ set (t .records) g (withMode (getD (t .records) g 0) m)
             → words2 ≡ sets words 0 (3 ∷ g ∷ pick (eqb m 0) 1 0 ∷ [])
             → Does (noting (λ us. us) (setMode g m t)) (modeSet (Done (t .counts) 1) (t .counts))
@@ -218,4 +187,52 @@ module _ (t : Table) (g m room : ℕ) (h : Sets t g m room) where
         unfolding change
         change-does records words words2 p q =
             plain-does (change g m t) change-is refl 3 (t .counts) _ words words2
-            (change-leaves t g m records words words2 (there-live t g (h .there) .words) p q)
+            (change-leaves t g m records words words2 l p q)
+
+-- ---- what they ask
+
+module _ (t : Table) (g m room : ℕ) (h : Sets t g m room) where
+  here : g < length (t .records)
+  here = there-live t g (h .there) .words
+
+  -- notes fit
+  pub set-fits : (x : Result (List ℕ)) → setMode g m t ≡ x → (next : ℕ) (left : Table) (words words2 : List ℕ) → Leaves x 0 next left words words2
+      → next / 3 < 2 ^ 32
+  set-fits x e next left words words2 k =
+      let b = ap (λ (r : Result (List ℕ)). length (r .notes)) e in
+      let d = mode-notes t g (h .there) m in
+      let f = mode-notes-few (getD (t .solverFromGlobal) g 0) (recordOf t g) m in
+      notes-fit k (omega arith)
+
+  room-of : (x : Result (List ℕ)) → setMode g m t ≡ x → Room x 0 room
+  room-of x e = subst (λ (r : Result (List ℕ)). Room r 0 room) e (let w = h .words in record { words = omega arith })
+
+  module _ (n : modeOf (getD (t .records) g 0) ≡ m → ⊥) where
+    pub hide-asks : (e : m ≡ 2) → HideAsks (t .counts) (t .globalFromUser) (t .userFromGlobal) (t .solverFromGlobal) (t .records) g 0 room
+    hide-asks e =
+        record {
+          gs = t .globalFromSolver;
+          a = t .assignment;
+          hides = record { there = h .there; shown = λ z. n (old-mode t g m here ∙ z ∙ sym e) };
+          words = room-of (hide g t) (hide-is t g m here n e);
+        }
+
+    module _ (k : m ≡ 2 → ⊥) where
+      pub show-asks : (e : modeOf (getD (t .records) g 0) ≡ 2) → ShowAsks (t .counts) (t .globalFromUser) (t .userFromGlobal) (t .records) g m 0 0 room
+      unfolding show
+      show-asks e =
+          let r = room-of (show g m t) (show-is t g m here n k e) .words in
+          record {
+            solvers = solversOf t;
+            shows = record { there = h .there; hidden = sym (old-mode t g m here) ∙ e; mode = let l = h .mode in omega arith; mapped = cursor-start _ _ };
+            words = omega arith;
+          }
+
+      pub change-asks : (e : modeOf (getD (t .records) g 0) ≡ 2 → ⊥) → (g < length (t .records)) × ((getD (t .records) g 0 < 36) × ((m < 3) × (3 ≤ room)))
+      unfolding change
+      change-asks e =
+          let r = room-of (change g m t) (change-is t g m here n k e) .words in
+          let l = there-live t g (h .there) in
+          let q = record-read t g (l .words) in
+          let u = l .undeleted in
+          (l .words, (omega arith, (h .mode, omega arith)))

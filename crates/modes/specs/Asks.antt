@@ -6,11 +6,12 @@ use mathlib.Core.Logic.{_≢_}
 use lib.ListN.{length}
 use lib.Seq.{sets}
 use Rattle.scope.specs.declared.Counts.{Counts}
-use Rattle.scope.specs.Table.{Table, modeOf, recordOf}
+use Rattle.scope.specs.Table.{Table, tableOf, modeOf, recordOf}
 use Rattle.scope.specs.Sound.{Sound}
 use Rattle.scope.specs.Outcome.{Result}
-use Rattle.scope.specs.Modes.{setMode, observeOne, observe}
+use Rattle.scope.specs.Modes.{hide, setMode, observeOne, observe}
 use Rattle.changes.specs.Cursor.{AllMapped}
+use Rattle.changes.specs.Leaves.{Room}
 use Rattle.changes.specs.Solvers.{Solvers, tableWith}
 
 -- A sound table with an undeleted global.
@@ -36,11 +37,24 @@ pub record Hides (t : Table) (g : ℕ) : Type 0 where
   pub there : There t g
   pub shown : modeOf (recordOf t g) ≢ 2
 
+-- The same of the lists that are lent, with some others, and there is room for the notes from `at` on.
+pub record HideAsks (c : Counts) (gu ug sg records : List ℕ) (g at room : ℕ) : Type 0 where
+  pub gs : List ℕ
+  pub a : List ℕ
+  pub hides : Hides (tableOf c gu ug sg gs a records) g
+  pub words : Room (hide g (tableOf c gu ug sg gs a records)) at room
+
 -- The mode is one of the three, and there is room for the notes.
 pub record Sets (t : Table) (g m room : ℕ) : Type 0 where
   pub there : There t g
   pub mode : m < 3
   pub words : 3 * length (setMode g m t .notes) ≤ room
+
+-- The same of the lists that are lent, with some others.
+pub record SetAsks (c : Counts) (gu ug sg records : List ℕ) (g m room : ℕ) : Type 0 where
+  pub gs : List ℕ
+  pub a : List ℕ
+  pub sets : Sets (tableOf c gu ug sg gs a records) g m room
 
 -- ---- Observe
 

@@ -11,21 +11,21 @@ use table::is_sound;
 use table::put_note;
 ghost use mathlib.Core.Path.{_≡_};
 ghost use mathlib.Core.Bool.{_&&_, not};
-ghost use mathlib.Core.List.{_∷_, []};
-ghost use Prim.Native.Nat.{_≤_, _<_};
+ghost use mathlib.Core.List.{List, _∷_, []};
+ghost use Prim.Native.Nat.{ℕ, _≤_, _<_};
 ghost use lib.Dec.{eqb};
 ghost use lib.ListN.{length, getD, set};
 ghost use Rattle.base.specs.Choice.{pick};
 ghost use Rattle.base.specs.Bounded.{allBelow, count};
 ghost use Rattle.base.specs.Lent.{old, new, Fills};
 ghost use Rattle.scope.specs.Contract.{given, before, after, lent, Does, Meets};
-ghost use Rattle.scope.specs.Table.{assumedOf, withMode, leastFree};
+ghost use Rattle.scope.specs.Table.{tableOf, assumedOf, withMode, leastFree};
 ghost use Rattle.scope.specs.Outcome.{noting};
 ghost use Rattle.scope.specs.Modes.{modeNumber, show, hide, setMode, setModeRefusal, setModeOf, isHidden, observeOne, observe, observeRefusal, observeOf};
 ghost use Rattle.changes.specs.Cursor.{AllMapped};
 ghost use Rattle.changes.specs.Leaves.{Leaves, Room};
 ghost use Rattle.changes.specs.Solvers.{Solvers, tableWith};
-ghost use Rattle.modes.specs.Asks.{ShowAsks, Hides, Sets, UsersFilled, Observes, ObservesAll};
+ghost use Rattle.modes.specs.Asks.{ShowAsks, HideAsks, SetAsks, UsersFilled, Observes, ObservesAll};
 ghost use Rattle.modes.specs.Counting.{modeNotes};
 ghost use Rattle.modes.specs.Answers.{modeSet, observed};
 
@@ -92,23 +92,20 @@ fn show(
     }
 }
 
-// To Hide: U(g,-), then D if unused.
+// To Hide: U(g,-), then D if unused. The lists that are not lent, gs and a, may be any.
 fn hide(
     c: Counts,
     gu: &mut [u32],
     ug: &mut [u32],
     sg: &[u32],
-    gs: &[u32],
-    assignment: &[u32],
     records: &mut [u32],
     global: Global,
     at: usize,
     notes: &mut [u32],
 ) -> Passed
-    requires { ⌜ Hides (given c gu ug sg gs assignment records) (global .0) ⌝ }
-    requires { ⌜ Room (hide (global .0) (given c gu ug sg gs assignment records)) at (length (now notes)) ⌝ }
-    ensures { λ r. ⌜ Leaves (hide (global .0) (before c gu ug sg gs assignment records)) at (r .at)
-        (after (r .counts) gu ug sg gs assignment records) (old notes) (new notes) ⌝ }
+    requires { ⌜ HideAsks c (now gu) (now ug) (now sg) (now records) (global .0) at (length (now notes)) ⌝ }
+    ensures { λ r. ⌜ ((gs a : List ℕ) → Leaves (hide (global .0) (tableOf c (old gu) (old ug) (old sg) gs a (old records))) at (r .at)
+        (tableOf (r .counts) (new gu) (new ug) (old sg) gs a (new records)) (old notes) (new notes)) ⌝ }
 {
     let g = global.0 as usize;
     let next = at + 3;
@@ -190,29 +187,27 @@ fn set_mode_refusal(
     0
 }
 
-// Same mode: nothing. Otherwise by the old mode and the new one.
+// Same mode: nothing. Otherwise by the old mode and the new one. The lists that are not lent, gs and a, may be any.
 fn set_mode(
     c: Counts,
     gu: &mut [u32],
     ug: &mut [u32],
     sg: &[u32],
-    gs: &[u32],
-    assignment: &[u32],
     records: &mut [u32],
     global: Global,
     m: u32,
     notes: &mut [u32],
 ) -> ModeSet
-    requires { ⌜ Sets (given c gu ug sg gs assignment records) (global .0) m (length (now notes)) ⌝ }
-    ensures { λ r. ⌜ Does (noting (λ us. us) (setMode (global .0) m (before c gu ug sg gs assignment records))) (modeSet r c)
-        (after (modeSet r c .counts) gu ug sg gs assignment records) (old notes) (new notes) ⌝ }
+    requires { ⌜ SetAsks c (now gu) (now ug) (now sg) (now records) (global .0) m (length (now notes)) ⌝ }
+    ensures { λ r. ⌜ ((gs a : List ℕ) → Does (noting (λ us. us) (setMode (global .0) m (tableOf c (old gu) (old ug) (old sg) gs a (old records)))) (modeSet r c)
+        (tableOf (modeSet r c .counts) (new gu) (new ug) (old sg) gs a (new records)) (old notes) (new notes)) ⌝ }
 {
     let was = records[global.0 as usize] % 3;
     if was == m {
         return ModeSet::Done(c, 0);
     }
     if m == 2 {
-        let p = hide(c, gu, ug, sg, gs, assignment, records, global, 0, notes);
+        let p = hide(c, gu, ug, sg, records, global, 0, notes);
         let counts = p.counts;
         return ModeSet::Done(counts, (p.at / 3) as u32);
     }
@@ -259,7 +254,7 @@ pub fn set_sampling_mode(
         return ModeSet::Refused(n);
     }
     let m = mode_number(mode);
-    set_mode(c, gu, ug, sg, gs, assignment, records, global, m, notes)
+    set_mode(c, gu, ug, sg, records, global, m, notes)
 }
 
 // Undeleted and Hide.

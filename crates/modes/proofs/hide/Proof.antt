@@ -17,55 +17,45 @@ mul-w : tie.Need-mul-w
 mul-w c = search needs
 
 slice-read-w : tie.Need-slice-read-w
-slice-read-w c = there-live _ _ (c .before .before .before .before .before .before .before .before .before .pre .0 .there) .user
+slice-read-w c = there-live _ _ (c .before .before .before .before .before .before .before .pre .hides .there) .user
 
 sub-w : tie.Need-sub-w
-sub-w c = hide-user _ _ (c .before .before .before .before .before .before .before .before .before .pre .0)
+sub-w c = hide-user _ _ (c .before .before .before .before .before .before .before .pre .hides)
 
 mul-w-2 : tie.Need-mul-w-2
 mul-w-2 c = search needs
 
 slice-read-w-2 : tie.Need-slice-read-w-2
-slice-read-w-2 c =
-    let entry = c .before .before .before .before .before .before .before .before .before .before in
-    there-live _ _ (entry .pre .0 .there) .words
+slice-read-w-2 c = there-live _ _ (c .before .before .before .before .before .before .before .before .pre .hides .there) .words
 
 mul-records : tie.Need-mul-records
-mul-records c =
-    let entry = c .before .before .before .before .before .before .before .before .before .before in
-    record { fits = base-fits _ _ (entry .pre .0 .there) }
+mul-records c = record { fits = base-fits _ _ (c .before .before .before .before .before .before .before .before .pre .hides .there) }
 
 add-records : tie.Need-add-records
-add-records c =
-    let entry = c .before .before .before .before .before .before .before .before .before .before in
-    record { fits = mode-fits _ _ (entry .pre .0 .there) _ (omega arith) }
+add-records c = record { fits = mode-fits _ _ (c .before .before .before .before .before .before .before .before .pre .hides .there) _ (omega arith) }
 
 mul-records-2 : tie.Need-mul-records-2
-mul-records-2 c =
-    let entry = c .before .before .before .before .before .before .before .before .before .before in
-    let l = there-live _ _ (entry .pre .0 .there) .small in omega arith
+mul-records-2 c = let l = there-live _ _ (c .before .before .before .before .before .before .before .before .pre .hides .there) .small in omega arith
 
 slice-write-records : tie.Need-slice-write-records
-slice-write-records c =
-    let entry = c .before .before .before .before .before .before .before .before .before .before in
-    there-live _ _ (entry .pre .0 .there) .words
+slice-write-records c = there-live _ _ (c .before .before .before .before .before .before .before .before .pre .hides .there) .words
 
 unmap-requires : tie.Need-unmap-requires
 unmap-requires c κs =
-    let entry = c .before .before .before .before .before .before .before .before .before .before .before .before in
-    hide-fits _ _ (entry .pre .0)
+    let entry = c .before .before .before .before .before .before .before .before .before .before in
+    hide-fits _ _ (entry .pre .hides)
 
 put-note-requires : tie.Need-put-note-requires
 put-note-requires c κs =
-    let entry = c .before .before .before .before .before .before .before .before .before .before .before .before .before .before .before .before .before
-    .before in
-    (hide-room _ _ _ _ (entry .pre .1), omega arith)
+    let entry = c .before .before .before .before .before .before .before .before .before .before .before .before .before .before .before .before in
+    (hide-room _ _ _ _ (entry .pre .words), omega arith)
 
 delete-global-if-unused-requires : tie.Need-delete-global-if-unused-requires
 delete-global-if-unused-requires c κs =
     let at-unmap = c .before .before .before .before .before .before .before .before .before .before .before in
-    let entry = at-unmap .before .before .before .before .before .before .before .before .before .before .before .before .before in
-    hide-delete _ _ (entry .pre .0) _ _ _ (at-unmap .unmap .ensures) _ _ _ (entry .pre .1) (c .before .before .before .before .before .put-note .kept .0)
+    let entry = at-unmap .before .before .before .before .before .before .before .before .before .before .before in
+    hide-delete _ _ (there-live _ _ (entry .pre .hides .there) .words) _ _ _ (at-unmap .unmap .ensures) _ _ _ (entry .pre .hides .there) (entry .pre .words)
+    (c .before .before .before .before .before .put-note .kept .0)
 
 same-length : tie.Need-same-length
 same-length c = search needs
@@ -83,9 +73,9 @@ returns : tie.Need-returns
 returns c =
     let at-put-note = c .before .before .before .before .before .before .before .before .before .before in
     let at-unmap = at-put-note .before .before .before .before .before .before in
-    let entry = at-unmap .before .before .before .before .before .before .before .before .before .before .before .before .before in
-    hide-leaves _ _ (entry .pre .0) _ _ _ (at-unmap .unmap .ensures) _ _ _ _ _ _ (at-put-note .put-note .ensures)
-    (c .before .before .before .before .delete-global-if-unused .ensures _ _ _)
+    let entry = at-unmap .before .before .before .before .before .before .before .before .before .before .before in
+    λ gs a. hide-leaves _ _ (there-live _ _ (entry .pre .hides .there) .words) _ _ _ (at-unmap .unmap .ensures) _ _ _ _ _ _ (at-put-note .put-note .ensures)
+    ((c .before .before .before .before .delete-global-if-unused .ensures) _ _ _)
 
 pub hide-spec : {M : Type 1} → statement M
 hide-spec =

@@ -11,25 +11,27 @@ mul-was : tie.Need-mul-was
 mul-was c = search needs
 
 slice-read-was : tie.Need-slice-read-was
-slice-read-was c = there-live _ _ (c .before .before .before .before .before .before .before .before .before .pre .there) .words
+slice-read-was c = there-live _ _ (c .before .before .before .before .before .before .before .pre .sets .there) .words
 
 returns : tie.Need-returns
-returns c =
-    let entry = c .before .before .before .before .before .before .before .before .before .before in
-    same-does _ _ _ _ (entry .pre) (c .if1 .taken) _
+returns c = λ gs a. same-does _ _ _ (there-live _ _ (c .before .before .before .before .before .before .before .before .pre .sets .there) .words)
+    (c .if1 .taken) _
 
 hide-requires : tie.Need-hide-requires
 hide-requires c κs =
-    let entry = c .before .before .before .before .before .before .before .before .before .before .before .before .before .before .before in
-    hide-asks _ _ _ _ (entry .pre) (c .before .before .before .before .before .if1 .left) (c .before .before .before .before .if2 .taken)
+    let entry = c .before .before .before .before .before .before .before .before .before .before .before .before .before in
+    hide-asks _ _ _ _ (entry .pre .sets) (c .before .before .before .before .before .if1 .left) (c .before .before .before .before .if2 .taken)
 
-cast-t31 : tie.Need-cast-t31
-cast-t31 c =
+cast-t29 : tie.Need-cast-t29
+cast-t29 c =
     let at-hide = c .before .before .before .before .before .before .before .before .before .before in
     let at-if2 = at-hide .before .before .before .before .before in
     let at-if1 = at-if2 .before in
-    let entry = at-if1 .before .before .before .before .before .before .before .before .before .before in
-    record { fits = set-fits _ _ _ _ (entry .pre) _ (hide-is _ _ _ _ (entry .pre) (at-if1 .if1 .left) (at-if2 .if2 .taken)) _ _ _ _ (at-hide .hide .ensures) }
+    let entry = at-if1 .before .before .before .before .before .before .before .before in
+    record {
+      fits = set-fits _ _ _ _ (entry .pre .sets) _ (hide-is _ _ _ (there-live _ _ (entry .pre .sets .there) .words) (at-if1 .if1 .left)
+          (at-if2 .if2 .taken)) _ _ _ _ ((at-hide .hide .ensures) _ _);
+    }
 
 same-length : tie.Need-same-length
 same-length c = search needs
@@ -48,25 +50,25 @@ returns-2 c =
     let at-hide = c .before .before .before .before .before .before .before .before .before .before in
     let at-if2 = at-hide .before .before .before .before .before in
     let at-if1 = at-if2 .before in
-    let entry = at-if1 .before .before .before .before .before .before .before .before .before .before in
-    hide-does _ _ _ _ (entry .pre) (at-if1 .if1 .left) (at-if2 .if2 .taken) _ _ _ _ _ (at-hide .hide .ensures)
+    let entry = at-if1 .before .before .before .before .before .before .before .before in
+    λ gs a. hide-does _ _ _ (there-live _ _ (entry .pre .sets .there) .words) (at-if1 .if1 .left) (at-if2 .if2 .taken) _ _ _ _ _ ((at-hide .hide .ensures) _ _)
 
 show-requires : tie.Need-show-requires
 show-requires c κs =
-    let entry = c .before .before .before .before .before .before .before .before .before .before .before .before .before .before .before .before in
-    show-asks _ _ _ _ (entry .pre) (c .before .before .before .before .before .before .if1 .left) (c .before .before .before .before .before .if2 .left)
+    let entry = c .before .before .before .before .before .before .before .before .before .before .before .before .before .before in
+    show-asks _ _ _ _ (entry .pre .sets) (c .before .before .before .before .before .before .if1 .left) (c .before .before .before .before .before .if2 .left)
     (c .before .before .before .before .if3 .taken)
 
-cast-t41 : tie.Need-cast-t41
-cast-t41 c =
+cast-t39 : tie.Need-cast-t39
+cast-t39 c =
     let at-show = c .before .before .before .before .before .before .before .before .before .before .before in
     let at-if3 = at-show .before .before .before .before .before in
     let at-if2 = at-if3 .before in
     let at-if1 = at-if2 .before in
-    let entry = at-if1 .before .before .before .before .before .before .before .before .before .before in
+    let entry = at-if1 .before .before .before .before .before .before .before .before in
     record {
-      fits = set-fits _ _ _ _ (entry .pre) _ (show-is _ _ _ _ (entry .pre) (at-if1 .if1 .left) (at-if2 .if2 .left) (at-if3 .if3 .taken)) _ _ _ _
-          ((at-show .show .ensures .0) _);
+      fits = set-fits _ _ _ _ (entry .pre .sets) _ (show-is _ _ _ (there-live _ _ (entry .pre .sets .there) .words) (at-if1 .if1 .left)
+          (at-if2 .if2 .left) (at-if3 .if3 .taken)) _ _ _ _ ((at-show .show .ensures .0) _);
     }
 
 same-length-5 : tie.Need-same-length-5
@@ -87,14 +89,14 @@ returns-3 c =
     let at-if3 = at-show .before .before .before .before .before in
     let at-if2 = at-if3 .before in
     let at-if1 = at-if2 .before in
-    let entry = at-if1 .before .before .before .before .before .before .before .before .before .before in
-    show-does _ _ _ _ (entry .pre) (at-if1 .if1 .left) (at-if2 .if2 .left) (at-if3 .if3 .taken) _ _ _ _ _ _ ((at-show .show .ensures .0) _)
-    (at-show .show .ensures .1)
+    let entry = at-if1 .before .before .before .before .before .before .before .before in
+    λ gs a. show-does _ _ _ (there-live _ _ (entry .pre .sets .there) .words) (at-if1 .if1 .left) (at-if2 .if2 .left) (at-if3 .if3 .taken) _ _ _ _ _ _
+    ((at-show .show .ensures .0) _) (at-show .show .ensures .1)
 
 change-requires : tie.Need-change-requires
 change-requires c κs =
-    let entry = c .before .before .before .before .before .before .before .before .before .before .before .before .before .before in
-    change-asks _ _ _ _ (entry .pre) (c .before .before .before .before .if1 .left) (c .before .before .before .if2 .left) (c .before .before .if3 .left)
+    let entry = c .before .before .before .before .before .before .before .before .before .before .before .before in
+    change-asks _ _ _ _ (entry .pre .sets) (c .before .before .before .before .if1 .left) (c .before .before .before .if2 .left) (c .before .before .if3 .left)
 
 same-length-9 : tie.Need-same-length-9
 same-length-9 c = search needs
@@ -104,9 +106,9 @@ same-length-10 c = search needs
 
 returns-4 : tie.Need-returns-4
 returns-4 c =
-    let entry = c .before .before .before .before .before .before .before .before .before .before .before .before .before .before .before .before .before
-    .before .before in
-    change-does _ _ _ _ (entry .pre) (c .before .before .before .before .before .before .before .before .before .if1 .left)
+    let entry = c .before .before .before .before .before .before .before .before .before .before .before .before .before .before .before .before .before in
+    λ gs a. change-does _ _ _ (there-live _ _ (entry .pre .sets .there) .words)
+    (c .before .before .before .before .before .before .before .before .before .if1 .left)
     (c .before .before .before .before .before .before .before .before .if2 .left) (c .before .before .before .before .before .before .before .if3 .left) _
     _ _ (c .before .before .before .before .change .ensures .0) (c .before .before .before .before .change .ensures .1)
 
@@ -119,14 +121,14 @@ set-mode-spec =
     slice-read-was
     returns
     hide-requires
-    cast-t31
+    cast-t29
     same-length
     same-length-2
     same-length-3
     same-length-4
     returns-2
     show-requires
-    cast-t41
+    cast-t39
     same-length-5
     same-length-6
     same-length-7
