@@ -63,7 +63,7 @@ pub fn mark(
         return Changed::Refused(1);
     }
     let FoundGlobal::At(global) = holder(gs, solver) else {
-        return Changed::Refused(held_refusal(c, gs, solver));
+        return Changed::Refused(held_refusal(gs, solver));
     };
     put_mark(records, mark, global);
     Changed::Done
@@ -88,7 +88,7 @@ pub fn assign_lit(
         return Changed::Refused(1);
     }
     let FoundGlobal::At(_) = holder(gs, Solver(lit / 2)) else {
-        return Changed::Refused(held_refusal(c, gs, Solver(lit / 2)));
+        return Changed::Refused(held_refusal(gs, Solver(lit / 2)));
     };
     let s = (lit / 2) as usize;
     if assignment[s] != 0 {

@@ -82,7 +82,7 @@ fn remove_refusal(
         return 1;
     }
     let FoundGlobal::At(global) = holder(gs, solver) else {
-        return held_refusal(c, gs, solver);
+        return held_refusal(gs, solver);
     };
     let g = global.0 as usize;
     let n = removal_notes(ug[g], records[g]) as usize;
@@ -113,7 +113,7 @@ pub fn remove_solver_var(
         return Removed::Refused(n);
     }
     let FoundGlobal::At(global) = holder(gs, solver) else {
-        return Removed::Refused(held_refusal(c, gs, solver));
+        return Removed::Refused(held_refusal(gs, solver));
     };
     let p = remove_held(
         c,

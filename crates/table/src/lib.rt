@@ -106,8 +106,8 @@ pub fn holder(gs: &[u32], solver: Solver) -> FoundGlobal
 }
 
 // Refusal 8, where nobody holds the solver index; 0 for none.
-pub fn held_refusal(c: Counts, gs: &[u32], solver: Solver) -> u32
-    ensures { λ r. ⌜ ((t : Table) → t .counts ≡ c → t .globalFromSolver ≡ old gs → r ≡ heldElse t (solver .0) 0) ⌝ }
+pub fn held_refusal(gs: &[u32], solver: Solver) -> u32
+    ensures { λ r. ⌜ ((t : Table) → t .globalFromSolver ≡ old gs → r ≡ heldElse t (solver .0) 0) ⌝ }
 {
     let FoundGlobal::At(_) = holder(gs, solver) else {
         return 8;

@@ -34,7 +34,7 @@ same-length-2 c = search needs
 returns-2 : tie.Need-returns-2
 returns-2 c =
     assign-unheld _ _ _ (c .before .before .before .before .before .is-sound .ensures) _ _ (c .before .before .before .before .if1 .left)
-    (global-word _ _ (sym (c .before .enum-told2 .given .1) ∙ (c .before .before .before .holder .ensures))) (c .held-refusal .ensures _ refl refl)
+    (global-word _ _ (sym (c .before .enum-told2 .given .1) ∙ (c .before .before .before .holder .ensures))) (c .held-refusal .ensures _ refl)
 
 cast-s : tie.Need-cast-s
 cast-s c = search needs

@@ -33,7 +33,7 @@ same-length-2 c = search needs
 returns-2 : tie.Need-returns-2
 returns-2 c =
     mark-unheld _ _ _ _ (c .before .before .before .before .before .is-sound .ensures) _ _ (c .before .before .before .before .if1 .left)
-    (global-word _ _ (sym (c .before .enum-told .given .1) ∙ (c .before .before .before .holder .ensures))) (c .held-refusal .ensures _ refl refl)
+    (global-word _ _ (sym (c .before .enum-told .given .1) ∙ (c .before .before .before .holder .ensures))) (c .held-refusal .ensures _ refl)
 
 put-mark-requires : tie.Need-put-mark-requires
 put-mark-requires c κs =

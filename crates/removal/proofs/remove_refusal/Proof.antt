@@ -26,7 +26,7 @@ held-refusal-requires c κs = search needs
 returns-2 : tie.Need-returns-2
 returns-2 c = remove-unheld _ _ _ (sym (c .before .before .before .before .before .is-sound .ensures)
     ∙ not-false _ (c .before .before .before .before .if1 .left)) (sym (c .before .enum-told .given .1) ∙ (c .before .before .before .holder .ensures)) _
-    (c .held-refusal .ensures _ refl refl)
+    (c .held-refusal .ensures _ refl)
 
 cast-g : tie.Need-cast-g
 cast-g c = search needs

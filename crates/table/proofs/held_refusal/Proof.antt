@@ -14,10 +14,10 @@ enum-told-2 : tie.Need-enum-told-2
 enum-told-2 c = search needs
 
 returns : tie.Need-returns
-returns c t p q = unheld-8 t _ _ q (sym (c .enum-told2 .given .1) ∙ (c .before .before .holder .ensures))
+returns c t q = unheld-8 t _ _ q (sym (c .enum-told2 .given .1) ∙ (c .before .before .holder .ensures))
 
 returns-2 : tie.Need-returns-2
-returns-2 c t p q = held-0 t _ _ _ q (sym (c .enum-told .given .1) ∙ (c .before .before .holder .ensures))
+returns-2 c t q = held-0 t _ _ _ q (sym (c .enum-told .given .1) ∙ (c .before .before .holder .ensures))
 
 pub held-refusal-spec : {M : Type 1} → statement M
 held-refusal-spec =

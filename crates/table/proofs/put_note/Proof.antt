@@ -1,6 +1,6 @@
-use native.Mathlib.Numerals.{towards-suc}
 use native.Mathlib.Omega.{arith}
 use lib.ListN.{length-set}
+use Rattle.table.proofs.NotedLaws.{three-stored}
 use borrow.Author.Needs.{needs}
 use Rattle.table.proofs.put_note.Statement.{statement}
 use Rattle.table.proofs.put_note.Tie as tie
@@ -36,7 +36,7 @@ same-length : tie.Need-same-length
 same-length c = search needs
 
 returns : tie.Need-returns
-returns c = rw (← c .words-of .ensures) (simp towards-suc)
+returns c = three-stored _ _ _ _ _ _ _ _ _ (c .words-of .ensures) (omega arith) (omega arith) (omega arith)
 
 pub put-note-spec : {M : Type 1} → statement M
 put-note-spec =
