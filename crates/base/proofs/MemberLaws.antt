@@ -94,7 +94,8 @@ module _ {A : Type 0} (p : A → Bool) where
   keep-append [] ys = refl
   keep-append (x ∷ xs) ys = go (keep-append xs ys) (p x)
     where
-      go : keepOf p (xs ++ ys) ≡ keepOf p xs ++ keepOf p ys → (b : Bool) → pick b (x ∷ keepOf p (xs ++ ys)) (keepOf p (xs ++ ys)) ≡ pick b (x ∷ keepOf p xs) (keepOf p xs) ++ keepOf p ys
+      go : keepOf p (xs ++ ys) ≡ keepOf p xs ++ keepOf p ys → (b : Bool)
+          → pick b (x ∷ keepOf p (xs ++ ys)) (keepOf p (xs ++ ys)) ≡ pick b (x ∷ keepOf p xs) (keepOf p xs) ++ keepOf p ys
       go e true = ap (λ (l : List A). x ∷ l) e
       go e false = e
 
@@ -123,7 +124,8 @@ module _ {A : Type 0} (p : A → Bool) where
 
   -- ---- a loop that keeps members
 
-  pub keep-step : (xs : List A) (i : ℕ) (d : A) → i < length xs → keepOf p (take (i + 1) xs) ≡ keepOf p (take i xs) ++ pick (p (getD xs i d)) (getD xs i d ∷ []) []
+  pub keep-step : (xs : List A) (i : ℕ) (d : A) → i < length xs
+      → keepOf p (take (i + 1) xs) ≡ keepOf p (take i xs) ++ pick (p (getD xs i d)) (getD xs i d ∷ []) []
   unfolding keepOf
   keep-step xs i d l = rw (add-one, take-suc xs i d l) (keep-append (take i xs) (getD xs i d ∷ []))
 

@@ -37,7 +37,8 @@ fitted bytes room at = pick (ltb room (at + length bytes)) (record { answer = re
 
 -- The literals from a to b of a buffer as one step: 3, 2.
 abbrev pub writeClauseOf : Format → Kind → List ℕ → ℕ → ℕ → ℕ → ℕ → Writing
-writeClauseOf f k buf a b room at = pick (noClause buf a b) (record { answer = refused 3 []; bytes = [] }) (fitted (encodeStep f (stepOf k (part a b buf))) room at)
+writeClauseOf f k buf a b room at = pick (noClause buf a b) (record { answer = refused 3 []; bytes = [] })
+    (fitted (encodeStep f (stepOf k (part a b buf))) room at)
 
 -- The answer's enum: the place after what was filled; 3; 2.
 abbrev pub wrote : Wrote → Answer

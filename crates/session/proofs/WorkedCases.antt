@@ -3,7 +3,8 @@ use mathlib.Core.Path.{refl}
 use Rattle.base.specs.Bounded.{allBelow, least, count, everyOf, anyOf, keepOf}
 use Rattle.drat.specs.Numeral.{spell, further, bytesOf}
 use Rattle.drat.specs.Grammar.{number, numbers, encodeStep, encode}
-use Rattle.drat.specs.Reading.{digitsFrom, signedFrom, thenBlank, lebFrom, endFrom, lineFrom, token, blankFrom, opening, consPart, body, asStep, oneStep, consStep, stepsFrom, readProof}
+use Rattle.drat.specs.Reading.{digitsFrom, signedFrom, thenBlank, lebFrom, endFrom, lineFrom, token, blankFrom, opening, consPart, body, asStep, oneStep}
+use Rattle.drat.specs.Reading.{consStep, stepsFrom, readProof}
 use Rattle.drat.specs.Filled.{answerOf, codesOf, endsFrom, kindsOf}
 use Rattle.scope.specs.Table.{word, isShown, giveUser, takeUser, giveSolver, takeSolver, putRecord, putValue, dropGlobal, leastFree, undeleted, nextSolver}
 use Rattle.scope.specs.Sound.{soundb, sizesb, marksb, atMostb, tailb, backb, namedb, deletedb, tailsb, pairsb}
