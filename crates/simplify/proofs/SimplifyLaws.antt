@@ -325,30 +325,31 @@ module _ (t : Table) (gs values lits : List ℕ) (g : t .globalFromSolver ≡ gs
 
 -- ---- names in buffers of 8,192
 
-module _ (gs values lits : List ℕ) (n : Nameable gs true lits) (o : List ℕ) (e : length o ≡ 8192) where
+module _ (gs lits : List ℕ) (n : Nameable gs true lits) (o : List ℕ) (e : length o ≡ 8192) where
   pub room-clause : length lits ≤ length o
   room-clause = let h = n .few in omega arith
-
-  pub room-rest : length (unfalseBy values lits) ≤ length o
-  room-rest = let h = room-clause in let k = keep-length (λ c. not (falseBy values c)) lits in omega arith
-
-  rest-few : length (unfalseBy values lits) ≤ 8192
-  rest-few = let h = room-rest in omega arith
 
   codes : (ls : List ℕ) → Codes (namesBy gs true ls)
   codes ls = names-codes gs true ls (n .small) (λ q. absurd (true≢false q))
 
-  module _ (m : List ℕ) where
-    pub clause-part : m ≡ sets o 0 (namesBy gs true lits) → take (length lits) m ≡ namesBy gs true lits
-    clause-part q = names-part gs true lits o m e (n .few) q
+  module _ (m : List ℕ) (q : m ≡ sets o 0 (namesBy gs true lits)) where
+    pub clause-part : take (length lits) m ≡ namesBy gs true lits
+    clause-part = names-part gs true lits o m e (n .few) q
 
-    pub clause-written : m ≡ sets o 0 (namesBy gs true lits) → Written (take (length lits) m)
-    clause-written q = let w = names-written gs true lits o m e (n .few) q (codes lits) in record { codes = w .0; few = w .1 }
+    pub clause-written : Written (take (length lits) m)
+    clause-written = let w = names-written gs true lits o m e (n .few) q (codes lits) in record { codes = w .0; few = w .1 }
 
-    pub clause-within : m ≡ sets o 0 (namesBy gs true lits) → length lits ≤ length m
-    clause-within q = names-within gs true lits o m e (n .few) q
+    pub clause-within : length lits ≤ length m
+    clause-within = names-within gs true lits o m e (n .few) q
 
-    module _ (k : ℕ) (l : k ≡ length (unfalseBy values lits)) (q : m ≡ sets o 0 (namesBy gs true (unfalseBy values lits))) where
+  module _ (values : List ℕ) where
+    pub room-rest : length (unfalseBy values lits) ≤ length o
+    room-rest = let h = room-clause in let k = keep-length (λ c. not (falseBy values c)) lits in omega arith
+
+    rest-few : length (unfalseBy values lits) ≤ 8192
+    rest-few = let h = room-rest in omega arith
+
+    module _ (m : List ℕ) (k : ℕ) (l : k ≡ length (unfalseBy values lits)) (q : m ≡ sets o 0 (namesBy gs true (unfalseBy values lits))) where
       pub rest-part : take k m ≡ namesBy gs true (unfalseBy values lits)
       rest-part = ap (λ (i : ℕ). take i m) l ∙ names-part gs true (unfalseBy values lits) o m e rest-few q
 

@@ -94,13 +94,7 @@ fn keep_clause(lits: &[u32], out: &mut [u32]) -> Reduced
 }
 
 // A clause that is dropped, with one delete step: 2.
-fn drop_clause(
-    gs: &[u32],
-    f: Format,
-    lits: &[u32],
-    redundant: bool,
-    bytes: &mut [u8],
-) -> Reduced
+fn drop_clause(gs: &[u32], f: Format, lits: &[u32], redundant: bool, bytes: &mut [u8]) -> Reduced
     requires { ⌜ Nameable (now gs) true (now lits) ⌝ }
     ensures { λ r. ⌜ ((t : Table) (outs : ℕ) → SortedAs t (old lits) Dropped → t .globalFromSolver ≡ old gs →
         let o = simplifyOf f t (old lits) redundant outs (length (old bytes)) in

@@ -7,14 +7,14 @@ rename-lits-requires : tie.Need-rename-lits-requires
 rename-lits-requires c κs =
     let entry = c .before .before .before .before .before .before in (
       (entry .pre .0),
-      room-clause (entry .args .gs .now) (entry .args .assignment .now) (entry .args .lits .now) (entry .pre .0) (entry .args .clause .now) (entry .pre .1 .1),
+      room-clause _ _ (entry .pre .0) (entry .args .clause .now) (entry .pre .1 .1),
     )
 
 keep-rest-requires : tie.Need-keep-rest-requires
 keep-rest-requires c κs =
     let entry = c .before .before .before .before .before .before .before .before .before .before in (
       (entry .pre .0),
-      room-rest (entry .args .gs .now) (entry .args .assignment .now) (entry .args .lits .now) (entry .pre .0) (entry .args .rest .now) (entry .pre .1 .0),
+      room-rest _ _ (entry .pre .0) (entry .args .rest .now) (entry .pre .1 .0) (entry .args .assignment .now),
     )
 
 same-length : tie.Need-same-length

@@ -25,37 +25,37 @@ returns : tie.Need-returns
 returns c t s g v =
     let entry = c .before .before .before .before .before .before .before .before .before .before .before in
     says-12 (entry .args .f) t (entry .args .lits .now) (entry .args .redundant) (entry .args .what) (entry .args .out .now) (entry .args .bytes .now)
-    (s .passes) (s .sort) (entry .pre .1) _ ((c .before .before .before .name-both .ensures .0) ∙ left-here t (entry .args .gs .now) (entry .args .assignment .now) (entry .args .lits .now) g v) (c .if1 .taken)
+    (s .passes) (s .sort) (entry .pre .1) _ ((c .before .before .before .name-both .ensures .0) ∙ left-here t _ _ _ g v) (c .if1 .taken)
 
 returns-2 : tie.Need-returns-2
 returns-2 c t s g v =
     let entry = c .before .before .before .before .before .before .before .before .before .before .before .before in
     says-2-words (entry .args .f) t (entry .args .lits .now) (entry .args .redundant) (entry .args .what) (entry .args .out .now) (entry .args .bytes .now)
-    (s .passes) (s .sort) (entry .pre .1) _ ((c .before .before .before .before .name-both .ensures .0) ∙ left-here t (entry .args .gs .now) (entry .args .assignment .now) (entry .args .lits .now) g v) (c .before .if1 .left)
+    (s .passes) (s .sort) (entry .pre .1) _ ((c .before .before .before .before .name-both .ensures .0) ∙ left-here t _ _ _ g v) (c .before .if1 .left)
     (c .if2 .taken)
 
 array-share-prefix-rest : tie.Need-array-share-prefix-rest
 array-share-prefix-rest c =
     let entry = c .before .before .before .before .before .before .before .before .before .before .before .before in
-    rest-within (entry .args .gs .now) (entry .args .assignment .now) (entry .args .lits .now) (entry .pre .0) _ (length-replicate {A = ℕ} 8192 0) _ _ (c .before .before .before .before .name-both .ensures .0)
+    rest-within _ _ (entry .pre .0) _ (length-replicate {A = ℕ} 8192 0) (entry .args .assignment .now) _ _ (c .before .before .before .before .name-both .ensures .0)
     (c .before .before .before .before .name-both .ensures .1 .0)
 
 slice-aggregate-put-both : tie.Need-slice-aggregate-put-both
 slice-aggregate-put-both c =
     let entry = c .before .before .before .before .before .before .before .before .before .before .before .before .before in
-    sym (length-take-le _ _ (rest-within (entry .args .gs .now) (entry .args .assignment .now) (entry .args .lits .now) (entry .pre .0) _ (length-replicate {A = ℕ} 8192 0) _ _
+    sym (length-take-le _ _ (rest-within _ _ (entry .pre .0) _ (length-replicate {A = ℕ} 8192 0) (entry .args .assignment .now) _ _
     (c .before .before .before .before .before .name-both .ensures .0) (c .before .before .before .before .before .name-both .ensures .1 .0)))
 
 array-share-prefix-clause : tie.Need-array-share-prefix-clause
 array-share-prefix-clause c =
     let entry = c .before .before .before .before .before .before .before .before .before .before .before .before .before in
-    clause-within (entry .args .gs .now) (entry .args .assignment .now) (entry .args .lits .now) (entry .pre .0) _ (length-replicate {A = ℕ} 8192 0) _
+    clause-within _ _ (entry .pre .0) _ (length-replicate {A = ℕ} 8192 0) _
     (c .before .before .before .before .before .name-both .ensures .1 .1)
 
 slice-aggregate-put-both-2 : tie.Need-slice-aggregate-put-both-2
 slice-aggregate-put-both-2 c =
     let entry = c .before .before .before .before .before .before .before .before .before .before .before .before .before .before in
-    sym (length-take-le _ _ (clause-within (entry .args .gs .now) (entry .args .assignment .now) (entry .args .lits .now) (entry .pre .0) _ (length-replicate {A = ℕ} 8192 0) _
+    sym (length-take-le _ _ (clause-within _ _ (entry .pre .0) _ (length-replicate {A = ℕ} 8192 0) _
     (c .before .before .before .before .before .before .name-both .ensures .1 .1)))
 
 put-both-requires : tie.Need-put-both-requires
@@ -63,10 +63,10 @@ put-both-requires c κs =
     let entry = c .before .before .before .before .before .before .before .before .before .before .before .before .before .before .before in (
       (entry .pre .1),
       (
-        rest-written (entry .args .gs .now) (entry .args .assignment .now) (entry .args .lits .now) (entry .pre .0) _ (length-replicate {A = ℕ} 8192 0) _ _
+        rest-written _ _ (entry .pre .0) _ (length-replicate {A = ℕ} 8192 0) (entry .args .assignment .now) _ _
             (c .before .before .before .before .before .before .before .name-both .ensures .0)
             (c .before .before .before .before .before .before .before .name-both .ensures .1 .0),
-        clause-written (entry .args .gs .now) (entry .args .assignment .now) (entry .args .lits .now) (entry .pre .0) _
+        clause-written _ _ (entry .pre .0) _
             (length-replicate {A = ℕ} 8192 0) _ (c .before .before .before .before .before .before .before .name-both .ensures .1 .1),
       ),
     )
@@ -84,14 +84,13 @@ returns-3 : tie.Need-returns-3
 returns-3 c t s g v =
     let at-name-both = c .before .before .before .before .before .before .before .before .before .before .before .before in
     let entry = at-name-both .before .before .before .before .before .before .before .before in
+    let rest = rest-part _ _ (entry .pre .0) _ (length-replicate {A = ℕ} 8192 0) (entry .args .assignment .now) _ _ (at-name-both .name-both .ensures .0)
+    (at-name-both .name-both .ensures .1 .0) in
+    let clause = clause-part _ _ (entry .pre .0) _ (length-replicate {A = ℕ} 8192 0) _ (at-name-both .name-both .ensures .1 .1) in
     says-2-bytes (entry .args .f) t (entry .args .lits .now) (entry .args .redundant) (entry .args .what) (entry .args .out .now) (entry .args .bytes .now)
-    (s .passes) (s .sort) (entry .pre .1) _ _ _
-    (rest-part (entry .args .gs .now) (entry .args .assignment .now) (entry .args .lits .now) (entry .pre .0) _ (length-replicate {A = ℕ} 8192 0) _ _ (at-name-both .name-both .ensures .0)
-    (at-name-both .name-both .ensures .1 .0) ∙ rest-here t (entry .args .gs .now) (entry .args .assignment .now) (entry .args .lits .now) g v true) (clause-part (entry .args .gs .now) (entry .args .assignment .now) (entry .args .lits .now) (entry .pre .0) _ (length-replicate {A = ℕ} 8192 0) _
-    (at-name-both .name-both .ensures .1 .1) ∙ clause-here t (entry .args .gs .now) (entry .args .assignment .now) (entry .args .lits .now) g v) _ (c .before .before .before .before .put-both .ensures .0)
-    (c .before .before .before .before .put-both .ensures .1) _ _ ((at-name-both .name-both .ensures .0) ∙ left-here t (entry .args .gs .now) (entry .args .assignment .now) (entry .args .lits .now) g v)
-    (c .before .before .before .before .before .before .before .before .before .if1 .left)
-    (c .before .before .before .before .before .before .before .before .if2 .left) (c .enum-told .given .1)
+    (s .passes) (s .sort) (entry .pre .1) _ _ _ (rest ∙ rest-here t _ _ _ g v true) (clause ∙ clause-here t _ _ _ g v) _
+    (c .before .before .before .before .put-both .ensures .0) (c .before .before .before .before .put-both .ensures .1) _ _ ((at-name-both .name-both .ensures .0) ∙ left-here t _ _ _ g v)
+    (c .before .before .before .before .before .before .before .before .before .if1 .left) (c .before .before .before .before .before .before .before .before .if2 .left) (c .enum-told .given .1)
 
 keep-rest-requires : tie.Need-keep-rest-requires
 keep-rest-requires c κs =
@@ -116,13 +115,14 @@ returns-4 c t s g v =
     let at-if1 = at-if2 .before in
     let at-name-both = at-if1 .before .before .before in
     let entry = at-name-both .before .before .before .before .before .before .before .before in
+    let rest = rest-part _ _ (entry .pre .0) _ (length-replicate {A = ℕ} 8192 0) (entry .args .assignment .now) _ _ (at-name-both .name-both .ensures .0)
+    (at-name-both .name-both .ensures .1 .0) in
+    let clause = clause-part _ _ (entry .pre .0) _ (length-replicate {A = ℕ} 8192 0) _ (at-name-both .name-both .ensures .1 .1) in
     says-done (entry .args .f) t (entry .args .lits .now) (entry .args .redundant) (entry .args .what) (entry .args .out .now) (entry .args .bytes .now)
-    (s .passes) (s .sort) (entry .pre .1) _ _ _
-    (rest-part (entry .args .gs .now) (entry .args .assignment .now) (entry .args .lits .now) (entry .pre .0) _ (length-replicate {A = ℕ} 8192 0) _ _ (at-name-both .name-both .ensures .0)
-    (at-name-both .name-both .ensures .1 .0) ∙ rest-here t (entry .args .gs .now) (entry .args .assignment .now) (entry .args .lits .now) g v true) (clause-part (entry .args .gs .now) (entry .args .assignment .now) (entry .args .lits .now) (entry .pre .0) _ (length-replicate {A = ℕ} 8192 0) _
-    (at-name-both .name-both .ensures .1 .1) ∙ clause-here t (entry .args .gs .now) (entry .args .assignment .now) (entry .args .lits .now) g v) _ (at-put-both .put-both .ensures .0) (at-put-both .put-both .ensures .1) _ _ (c .add-flag .result) _
-    ((at-name-both .name-both .ensures .0) ∙ left-here t (entry .args .gs .now) (entry .args .assignment .now) (entry .args .lits .now) g v) (at-if1 .if1 .left) (at-if2 .if2 .left) (c .before .before .before .before .before .before .wrote .given .1)
-    (c .add-flag .ensures) ((c .before .before .before .keep-rest .ensures .1) ∙ ap (sets (entry .args .out .now) 0) (rest-here t (entry .args .gs .now) (entry .args .assignment .now) (entry .args .lits .now) g v false))
+    (s .passes) (s .sort) (entry .pre .1) _ _ _ (rest ∙ rest-here t _ _ _ g v true) (clause ∙ clause-here t _ _ _ g v) _
+    (at-put-both .put-both .ensures .0) (at-put-both .put-both .ensures .1) _ _ (c .add-flag .result) _
+    ((at-name-both .name-both .ensures .0) ∙ left-here t _ _ _ g v) (at-if1 .if1 .left) (at-if2 .if2 .left) (c .before .before .before .before .before .before .wrote .given .1) (c .add-flag .ensures)
+    ((c .before .before .before .keep-rest .ensures .1) ∙ ap (sets (entry .args .out .now) 0) (rest-here t _ _ _ g v false))
 
 pub shorten-clause-spec : {M : Type 1} → statement M
 shorten-clause-spec =
