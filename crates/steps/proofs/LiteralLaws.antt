@@ -9,7 +9,6 @@ use lib.Dec.{eqb, ltb, leb}
 use lib.ListN.{length, getD, take, length-map}
 use lib.Seq.{sets, length-sets}
 use borrow.Author.Tests.{ne-eqb, lt-ltb, le-ltb, ltb-false, eqb-false, leb-false}
-use Rattle.base.specs.Choice.{pick}
 use Rattle.base.specs.Bounded.{anyOf}
 use Rattle.base.proofs.Truth.{same}
 use Rattle.base.proofs.MemberLaws.{any-none, or-left, or-right, word-inside}

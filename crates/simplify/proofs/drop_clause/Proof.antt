@@ -21,8 +21,10 @@ same-length c = search needs
 returns : tie.Need-returns
 returns c t outs s g =
     let entry = c .before .before .before .before .before .before .before .before .before .before in
-    dropped-short (entry .args .f) t (entry .args .gs .now) (entry .args .lits .now) (entry .args .redundant) (c .before .before .before .before .before .before .delete-cause .result) outs
-    (entry .args .bytes .now) _ g s _ _ (c .before .before .before .before .write-judged .ensures .0) (c .enum-told .given .1) (c .before .before .before .before .write-judged .ensures .1)
+    dropped-short (entry .args .f) t (entry .args .gs .now) (entry .args .lits .now) (entry .args .redundant)
+    (c .before .before .before .before .before .before .delete-cause .result) outs
+    (entry .args .bytes .now) _ g s _ _ (c .before .before .before .before .write-judged .ensures .0) (c .enum-told .given .1)
+    (c .before .before .before .before .write-judged .ensures .1)
 
 same-length-2 : tie.Need-same-length-2
 same-length-2 c = search needs
@@ -30,8 +32,10 @@ same-length-2 c = search needs
 returns-2 : tie.Need-returns-2
 returns-2 c t outs s g =
     let entry = c .before .before .before .before .before .before .before .before .before .before .before in
-    dropped-filled (entry .args .f) t (entry .args .gs .now) (entry .args .lits .now) (entry .args .redundant) (c .before .before .before .before .before .before .before .delete-cause .result) outs
-    (entry .args .bytes .now) _ g s _ _ (c .before .before .before .before .before .write-judged .ensures .0) (c .before .wrote .given .1) (c .before .before .before .before .before .write-judged .ensures .1)
+    dropped-filled (entry .args .f) t (entry .args .gs .now) (entry .args .lits .now) (entry .args .redundant)
+    (c .before .before .before .before .before .before .before .delete-cause .result) outs
+    (entry .args .bytes .now) _ g s _ _ (c .before .before .before .before .before .write-judged .ensures .0) (c .before .wrote .given .1)
+    (c .before .before .before .before .before .write-judged .ensures .1)
 
 pub drop-clause-spec : {M : Type 1} → statement M
 drop-clause-spec =

@@ -37,7 +37,8 @@ returns-2 c t s g v =
 array-share-prefix-rest : tie.Need-array-share-prefix-rest
 array-share-prefix-rest c =
     let entry = c .before .before .before .before .before .before .before .before .before .before .before .before in
-    rest-within _ _ (entry .pre .0) _ (length-replicate {A = ℕ} 8192 0) (entry .args .assignment .now) _ _ (c .before .before .before .before .name-both .ensures .0)
+    rest-within _ _ (entry .pre .0) _ (length-replicate {A = ℕ} 8192 0) (entry .args .assignment .now) _ _
+    (c .before .before .before .before .name-both .ensures .0)
     (c .before .before .before .before .name-both .ensures .1 .0)
 
 slice-aggregate-put-both : tie.Need-slice-aggregate-put-both
@@ -89,8 +90,10 @@ returns-3 c t s g v =
     let clause = clause-part _ _ (entry .pre .0) _ (length-replicate {A = ℕ} 8192 0) _ (at-name-both .name-both .ensures .1 .1) in
     says-2-bytes (entry .args .f) t (entry .args .lits .now) (entry .args .redundant) (entry .args .what) (entry .args .out .now) (entry .args .bytes .now)
     (s .passes) (s .sort) (entry .pre .1) _ _ _ (rest ∙ rest-here t _ _ _ g v true) (clause ∙ clause-here t _ _ _ g v) _
-    (c .before .before .before .before .put-both .ensures .0) (c .before .before .before .before .put-both .ensures .1) _ _ ((at-name-both .name-both .ensures .0) ∙ left-here t _ _ _ g v)
-    (c .before .before .before .before .before .before .before .before .before .if1 .left) (c .before .before .before .before .before .before .before .before .if2 .left) (c .enum-told .given .1)
+    (c .before .before .before .before .put-both .ensures .0) (c .before .before .before .before .put-both .ensures .1) _ _
+    ((at-name-both .name-both .ensures .0) ∙ left-here t _ _ _ g v)
+    (c .before .before .before .before .before .before .before .before .before .if1 .left)
+    (c .before .before .before .before .before .before .before .before .if2 .left) (c .enum-told .given .1)
 
 keep-rest-requires : tie.Need-keep-rest-requires
 keep-rest-requires c κs =
@@ -121,7 +124,8 @@ returns-4 c t s g v =
     says-done (entry .args .f) t (entry .args .lits .now) (entry .args .redundant) (entry .args .what) (entry .args .out .now) (entry .args .bytes .now)
     (s .passes) (s .sort) (entry .pre .1) _ _ _ (rest ∙ rest-here t _ _ _ g v true) (clause ∙ clause-here t _ _ _ g v) _
     (at-put-both .put-both .ensures .0) (at-put-both .put-both .ensures .1) _ _ (c .add-flag .result) _
-    ((at-name-both .name-both .ensures .0) ∙ left-here t _ _ _ g v) (at-if1 .if1 .left) (at-if2 .if2 .left) (c .before .before .before .before .before .before .wrote .given .1) (c .add-flag .ensures)
+    ((at-name-both .name-both .ensures .0) ∙ left-here t _ _ _ g v) (at-if1 .if1 .left) (at-if2 .if2 .left)
+    (c .before .before .before .before .before .before .wrote .given .1) (c .add-flag .ensures)
     ((c .before .before .before .keep-rest .ensures .1) ∙ ap (sets (entry .args .out .now) 0) (rest-here t _ _ _ g v false))
 
 pub shorten-clause-spec : {M : Type 1} → statement M

@@ -35,7 +35,8 @@ enum-told-2 : tie.Need-enum-told-2
 enum-told-2 c = search needs
 
 drop-clause-requires : tie.Need-drop-clause-requires
-drop-clause-requires c κs = clause-nameable _ _ (sym (c .before .before .before .before .before .clause-refusal .ensures) ∙ (c .before .before .before .before .if1 .left))
+drop-clause-requires c κs = clause-nameable _ _ (sym (c .before .before .before .before .before .clause-refusal .ensures)
+    ∙ (c .before .before .before .before .if1 .left))
 
 shorten-clause-requires : tie.Need-shorten-clause-requires
 shorten-clause-requires c κs = (
@@ -50,12 +51,17 @@ returns-2 : tie.Need-returns-2
 returns-2 c =
     let at-clause-refusal = c .before .before .before .before .before .before .before .before in
     let entry = at-clause-refusal .before .before .before .before .before .before .before .before .before .before in
-    let s = sorted-as _ (entry .args .lits .now) Kept _ _ (at-clause-refusal .clause-refusal .ensures) (c .before .before .before .before .before .before .before .if1 .left)
+    let s = sorted-as _ (entry .args .lits .now) Kept _ _ (at-clause-refusal .clause-refusal .ensures)
+    (c .before .before .before .before .before .before .before .if1 .left)
     (c .before .before .before .before .before .before .sort-clause .ensures _ refl) (c .before .before .before .before .enum-told .given .1) in
     let k = (c .before .before .keep-clause .ensures) (entry .args .f) _ (entry .args .redundant) (length (entry .args .bytes .now)) s in (
       meets (entry .args .f) _ (entry .args .lits .now) (entry .args .redundant) (length (entry .args .out .now)) (length (entry .args .bytes .now))
           (c .before .before .keep-clause .result) (k .0),
-      (k .1, kept-bytes (entry .args .f) _ (entry .args .lits .now) (entry .args .redundant) (entry .args .out .now) (entry .args .bytes .now) (s .passes) (s .sort)),
+      (
+        k .1,
+        kept-bytes (entry .args .f) _ (entry .args .lits .now) (entry .args .redundant) (entry .args .out .now) (entry .args .bytes .now) (s .passes)
+            (s .sort),
+      ),
     )
 
 same-length-2 : tie.Need-same-length-2
@@ -65,12 +71,17 @@ returns-3 : tie.Need-returns-3
 returns-3 c =
     let at-clause-refusal = c .before .before .before .before .before .before .before .before in
     let entry = at-clause-refusal .before .before .before .before .before .before .before .before .before .before in
-    let s = sorted-as _ (entry .args .lits .now) Dropped _ _ (at-clause-refusal .clause-refusal .ensures) (c .before .before .before .before .before .before .before .if1 .left)
+    let s = sorted-as _ (entry .args .lits .now) Dropped _ _ (at-clause-refusal .clause-refusal .ensures)
+    (c .before .before .before .before .before .before .before .if1 .left)
     (c .before .before .before .before .before .before .sort-clause .ensures _ refl) (c .before .before .before .before .enum-told2 .given .1) in
     let k = (c .before .before .drop-clause .ensures) _ (length (entry .args .out .now)) s refl in (
       meets (entry .args .f) _ (entry .args .lits .now) (entry .args .redundant) (length (entry .args .out .now)) (length (entry .args .bytes .now))
           (c .before .before .drop-clause .result) (k .0),
-      (dropped-words (entry .args .f) _ (entry .args .lits .now) (entry .args .redundant) (entry .args .out .now) (entry .args .bytes .now) (s .passes) (s .sort), k .1),
+      (
+        dropped-words (entry .args .f) _ (entry .args .lits .now) (entry .args .redundant) (entry .args .out .now) (entry .args .bytes .now) (s .passes)
+            (s .sort),
+        k .1,
+      ),
     )
 
 same-length-3 : tie.Need-same-length-3
@@ -83,7 +94,8 @@ returns-4 : tie.Need-returns-4
 returns-4 c =
     let at-clause-refusal = c .before .before .before .before .before .before .before .before .before .before in
     let entry = at-clause-refusal .before .before .before .before .before .before .before .before .before .before in
-    let s = sorted-as _ (entry .args .lits .now) _ _ _ (at-clause-refusal .clause-refusal .ensures) (c .before .before .before .before .before .before .before .before .before .if1 .left)
+    let s = sorted-as _ (entry .args .lits .now) _ _ _ (at-clause-refusal .clause-refusal .ensures)
+    (c .before .before .before .before .before .before .before .before .before .if1 .left)
     (c .before .before .before .before .before .before .before .before .sort-clause .ensures _ refl) refl in
     let k = (c .before .before .before .before .shorten-clause .ensures) _ s refl refl in (
       meets (entry .args .f) _ (entry .args .lits .now) (entry .args .redundant) (length (entry .args .out .now)) (length (entry .args .bytes .now))

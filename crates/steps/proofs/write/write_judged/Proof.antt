@@ -18,19 +18,22 @@ rename-lits-requires c κs = ((c .before .before .before .before .pre), (c .befo
 array-share-prefix-names : tie.Need-array-share-prefix-names
 array-share-prefix-names c =
     let entry = c .before .before .before .before .before .before in
-    names-within (entry .args .gs .now) (entry .args .solvervars) (entry .args .lits .now) _ _ (length-replicate {A = ℕ} 8192 0) (entry .pre .few) (c .before .rename-lits .ensures)
+    names-within (entry .args .gs .now) (entry .args .solvervars) (entry .args .lits .now) _ _ (length-replicate {A = ℕ} 8192 0) (entry .pre .few)
+    (c .before .rename-lits .ensures)
 
 slice-aggregate-bytes-len : tie.Need-slice-aggregate-bytes-len
 slice-aggregate-bytes-len c =
     let entry = c .before .before .before .before .before .before .before in
-    sym (length-take-le _ _ (names-within (entry .args .gs .now) (entry .args .solvervars) (entry .args .lits .now) _ _ (length-replicate {A = ℕ} 8192 0) (entry .pre .few)
+    sym (length-take-le _ _ (names-within (entry .args .gs .now) (entry .args .solvervars) (entry .args .lits .now) _ _ (length-replicate {A = ℕ} 8192 0)
+    (entry .pre .few)
     (c .before .before .rename-lits .ensures)))
 
 bytes-len-requires : tie.Need-bytes-len-requires
 bytes-len-requires c κs =
     let entry = c .before .before .before .before .before .before .before in
     names-given (entry .args .gs .now) (entry .args .solvervars) (entry .args .lits .now) _ _ (length-replicate {A = ℕ} 8192 0) (entry .pre .few)
-    (c .before .before .rename-lits .ensures) (names-codes (entry .args .gs .now) (entry .args .solvervars) (entry .args .lits .now) (entry .pre .small) (entry .pre .codes))
+    (c .before .before .rename-lits .ensures) (names-codes (entry .args .gs .now) (entry .args .solvervars) (entry .args .lits .now) (entry .pre .small)
+    (entry .pre .codes))
 
 returns : tie.Need-returns
 returns c =
@@ -48,14 +51,16 @@ array-share-prefix-names-2 c =
 slice-aggregate-put-bytes : tie.Need-slice-aggregate-put-bytes
 slice-aggregate-put-bytes c =
     let entry = c .before .before .before .before .before .before .before .before .before .before in
-    sym (length-take-le _ _ (names-within (entry .args .gs .now) (entry .args .solvervars) (entry .args .lits .now) _ _ (length-replicate {A = ℕ} 8192 0) (entry .pre .few)
+    sym (length-take-le _ _ (names-within (entry .args .gs .now) (entry .args .solvervars) (entry .args .lits .now) _ _ (length-replicate {A = ℕ} 8192 0)
+    (entry .pre .few)
     (c .before .before .before .before .before .rename-lits .ensures)))
 
 put-bytes-requires : tie.Need-put-bytes-requires
 put-bytes-requires c κs =
     let entry = c .before .before .before .before .before .before .before .before .before .before .before in (
       (names-given (entry .args .gs .now) (entry .args .solvervars) (entry .args .lits .now) _ _ (length-replicate {A = ℕ} 8192 0) (entry .pre .few)
-          (c .before .before .before .before .before .before .rename-lits .ensures) (names-codes (entry .args .gs .now) (entry .args .solvervars) (entry .args .lits .now) (entry .pre .small) (entry .pre .codes))) .0,
+          (c .before .before .before .before .before .before .rename-lits .ensures)
+          (names-codes (entry .args .gs .now) (entry .args .solvervars) (entry .args .lits .now) (entry .pre .small) (entry .pre .codes))) .0,
       omega (arith, (c .before .before .before .bytes-len .ensures .0), (c .before .before .if1 .left)),
     )
 
