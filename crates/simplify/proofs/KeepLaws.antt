@@ -1,6 +1,6 @@
 -- The literals that are not false, for a loop that has passed the first i.
-use Prim.Native.Nat.{ℕ, zero, suc, _+_, _-_, _≤_, _<_}
-use mathlib.Core.Path.{_≡_, refl, sym, ap, _∙_, subst}
+use Prim.Native.Nat.{ℕ, suc, _+_, _≤_, _<_}
+use mathlib.Core.Path.{_≡_, refl, sym, ap, _∙_}
 use mathlib.Core.Bool.{Bool, true, false, not, _||_}
 use mathlib.Core.List.{List, [], _∷_, _++_, map, map-append, append-nil}
 use native.Mathlib.Omega.{arith}
@@ -10,7 +10,7 @@ use lib.Seq.{sets, length-sets, take-all}
 use borrow.Author.Tests.{lt-ltb}
 use Rattle.base.specs.Choice.{pick}
 use Rattle.base.specs.Bounded.{anyOf, keepOf}
-use Rattle.base.proofs.MemberLaws.{keep-append, keep-step, keep-length, or-left, or-right, or-neither}
+use Rattle.base.proofs.MemberLaws.{keep-append, keep-step, keep-length}
 use Rattle.base.proofs.SetsLaws.{store-next}
 
 -- some member passes exactly if fewer do not
@@ -23,16 +23,6 @@ some-go p (x ∷ xs) = go (p x) (some-go p xs) (keep-length (λ y. not (p y)) xs
         → b || anyOf p xs ≡ ltb (length (pick (not b) (x ∷ keepOf (λ y. not (p y)) xs) (keepOf (λ y. not (p y)) xs))) (suc (length xs))
     go true e h = sym (lt-ltb (length (keepOf (λ y. not (p y)) xs)) (suc (length xs)) (omega arith))
     go false e h = e ∙ sym (leb·suc-suc (suc (length (keepOf (λ y. not (p y)) xs))) (length xs))
-
--- what no member passes, none of those kept passes
-pub any-keep : (p q : ℕ → Bool) (xs : List ℕ) → anyOf p xs ≡ false → anyOf p (keepOf q xs) ≡ false
-unfolding anyOf keepOf
-any-keep p q [] e = refl
-any-keep p q (x ∷ xs) e = go (q x) (any-keep p q xs (or-right (p x) (anyOf p xs) e))
-  where
-    go : (b : Bool) → anyOf p (keepOf q xs) ≡ false → anyOf p (pick b (x ∷ keepOf q xs) (keepOf q xs)) ≡ false
-    go true h = or-neither (or-left (p x) (anyOf p xs) e) h
-    go false h = h
 
 module _ (q : ℕ → Bool) (xs : List ℕ) where
   -- those kept of the first i

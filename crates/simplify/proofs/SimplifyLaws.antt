@@ -1,20 +1,20 @@
 -- Simplify: what the call comes to, by what the clause is sorted as.
 use Prim.Native.Nat.{ℕ, zero, suc, _+_, _≤_, _<_}
 use mathlib.Core.Path.{_≡_, refl, sym, ap, ap₂, _∙_, subst}
-use mathlib.Core.Bool.{Bool, true, false, _&&_, _||_, not}
-use mathlib.Core.List.{List, [], _∷_, _++_, map, map-id}
+use mathlib.Core.Bool.{Bool, true, false, _||_, not, true≢false}
+use mathlib.Core.List.{List, [], _∷_, _++_, map-id}
 use mathlib.Core.Logic.{⊎-elim}
 use native.Mathlib.Omega.{arith}
-use lib.Dec.{eqb, ltb}
+use lib.Dec.{ltb}
 use lib.ListN.{length, take, length-append}
 use lib.Seq.{sets}
 use borrow.Author.Tests.{lt-ltb, le-ltb, not-false}
 use Rattle.base.specs.Choice.{pick}
 use Rattle.base.specs.Answer.{Answer, accepted, refused}
 use Rattle.base.proofs.Truth.{split}
-use Rattle.base.proofs.MemberLaws.{keep-length, or-neither}
+use Rattle.base.proofs.MemberLaws.{keep-length}
 use Rattle.base.proofs.SetsLaws.{sets-append}
-use Rattle.drat.specs.Grammar.{encode}
+use Rattle.drat.specs.Grammar.{encode, Codes}
 use Rattle.drat.specs.declared.Format.{Format}
 use Rattle.drat.proofs.Complete.{encode-append}
 use Rattle.scope.specs.declared.DeleteClauseProof.{DeleteClauseProof}
@@ -29,24 +29,24 @@ use Rattle.scope.specs.Sound.{soundb}
 use Rattle.scope.specs.Steps.{clauseSteps}
 use Rattle.scope.specs.Outcome.{Outcome, refusal, unless}
 use Rattle.scope.specs.Write.{renameLits, holders, outside}
-use Rattle.scope.specs.Literals.{indexOf}
-use Rattle.scope.specs.Marks.{notHeld, unheld, litsHeldElse}
-use Rattle.scope.specs.Simplify.{isFalse, unfalse, simplified, restOf, flagOf, deleteCause, simplifySteps, simplifyBytes, simplifyRefusal, simplifiedNumber}
+use Rattle.scope.specs.Marks.{litsHeldElse}
+use Rattle.scope.specs.Simplify.{unfalse, simplified, restOf, flagOf, deleteCause, simplifySteps, simplifyBytes, simplifyRefusal, simplifiedNumber}
 use Rattle.scope.specs.Simplify.{simplifyOf}
 use Rattle.scope.proofs.ResultLaws.{past, unless-some}
 use Rattle.scope.proofs.MarkLaws.{lits-past, lits-else, lits-refuses}
 use Rattle.steps.specs.declared.write.Recorded.{Recorded}
 use Rattle.steps.specs.declared.write.Recorded.the-variants as W
+use Rattle.steps.specs.Names.{namesBy, Nameable}
 use Rattle.steps.specs.Refusals.{literalRefusal, laid, laidBytes}
 use Rattle.steps.proofs.WriteLaws.{short-laid, whole-laid, laid-done, laid-refused, filled-done, filled-refused}
-use Rattle.steps.proofs.LiteralLaws.{clear, few, names-part, names-within, names-given as names-written}
+use Rattle.steps.proofs.LiteralLaws.{clear, nameable, names-codes, names-part, names-within, names-given as names-written}
 use Rattle.steps.proofs.ChainLaws.{first-some, first-none}
 use Rattle.steps.proofs.UnitLaws.{encode-none}
 use Rattle.simplify.specs.declared.Reduced.{Reduced}
 use Rattle.simplify.specs.declared.Reduced.the-variants.{Done, Refused}
 use Rattle.simplify.specs.Answers.{reduced}
-use Rattle.simplify.specs.Cuts.{clauseRefusal, Cuts, shortened, binary, Written}
-use Rattle.simplify.proofs.KeepLaws.{any-keep}
+use Rattle.simplify.specs.Cuts.{clauseRefusal, SortedAs, Cuts, shortened, binary, Written}
+use Rattle.simplify.specs.Values.{falseBy, unfalseBy}
 use Rattle.simplify.proofs.SortLaws.{tooFew, few-kept, few-dropped, few-cut}
 
 -- a literal as given is its own name
@@ -75,17 +75,14 @@ module _ (t : Table) (lits : List ℕ) where
   refuse-literals n h e = rw h e
 
   -- where none of them applies
-  pub record Judged : Type 0 where
-    pub sound : soundb t ≡ true
-    pub inside : outside t true lits ≡ false
-    pub held : unheld t true lits ≡ false
-
-  pub judged : clauseRefusal t lits ≡ 0 → Judged
+  pub clause-nameable : clauseRefusal t lits ≡ 0 → Nameable (t .globalFromSolver) true lits
   unfolding clauseRefusal
-  judged e =
+  clause-nameable e =
       let p = past (not (soundb t)) 1 (literalRefusal t true lits) (omega arith) e in
-      let q = clear t true lits (p .1) in
-      record { sound = not-false (soundb t) (p .0); inside = q .inside; held = q .held }
+      nameable t true lits (not-false (soundb t) (p .0)) (clear t true lits (p .1))
+
+  pub sorted-as : (what w : Simplified) (n : ℕ) → n ≡ clauseRefusal t lits → n ≡ 0 → w ≡ simplified t lits → w ≡ what → SortedAs t lits what
+  sorted-as what w n e z s q = record { passes = sym e ∙ z; sort = sym s ∙ q }
 
   -- those before 8
   tests : List (Bool × ℕ)
@@ -198,36 +195,41 @@ module _ (f : Format) (t : Table) (lits : List ℕ) (redundant : Bool) (room : �
 -- ---- dropped
 
 -- the bytes of the one delete step
-abbrev dropBytes : Format → Table → List ℕ → DeleteClauseProof → List ℕ
-dropBytes f t lits cause = encode f (clauseSteps (DeleteClause cause) (renameLits (holders t) true lits))
+abbrev dropBytes : Format → List ℕ → List ℕ → DeleteClauseProof → List ℕ
+dropBytes f gs lits cause = encode f (clauseSteps (DeleteClause cause) (namesBy gs true lits))
 
-module _ (f : Format) (t : Table) (lits : List ℕ) (redundant : Bool) (cause : DeleteClauseProof) (o x : List ℕ) (z : clauseRefusal t lits ≡ 0)
-    (s : simplified t lits ≡ Dropped) where
-  pub dropped-short : (n : ℕ) (r : Recorded) → r ≡ laid (dropBytes f t lits cause) (length o) → r ≡ W.Refused n
-      → x ≡ sets o 0 (laidBytes (dropBytes f t lits cause) (length o))
-      → ((outs : ℕ) → refused 2 [] ≡ outcome f t lits redundant outs (length o) .answer)
-      × ((outs : ℕ) → x ≡ sets o 0 (outcome f t lits redundant outs (length o) .bytes))
+module _ (f : Format) (t : Table) (gs lits : List ℕ) (redundant : Bool) (cause : DeleteClauseProof) (outs : ℕ) (o x : List ℕ)
+    (g : t .globalFromSolver ≡ gs) (s : SortedAs t lits Dropped) where
+  drop-here : (b : Bool) → ltb (length o) (length (dropBytes f gs lits cause)) ≡ b
+      → ltb (length o) (length (bytesAs f t lits redundant outs (length o) Dropped)) ≡ b
+  drop-here b e = ap (λ (w : List ℕ). ltb (length o) (length (dropBytes f w lits cause))) g ∙ e
+
+  pub dropped-short : (n : ℕ) (r : Recorded) → r ≡ laid (dropBytes f gs lits cause) (length o) → r ≡ W.Refused n
+      → x ≡ sets o 0 (laidBytes (dropBytes f gs lits cause) (length o))
+      → (refused 2 [] ≡ outcome f t lits redundant outs (length o) .answer) × (x ≡ sets o 0 (outcome f t lits redundant outs (length o) .bytes))
   dropped-short n r e q u =
-      let w = laid-refused (dropBytes f t lits cause) (length o) n r e q in
-      let k : (outs : ℕ) → outcome f t lits redundant outs (length o) ≡ refusal 2 t =
-      λ outs. comes-2-bytes f t lits redundant outs (length o) Dropped z s (few-dropped t lits s) (omega arith) w in (
-        λ outs. sym (ap (λ (p : Outcome). p .answer) (k outs)),
-        λ outs. filled-refused (dropBytes f t lits cause) o x w u
-            ∙ sym (ap (λ (p : Outcome). sets o 0 (p .bytes)) (k outs)),
+      let w = laid-refused (dropBytes f gs lits cause) (length o) n r e q in
+      let k = comes-2-bytes f t lits redundant outs (length o) Dropped (s .passes) (s .sort) (few-dropped t lits (s .sort)) (omega arith)
+      (drop-here true w) in (
+        sym (ap (λ (p : Outcome). p .answer) k),
+        filled-refused (dropBytes f gs lits cause) o x w u
+            ∙ sym (ap (λ (p : Outcome). sets o 0 (p .bytes)) k),
       )
 
-  pub dropped-filled : (n : ℕ) (r : Recorded) → r ≡ laid (dropBytes f t lits cause) (length o) → r ≡ W.Done n
-      → x ≡ sets o 0 (laidBytes (dropBytes f t lits cause) (length o))
-      → ((outs : ℕ) → accepted (1 ∷ 0 ∷ 0 ∷ n ∷ []) ≡ outcome f t lits redundant outs (length o) .answer)
-      × ((outs : ℕ) → x ≡ sets o 0 (outcome f t lits redundant outs (length o) .bytes))
+  pub dropped-filled : (n : ℕ) (r : Recorded) → r ≡ laid (dropBytes f gs lits cause) (length o) → r ≡ W.Done n
+      → x ≡ sets o 0 (laidBytes (dropBytes f gs lits cause) (length o))
+      → (accepted (1 ∷ 0 ∷ 0 ∷ n ∷ []) ≡ outcome f t lits redundant outs (length o) .answer)
+      × (x ≡ sets o 0 (outcome f t lits redundant outs (length o) .bytes))
   dropped-filled n r e q u =
-      let w = laid-done (dropBytes f t lits cause) (length o) n r e q in
-      let k : (outs : ℕ) → outcome f t lits redundant outs (length o) ≡ filledAs f t lits redundant outs (length o) Dropped =
-      λ outs. comes-filled f t lits redundant outs (length o) Dropped z s (few-dropped t lits s) (omega arith) (w .0) in (
-        λ outs. ap (λ (m : ℕ). accepted (1 ∷ 0 ∷ 0 ∷ m ∷ [])) (w .1)
-            ∙ sym (ap (λ (p : Outcome). p .answer) (k outs)),
-        λ outs. filled-done (dropBytes f t lits cause) o x (w .0) u
-            ∙ sym (ap (λ (p : Outcome). sets o 0 (p .bytes)) (k outs)),
+      let w = laid-done (dropBytes f gs lits cause) (length o) n r e q in
+      let h = ap (λ (v : List ℕ). dropBytes f v lits cause) (sym g) in
+      let k = comes-filled f t lits redundant outs (length o) Dropped (s .passes) (s .sort) (few-dropped t lits (s .sort)) (omega arith)
+      (drop-here false (w .0)) in (
+        ap (λ (m : ℕ). accepted (1 ∷ 0 ∷ 0 ∷ m ∷ [])) (w .1 ∙ ap length h)
+            ∙ sym (ap (λ (p : Outcome). p .answer) k),
+        filled-done (dropBytes f gs lits cause) o x (w .0) u
+            ∙ ap (sets o 0) h
+            ∙ sym (ap (λ (p : Outcome). sets o 0 (p .bytes)) k),
       )
 
 -- ---- shortened or binary
@@ -307,54 +309,57 @@ module _ (f : Format) (t : Table) (lits : List ℕ) (redundant : Bool) (outs roo
         (subst (λ (r : List ℕ). length r ≤ outs) (sym (cut-rest what t lits k)) h)
         (sym (ap (λ (bs : List ℕ). ltb room (length bs)) same-bytes) ∙ e)
 
--- a global literal needs no holder
-pub unheld-global : (t : Table) (lits : List ℕ) → unheld t false lits ≡ false
-unfolding unheld
-unheld-global t lits = refl
+-- ---- the rest by the two lists, and by a table that has them
+
+module _ (t : Table) (gs values lits : List ℕ) (g : t .globalFromSolver ≡ gs) (v : t .assignment ≡ values) where
+  pub rest-here : (s : Bool) → namesBy gs s (unfalseBy values lits) ≡ renameLits (holders t) s (unfalse t lits)
+  unfolding unfalse
+  rest-here s = ap₂ (λ (x y : List ℕ). namesBy x s (unfalseBy y lits)) (sym g) (sym v)
+
+  pub left-here : length (unfalseBy values lits) ≡ length (unfalse t lits)
+  unfolding unfalse
+  left-here = ap (λ (y : List ℕ). length (unfalseBy y lits)) (sym v)
+
+  pub clause-here : namesBy gs true lits ≡ renameLits (holders t) true lits
+  clause-here = ap (λ (x : List ℕ). namesBy x true lits) (sym g)
 
 -- ---- names in buffers of 8,192
 
-module _ (t : Table) (lits : List ℕ) (z : clauseRefusal t lits ≡ 0) (o : List ℕ) (e : length o ≡ 8192) where
+module _ (gs lits : List ℕ) (n : Nameable gs true lits) (o : List ℕ) (e : length o ≡ 8192) where
   pub room-clause : length lits ≤ length o
-  room-clause = let h = few t true lits (judged t lits z .inside) in omega arith
+  room-clause = let h = n .few in omega arith
 
-  pub room-rest : length (unfalse t lits) ≤ length o
-  unfolding unfalse
-  room-rest = let h = room-clause in let k = keep-length (λ c. not (isFalse t c)) lits in omega arith
+  codes : (ls : List ℕ) → Codes (namesBy gs true ls)
+  codes ls = names-codes gs true ls (n .small) (λ q. absurd (true≢false q))
 
-  -- the rest is judged as the clause is
-  rest-inside : outside t true (unfalse t lits) ≡ false
-  unfolding outside
-  rest-inside = let h = room-rest in or-neither (le-ltb 8192 (length (unfalse t lits)) (omega arith)) refl
+  module _ (m : List ℕ) (q : m ≡ sets o 0 (namesBy gs true lits)) where
+    pub clause-part : take (length lits) m ≡ namesBy gs true lits
+    clause-part = names-part gs true lits o m e (n .few) q
 
-  rest-held : unheld t true (unfalse t lits) ≡ false
-  unfolding unheld unfalse
-  rest-held = any-keep (λ c. notHeld t (indexOf c)) (λ c. not (isFalse t c)) lits (judged t lits z .held)
+    pub clause-written : Written (take (length lits) m)
+    clause-written = let w = names-written gs true lits o m e (n .few) q (codes lits) in record { codes = w .0; few = w .1 }
 
-  module _ (m : List ℕ) where
-    pub clause-part : m ≡ sets o 0 (renameLits (holders t) true lits) → take (length lits) m ≡ renameLits (holders t) true lits
-    clause-part q = names-part t true lits o m e (judged t lits z .inside) q
+    pub clause-within : length lits ≤ length m
+    clause-within = names-within gs true lits o m e (n .few) q
 
-    pub clause-written : m ≡ sets o 0 (renameLits (holders t) true lits) → Written (take (length lits) m)
-    clause-written q =
-        let j = judged t lits z in
-        let w = names-written t true lits o m e (j .inside) q (j .sound) (j .held) in
-        record { codes = w .0; few = w .1 }
+  module _ (values : List ℕ) where
+    pub room-rest : length (unfalseBy values lits) ≤ length o
+    room-rest = let h = room-clause in let k = keep-length (λ c. not (falseBy values c)) lits in omega arith
 
-    pub rest-part : (k : ℕ) → k ≡ length (unfalse t lits) → m ≡ sets o 0 (renameLits (holders t) true (unfalse t lits))
-        → take k m ≡ renameLits (holders t) true (unfalse t lits)
-    rest-part k n q = ap (λ (i : ℕ). take i m) n ∙ names-part t true (unfalse t lits) o m e rest-inside q
+    rest-few : length (unfalseBy values lits) ≤ 8192
+    rest-few = let h = room-rest in omega arith
 
-    pub rest-written : (k : ℕ) → k ≡ length (unfalse t lits) → m ≡ sets o 0 (renameLits (holders t) true (unfalse t lits)) → Written (take k m)
-    rest-written k n q =
-        let w = names-written t true (unfalse t lits) o m e rest-inside q (judged t lits z .sound) rest-held in
-        subst (λ (i : ℕ). Written (take i m)) (sym n) (record { codes = w .0; few = w .1 })
+    module _ (m : List ℕ) (k : ℕ) (l : k ≡ length (unfalseBy values lits)) (q : m ≡ sets o 0 (namesBy gs true (unfalseBy values lits))) where
+      pub rest-part : take k m ≡ namesBy gs true (unfalseBy values lits)
+      rest-part = ap (λ (i : ℕ). take i m) l ∙ names-part gs true (unfalseBy values lits) o m e rest-few q
 
-    pub clause-within : m ≡ sets o 0 (renameLits (holders t) true lits) → length lits ≤ length m
-    clause-within q = names-within t true lits o m e (judged t lits z .inside) q
+      pub rest-written : Written (take k m)
+      rest-written =
+          let w = names-written gs true (unfalseBy values lits) o m e rest-few q (codes (unfalseBy values lits)) in
+          subst (λ (i : ℕ). Written (take i m)) (sym l) (record { codes = w .0; few = w .1 })
 
-    pub rest-within : (k : ℕ) → k ≡ length (unfalse t lits) → m ≡ sets o 0 (renameLits (holders t) true (unfalse t lits)) → k ≤ length m
-    rest-within k n q = let h = names-within t true (unfalse t lits) o m e rest-inside q in omega arith
+      pub rest-within : k ≤ length m
+      rest-within = let h = names-within gs true (unfalseBy values lits) o m e rest-few q in omega arith
 
 answer-is : (what : Simplified) (m n : ℕ) (flag : Bool) (i j : ℕ) (g : Bool) → m ≡ i → n ≡ j → flag ≡ g
     → accepted (simplifiedNumber what ∷ m ∷ pick flag 1 0 ∷ n ∷ []) ≡ accepted (simplifiedNumber what ∷ i ∷ pick g 1 0 ∷ j ∷ [])

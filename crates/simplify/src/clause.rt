@@ -1,20 +1,16 @@
 // A clause by the values of its literals (closure of `unit_simplify`, src/unit_simplify.rs).
-use scope::Counts;
 use scope::Simplified;
 use steps::rename::rename_lit;
 use table::word_at;
 ghost use mathlib.Core.Path.{_≡_};
-ghost use mathlib.Core.Bool.{true, false};
+ghost use mathlib.Core.Bool.{true};
 ghost use Prim.Native.Nat.{_≤_};
 ghost use lib.ListN.{length};
 ghost use Rattle.base.specs.Bounded.{anyOf};
 ghost use Rattle.base.specs.Lent.{old, new, Fills};
-ghost use Rattle.scope.specs.Sound.{soundb};
 ghost use Rattle.scope.specs.Table.{Table};
-ghost use Rattle.scope.specs.Contract.{given, before};
-ghost use Rattle.scope.specs.Marks.{unheld};
-ghost use Rattle.scope.specs.Write.{renameLits, holders};
-ghost use Rattle.scope.specs.Simplify.{unfalse, simplified};
+ghost use Rattle.scope.specs.Simplify.{simplified};
+ghost use Rattle.steps.specs.Names.{namesBy, Nameable};
 ghost use Rattle.simplify.specs.Values.{trueBy, falseBy, unfalseBy};
 
 fn is_true(assignment: &[u32], code: u32) -> bool
@@ -76,23 +72,16 @@ pub fn sort_clause(assignment: &[u32], lits: &[u32]) -> Simplified
 
 // The literals that are not false, from the start of `out`: under global names, or as given.
 pub fn keep_rest(
-    c: Counts,
-    gu: &[u32],
-    ug: &[u32],
-    sg: &[u32],
     gs: &[u32],
     assignment: &[u32],
-    records: &[u32],
     named: bool,
     lits: &[u32],
     out: &mut [u32],
 ) -> usize
-    requires { ⌜ soundb (given c gu ug sg gs assignment records) ≡ true ⌝ }
-    requires { ⌜ unheld (given c gu ug sg gs assignment records) true (now lits) ≡ false ⌝ }
-    requires { ⌜ length (unfalse (given c gu ug sg gs assignment records) (now lits)) ≤ length (now out) ⌝ }
-    ensures { λ r. ⌜ r ≡ length (unfalse (before c gu ug sg gs assignment records) (old lits)) ⌝ }
-    ensures { λ _. ⌜ Fills out 0
-        (renameLits (holders (before c gu ug sg gs assignment records)) named (unfalse (before c gu ug sg gs assignment records) (old lits))) ⌝ }
+    requires { ⌜ Nameable (now gs) true (now lits) ⌝ }
+    requires { ⌜ length (unfalseBy (now assignment) (now lits)) ≤ length (now out) ⌝ }
+    ensures { λ r. ⌜ r ≡ length (unfalseBy (old assignment) (old lits)) ⌝ }
+    ensures { λ _. ⌜ Fills out 0 (namesBy (old gs) named (unfalseBy (old assignment) (old lits))) ⌝ }
 {
     let mut k = 0;
     let mut i = 0;
@@ -105,4 +94,16 @@ pub fn keep_rest(
         i += 1;
     }
     k
+}
+
+// The literals as given, from the start of `out`.
+pub fn keep_all(lits: &[u32], out: &mut [u32])
+    requires { ⌜ length (now lits) ≤ length (now out) ⌝ }
+    ensures { λ _. ⌜ Fills out 0 (old lits) ⌝ }
+{
+    let mut i = 0;
+    while i < lits.len() {
+        out[i] = lits[i];
+        i += 1;
+    }
 }

@@ -1,6 +1,7 @@
 // Simplify a clause: a true literal drops it, false literals go, and the steps that say so are written.
 mod clause;
 
+use clause::keep_all;
 use clause::keep_rest;
 use clause::sort_clause;
 use drat::Format;
@@ -16,19 +17,20 @@ use steps::write::put_bytes;
 use steps::write::write_judged;
 use table::is_sound;
 ghost use mathlib.Core.Path.{_≡_};
-ghost use mathlib.Core.Bool.{Bool, true, false};
-ghost use Prim.Native.Nat.{ℕ, _≤_};
+ghost use mathlib.Core.Bool.{Bool, true};
+ghost use Prim.Native.Nat.{ℕ};
 ghost use lib.ListN.{length};
 ghost use Rattle.base.specs.Lent.{old, new, Fills};
 ghost use Rattle.drat.specs.declared.Format.{Format};
 ghost use Rattle.drat.specs.Grammar.{encode};
 ghost use Rattle.scope.specs.declared.Simplified.the-variants.{Kept, Dropped};
-ghost use Rattle.scope.specs.Sound.{soundb};
-ghost use Rattle.scope.specs.Contract.{given, before, quiet, Meets};
-ghost use Rattle.scope.specs.Write.{renameLits, holders};
-ghost use Rattle.scope.specs.Simplify.{unfalse, simplified, flagOf, deleteCause, simplifySteps, simplifyOf};
+ghost use Rattle.scope.specs.Table.{Table};
+ghost use Rattle.scope.specs.Contract.{before, quiet, Meets};
+ghost use Rattle.scope.specs.Simplify.{flagOf, deleteCause, simplifySteps, simplifyOf};
+ghost use Rattle.steps.specs.Names.{namesBy, Nameable};
 ghost use Rattle.steps.specs.Refusals.{laid, laidBytes};
-ghost use Rattle.simplify.specs.Cuts.{clauseRefusal, Cuts, Written};
+ghost use Rattle.simplify.specs.Cuts.{clauseRefusal, SortedAs, Cuts, Written};
+ghost use Rattle.simplify.specs.Values.{unfalseBy};
 ghost use Rattle.simplify.specs.Answers.{reduced};
 
 // The first refusal that a clause has before its values are looked at, 0 for none: 1, 3, 8.
@@ -79,68 +81,28 @@ pub enum Reduced {
 }
 
 // A clause that is kept: 2.
-fn keep_clause(
-    c: Counts,
-    gu: &[u32],
-    ug: &[u32],
-    sg: &[u32],
-    gs: &[u32],
-    assignment: &[u32],
-    records: &[u32],
-    lits: &[u32],
-    out: &mut [u32],
-) -> Reduced
-    requires { ⌜ clauseRefusal (given c gu ug sg gs assignment records) (now lits) ≡ 0 ⌝ }
-    requires { ⌜ simplified (given c gu ug sg gs assignment records) (now lits) ≡ Kept ⌝ }
-    ensures { λ r. ⌜ ((f : Format) (redundant : Bool) (room : ℕ) →
-        reduced r c .answer ≡ simplifyOf f (before c gu ug sg gs assignment records) (old lits) redundant (length (old out)) room .answer) ⌝ }
-    ensures out { λ _. ⌜ ((f : Format) (redundant : Bool) (room : ℕ) →
-        Fills out 0 (simplifyOf f (before c gu ug sg gs assignment records) (old lits) redundant (length (old out)) room .words)) ⌝ }
+fn keep_clause(lits: &[u32], out: &mut [u32]) -> Reduced
+    ensures { λ r. ⌜ ((f : Format) (t : Table) (redundant : Bool) (room : ℕ) → SortedAs t (old lits) Kept →
+        let o = simplifyOf f t (old lits) redundant (length (old out)) room in
+        (reduced r (t .counts) .answer ≡ o .answer) × Fills out 0 (o .words)) ⌝ }
 {
     if out.len() < lits.len() {
         return Reduced::Refused(2);
     }
-    rename_lits(c, gu, ug, sg, gs, assignment, records, false, lits, out);
+    keep_all(lits, out);
     Reduced::Done(Simplified::Kept, lits.len(), false, 0)
 }
 
 // A clause that is dropped, with one delete step: 2.
-fn drop_clause(
-    c: Counts,
-    gu: &[u32],
-    ug: &[u32],
-    sg: &[u32],
-    gs: &[u32],
-    assignment: &[u32],
-    records: &[u32],
-    f: Format,
-    lits: &[u32],
-    redundant: bool,
-    bytes: &mut [u8],
-) -> Reduced
-    requires { ⌜ clauseRefusal (given c gu ug sg gs assignment records) (now lits) ≡ 0 ⌝ }
-    requires { ⌜ simplified (given c gu ug sg gs assignment records) (now lits) ≡ Dropped ⌝ }
-    ensures { λ r. ⌜ ((outs : ℕ) →
-        reduced r c .answer ≡ simplifyOf f (before c gu ug sg gs assignment records) (old lits) redundant outs (length (old bytes)) .answer) ⌝ }
-    ensures bytes { λ _. ⌜ ((outs : ℕ) →
-        Fills bytes 0 (simplifyOf f (before c gu ug sg gs assignment records) (old lits) redundant outs (length (old bytes)) .bytes)) ⌝ }
+fn drop_clause(gs: &[u32], f: Format, lits: &[u32], redundant: bool, bytes: &mut [u8]) -> Reduced
+    requires { ⌜ Nameable (now gs) true (now lits) ⌝ }
+    ensures { λ r. ⌜ ((t : Table) (outs : ℕ) → SortedAs t (old lits) Dropped → t .globalFromSolver ≡ old gs →
+        let o = simplifyOf f t (old lits) redundant outs (length (old bytes)) in
+        (reduced r (t .counts) .answer ≡ o .answer) × Fills bytes 0 (o .bytes)) ⌝ }
 {
     let cause = delete_cause(redundant, DeleteClauseProof::Satisfied);
     let step = ProofStep::DeleteClause(cause);
-    let wrote = write_judged(
-        c,
-        gu,
-        ug,
-        sg,
-        gs,
-        assignment,
-        records,
-        f,
-        step,
-        true,
-        lits,
-        bytes,
-    );
+    let wrote = write_judged(gs, f, step, true, lits, bytes);
     let Recorded::Done(n) = wrote else {
         return Reduced::Refused(2);
     };
@@ -178,38 +140,27 @@ fn put_both(
 
 // The rest and the old clause under global names, from the start of `rest` and `clause`; how many are left.
 fn name_both(
-    c: Counts,
-    gu: &[u32],
-    ug: &[u32],
-    sg: &[u32],
     gs: &[u32],
     assignment: &[u32],
-    records: &[u32],
     lits: &[u32],
     rest: &mut [u32],
     clause: &mut [u32],
 ) -> usize
-    requires { ⌜ clauseRefusal (given c gu ug sg gs assignment records) (now lits) ≡ 0 ⌝ }
+    requires { ⌜ Nameable (now gs) true (now lits) ⌝ }
     requires { ⌜ length (now rest) ≡ 8192 ⌝ }
     requires { ⌜ length (now clause) ≡ 8192 ⌝ }
-    ensures { λ r. ⌜ r ≡ length (unfalse (before c gu ug sg gs assignment records) (old lits)) ⌝ }
-    ensures rest { λ _. ⌜ Fills rest 0
-        (renameLits (holders (before c gu ug sg gs assignment records)) true (unfalse (before c gu ug sg gs assignment records) (old lits))) ⌝ }
-    ensures clause { λ _. ⌜ Fills clause 0 (renameLits (holders (before c gu ug sg gs assignment records)) true (old lits)) ⌝ }
+    ensures { λ r. ⌜ r ≡ length (unfalseBy (old assignment) (old lits)) ⌝ }
+    ensures rest { λ _. ⌜ Fills rest 0 (namesBy (old gs) true (unfalseBy (old assignment) (old lits))) ⌝ }
+    ensures clause { λ _. ⌜ Fills clause 0 (namesBy (old gs) true (old lits)) ⌝ }
 {
-    rename_lits(c, gu, ug, sg, gs, assignment, records, true, lits, clause);
-    keep_rest(c, gu, ug, sg, gs, assignment, records, true, lits, rest)
+    rename_lits(gs, true, lits, clause);
+    keep_rest(gs, assignment, true, lits, rest)
 }
 
 // A clause from which false literals went: 12, 2.
 fn shorten_clause(
-    c: Counts,
-    gu: &[u32],
-    ug: &[u32],
-    sg: &[u32],
     gs: &[u32],
     assignment: &[u32],
-    records: &[u32],
     f: Format,
     what: Simplified,
     lits: &[u32],
@@ -217,30 +168,15 @@ fn shorten_clause(
     out: &mut [u32],
     bytes: &mut [u8],
 ) -> Reduced
-    requires { ⌜ clauseRefusal (given c gu ug sg gs assignment records) (now lits) ≡ 0 ⌝ }
-    requires { ⌜ simplified (given c gu ug sg gs assignment records) (now lits) ≡ what ⌝ }
+    requires { ⌜ Nameable (now gs) true (now lits) ⌝ }
     requires { ⌜ Cuts what ⌝ }
-    ensures { λ r. ⌜ reduced r c .answer
-        ≡ simplifyOf f (before c gu ug sg gs assignment records) (old lits) redundant (length (old out)) (length (old bytes)) .answer ⌝ }
-    ensures out { λ _. ⌜ Fills out 0
-        (simplifyOf f (before c gu ug sg gs assignment records) (old lits) redundant (length (old out)) (length (old bytes)) .words) ⌝ }
-    ensures bytes { λ _. ⌜ Fills bytes 0
-        (simplifyOf f (before c gu ug sg gs assignment records) (old lits) redundant (length (old out)) (length (old bytes)) .bytes) ⌝ }
+    ensures { λ r. ⌜ ((t : Table) → SortedAs t (old lits) what → t .globalFromSolver ≡ old gs → t .assignment ≡ old assignment →
+        let o = simplifyOf f t (old lits) redundant (length (old out)) (length (old bytes)) in
+        (reduced r (t .counts) .answer ≡ o .answer) × (Fills out 0 (o .words) × Fills bytes 0 (o .bytes))) ⌝ }
 {
     let mut rest = [0u32; 8192];
     let mut clause = [0u32; 8192];
-    let k = name_both(
-        c,
-        gu,
-        ug,
-        sg,
-        gs,
-        assignment,
-        records,
-        lits,
-        &mut rest,
-        &mut clause,
-    );
+    let k = name_both(gs, assignment, lits, &mut rest, &mut clause);
     if k < 2 {
         return Reduced::Refused(12);
     }
@@ -252,7 +188,7 @@ fn shorten_clause(
     let Recorded::Done(n) = wrote else {
         return Reduced::Refused(2);
     };
-    keep_rest(c, gu, ug, sg, gs, assignment, records, false, lits, out);
+    keep_rest(gs, assignment, false, lits, out);
     Reduced::Done(what, k, add_flag(what, redundant), n)
 }
 
@@ -285,34 +221,10 @@ pub fn simplify_clause(
     }
     let what = sort_clause(assignment, lits);
     match what {
-        Simplified::Kept => keep_clause(c, gu, ug, sg, gs, assignment, records, lits, out),
-        Simplified::Dropped => drop_clause(
-            c,
-            gu,
-            ug,
-            sg,
-            gs,
-            assignment,
-            records,
-            f,
-            lits,
-            redundant,
-            bytes,
-        ),
-        Simplified::Shortened | Simplified::Binary => shorten_clause(
-            c,
-            gu,
-            ug,
-            sg,
-            gs,
-            assignment,
-            records,
-            f,
-            what,
-            lits,
-            redundant,
-            out,
-            bytes,
-        ),
+        Simplified::Kept => keep_clause(lits, out),
+        Simplified::Dropped => drop_clause(gs, f, lits, redundant, bytes),
+        Simplified::Shortened | Simplified::Binary => {
+            shorten_clause(gs, assignment, f, what, lits, redundant, out, bytes)
+        }
     }
 }

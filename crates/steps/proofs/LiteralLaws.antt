@@ -9,7 +9,6 @@ use lib.Dec.{eqb, ltb, leb}
 use lib.ListN.{length, getD, take, length-map}
 use lib.Seq.{sets, length-sets}
 use borrow.Author.Tests.{ne-eqb, lt-ltb, le-ltb, ltb-false, eqb-false, leb-false}
-use Rattle.base.specs.Choice.{pick}
 use Rattle.base.specs.Bounded.{anyOf}
 use Rattle.base.proofs.Truth.{same}
 use Rattle.base.proofs.MemberLaws.{any-none, or-left, or-right, word-inside}
@@ -19,11 +18,12 @@ use Rattle.scope.specs.Table.{Table}
 use Rattle.scope.specs.Sound.{soundb}
 use Rattle.scope.specs.Literals.{indexOf}
 use Rattle.scope.specs.Marks.{notHeld, unheld, litsHeldElse}
-use Rattle.scope.specs.Write.{renameLit, renameLits, holders, outside}
+use Rattle.scope.specs.Write.{renameLit, renameLits, outside}
 use Rattle.scope.proofs.SoundLaws.{sound-of}
 use Rattle.scope.proofs.PairLaws.{below-mark, pair-flip}
 use Rattle.scope.proofs.ResultLaws.{past}
 use Rattle.scope.proofs.MarkLaws.{lits-past, lits-else}
+use Rattle.steps.specs.Names.{namesBy, Nameable}
 use Rattle.steps.specs.Refusals.{literalRefusal}
 use Rattle.steps.proofs.StoreLaws.{stored-part}
 
@@ -66,17 +66,13 @@ clear t s lits e =
     let p = past (outside t s lits) 3 (litsHeldElse t s lits 0) (omega arith) e in
     record { inside = p .0; held = lits-past t s lits 0 (p .1) .0 }
 
-pub few : (t : Table) (s : Bool) (lits : List ℕ) → outside t s lits ≡ false → length lits ≤ 8192
-unfolding outside
-few t s lits e = ltb-false 8192 (length lits) (or-left (ltb 8192 (length lits)) _ e)
-
 -- ---- names
 
 pub word-filled : (w g : ℕ) → w ≡ g + 1 → eqb w 0 ≡ false
 word-filled w g e = ne-eqb w 0 (λ z. omega arith)
 
 -- a map's word of a sound table is at most 4,096
-pub word-small : (t : Table) → soundb t ≡ true → (s : ℕ) → getD (t .globalFromSolver) s 0 ≤ 4096
+word-small : (t : Table) → soundb t ≡ true → (s : ℕ) → getD (t .globalFromSolver) s 0 ≤ 4096
 word-small t h s = ⊎-elim
     (λ (e : getD (t .globalFromSolver) s 0 ≡ 0). omega arith)
     (λ (n : getD (t .globalFromSolver) s 0 ≢ 0).
@@ -88,7 +84,7 @@ word-small t h s = ⊎-elim
     (same (getD (t .globalFromSolver) s 0) 0)
 
 -- the index of a held literal has a holder
-pub held-at : (t : Table) (s : Bool) (lits : List ℕ) (i : ℕ) → unheld t s lits ≡ false → i < length lits → s ≡ true
+held-at : (t : Table) (s : Bool) (lits : List ℕ) (i : ℕ) → unheld t s lits ≡ false → i < length lits → s ≡ true
     → getD (t .globalFromSolver) (getD lits i 0 / 2) 0 ≢ 0
 unfolding unheld notHeld
 held-at t s lits i u l e =
@@ -98,6 +94,28 @@ held-at t s lits i u l e =
     and-held : (a b : Bool) → a && b ≡ false → a ≡ true → b ≡ false
     and-held true b p q = p
     and-held false b p q = absurd (true≢false (sym q))
+
+-- the literals of a sound table for which neither refusal applies
+pub nameable : (t : Table) (s : Bool) (lits : List ℕ) → soundb t ≡ true → Clear t s lits → Nameable (t .globalFromSolver) s lits
+unfolding outside
+nameable t s lits h c =
+    record {
+      few = ltb-false 8192 (length lits) (or-left (ltb 8192 (length lits)) _ (c .inside));
+      small = word-small t h;
+      held = λ e i l. held-at t s lits i (c .held) l e;
+      codes = λ e i l. go s e (c .inside) i l;
+    }
+  where
+    z : t .counts .capacity ≤ 4096
+    z = sound-of t h .sizes .atMost
+
+    go : (b : Bool) → b ≡ false → ltb 8192 (length lits) || (not b && anyOf (λ x. leb (t .counts .capacity) (indexOf x)) lits) ≡ false
+        → (i : ℕ) → i < length lits → getD lits i 0 < 8192
+    go true e p i l = absurd (true≢false e)
+    go false e p i l =
+        let b = any-none (λ x. leb (t .counts .capacity) (indexOf x)) lits i 0 (or-right (ltb 8192 (length lits)) _ p) l in
+        let x = leb-false (t .counts .capacity) (getD lits i 0 / 2) b in
+        omega (arith, z)
 
 pub word-there : (l : List ℕ) (s : Bool) (i : ℕ) → (s ≡ true → getD l i 0 ≢ 0) → s ≡ true → i < length l
 word-there l s i n e = word-inside l i (n e)
@@ -119,37 +137,26 @@ pub names-length : (h : ℕ → ℕ) (s : Bool) (lits : List ℕ) → length (re
 unfolding renameLits
 names-length h s lits = length-map lits (renameLit h s)
 
-pub names-codes : (t : Table) (s : Bool) (lits : List ℕ) → soundb t ≡ true → outside t s lits ≡ false → unheld t s lits ≡ false
-    → Codes (renameLits (holders t) s lits)
-unfolding renameLits outside
-names-codes t s lits h o u i l =
-    let k : i < length lits = subst (λ (n : ℕ). i < n) (length-map lits (renameLit (holders t) s)) l in
-    subst (λ (c : ℕ). c < 8192) (sym (getD-map (renameLit (holders t) s) lits i k)) (go s o k)
+pub names-codes : (gs : List ℕ) (s : Bool) (lits : List ℕ) → ((i : ℕ) → getD gs i 0 ≤ 4096) → (s ≡ false → Codes lits) → Codes (namesBy gs s lits)
+unfolding renameLits
+names-codes gs s lits w g i l =
+    let k : i < length lits = subst (λ (n : ℕ). i < n) (length-map lits (renameLit (λ j. getD gs j 0) s)) l in
+    subst (λ (c : ℕ). c < 8192) (sym (getD-map (renameLit (λ j. getD gs j 0) s) lits i k)) (go s g k)
   where
-    z : t .counts .capacity ≤ 4096
-    z = sound-of t h .sizes .atMost
-
-    go : (b : Bool) → ltb 8192 (length lits) || (not b && anyOf (λ c. leb (t .counts .capacity) (indexOf c)) lits) ≡ false → i < length lits
-        → renameLit (holders t) b (getD lits i 0) < 8192
-    go true p k = let w = word-small t h (getD lits i 0 / 2) in omega arith
-    go false p k =
-        let b = any-none (λ c. leb (t .counts .capacity) (indexOf c)) lits i 0 (or-right (ltb 8192 (length lits)) _ p) k in
-        let x = leb-false (t .counts .capacity) (getD lits i 0 / 2) b in
-        omega (arith, z)
+    go : (b : Bool) → (b ≡ false → Codes lits) → i < length lits → renameLit (λ j. getD gs j 0) b (getD lits i 0) < 8192
+    go true h k = let x = w (getD lits i 0 / 2) in omega arith
+    go false h k = h refl i k
 
 -- ---- names in a buffer of 8,192
 
-module _ (t : Table) (s : Bool) (lits zs m : List ℕ) (z : length zs ≡ 8192) (o : outside t s lits ≡ false) (e : m ≡ sets zs 0 (renameLits (holders t) s lits))
-  where
-    pub names-part : take (length lits) m ≡ renameLits (holders t) s lits
-    names-part =
-        let h = few t s lits o in
-        stored-part zs m (renameLits (holders t) s lits) (length lits) e (sym (names-length (holders t) s lits)) (omega arith)
+module _ (gs : List ℕ) (s : Bool) (lits zs m : List ℕ) (z : length zs ≡ 8192) (h : length lits ≤ 8192) (e : m ≡ sets zs 0 (namesBy gs s lits)) where
+  pub names-part : take (length lits) m ≡ namesBy gs s lits
+  names-part = stored-part zs m (namesBy gs s lits) (length lits) e (sym (names-length (λ i. getD gs i 0) s lits)) (omega arith)
 
-    pub names-within : length lits ≤ length m
-    names-within = let h = few t s lits o in let k = ap length e ∙ length-sets zs 0 (renameLits (holders t) s lits) in omega arith
+  pub names-within : length lits ≤ length m
+  names-within = let k = ap length e ∙ length-sets zs 0 (namesBy gs s lits) in omega arith
 
-    pub names-given : soundb t ≡ true → unheld t s lits ≡ false → Codes (take (length lits) m) × (length (take (length lits) m) ≤ 8192)
-    names-given h u =
-        subst (λ (l : List ℕ). Codes l × (length l ≤ 8192)) (sym names-part)
-        (names-codes t s lits h o u, subst (λ (n : ℕ). n ≤ 8192) (sym (names-length (holders t) s lits)) (few t s lits o))
+  pub names-given : Codes (namesBy gs s lits) → Codes (take (length lits) m) × (length (take (length lits) m) ≤ 8192)
+  names-given c =
+      subst (λ (l : List ℕ). Codes l × (length l ≤ 8192)) (sym names-part)
+      (c, subst (λ (n : ℕ). n ≤ 8192) (sym (names-length (λ i. getD gs i 0) s lits)) h)

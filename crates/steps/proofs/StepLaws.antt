@@ -18,8 +18,9 @@ use Rattle.scope.specs.Marks.{litsHeldElse}
 use Rattle.scope.specs.Write.{unmatched, outside, stepRefusal, renameRefusal}
 use Rattle.scope.proofs.ResultLaws.{past}
 use Rattle.scope.proofs.MarkLaws.{lits-past, lits-else, lits-refuses}
+use Rattle.steps.specs.Names.{Nameable}
 use Rattle.steps.specs.Refusals.{literalRefusal}
-use Rattle.steps.proofs.LiteralLaws.{Clear, clear}
+use Rattle.steps.proofs.LiteralLaws.{Clear, clear, nameable}
 use Rattle.steps.proofs.ChainLaws.{first-some, first-none}
 
 -- ---- all of a list or none
@@ -123,6 +124,12 @@ module _ (t : Table) (step : ProofStep) (s : Bool) (lits hashes : List ℕ) wher
       let p = past (not (soundb t)) 1 _ (omega arith) (sym e ∙ z) in
       let q = past (unmatched step lits hashes) 14 _ (omega arith) (p .1) in
       record { sound = not-false (soundb t) (p .0); literals = clear t s (literalsOf step lits) (q .1) }
+
+  -- its literals, a part of those passed beside it
+  pub step-nameable : (k : ℕ) → StepClear → k ≡ pick (ruleOf step .renamed) (length lits) 0 → Nameable (t .globalFromSolver) s (take k lits)
+  step-nameable k h e =
+      subst (λ (ls : List ℕ). Nameable (t .globalFromSolver) s ls) (sym (literals-part step lits k e))
+      (nameable t s (literalsOf step lits) (h .sound) (h .literals))
 
   -- ---- Rename: 2
 

@@ -18,11 +18,10 @@ ghost use lib.ListN.{length, getD};
 ghost use Rattle.base.specs.Bounded.{anyOf};
 ghost use Rattle.base.specs.Lent.{old, new, Fills};
 ghost use Rattle.scope.specs.Literals.{indexOf};
-ghost use Rattle.scope.specs.Sound.{soundb};
 ghost use Rattle.scope.specs.Table.{Table};
-ghost use Rattle.scope.specs.Contract.{given, before, quiet, Meets};
-ghost use Rattle.scope.specs.Marks.{unheld};
-ghost use Rattle.scope.specs.Write.{renameLit, renameLits, holders, stepRefusal, renameRefusal, renameOf};
+ghost use Rattle.scope.specs.Contract.{before, quiet, Meets};
+ghost use Rattle.scope.specs.Write.{renameLit, stepRefusal, renameRefusal, renameOf};
+ghost use Rattle.steps.specs.Names.{namesBy, Nameable};
 ghost use Rattle.steps.specs.Refusals.{literalRefusal};
 ghost use Rattle.steps.specs.Answers.{renamed};
 
@@ -82,23 +81,11 @@ fn rename_unit(gs: &[u32], solvervars: bool, unit: &[u32]) -> u32
     rename_lit(gs, solvervars, unit[0])
 }
 
-// Literals of a sound table under global names, from the start of `out`.
-pub fn rename_lits(
-    c: Counts,
-    gu: &[u32],
-    ug: &[u32],
-    sg: &[u32],
-    gs: &[u32],
-    assignment: &[u32],
-    records: &[u32],
-    solvervars: bool,
-    lits: &[u32],
-    out: &mut [u32],
-)
-    requires { ⌜ soundb (given c gu ug sg gs assignment records) ≡ true ⌝ }
-    requires { ⌜ unheld (given c gu ug sg gs assignment records) solvervars (now lits) ≡ false ⌝ }
+// Literals under global names, from the start of `out`.
+pub fn rename_lits(gs: &[u32], solvervars: bool, lits: &[u32], out: &mut [u32])
+    requires { ⌜ Nameable (now gs) solvervars (now lits) ⌝ }
     requires { ⌜ length (now lits) ≤ length (now out) ⌝ }
-    ensures { λ _. ⌜ Fills out 0 (renameLits (holders (before c gu ug sg gs assignment records)) solvervars (old lits)) ⌝ }
+    ensures { λ _. ⌜ Fills out 0 (namesBy (old gs) solvervars (old lits)) ⌝ }
 {
     let mut i = 0;
     while i < lits.len() {
@@ -240,18 +227,7 @@ pub fn rename_step(
     }
     let k = carried(step, lits.len());
     let m = hashed(step, hashes.len());
-    rename_lits(
-        c,
-        gu,
-        ug,
-        sg,
-        gs,
-        assignment,
-        records,
-        solvervars,
-        &lits[..k],
-        out,
-    );
+    rename_lits(gs, solvervars, &lits[..k], out);
     copy_hashes(&hashes[..m], hashout);
     Renamed::Done(k, m, step)
 }

@@ -12,17 +12,15 @@ use scope::Counts;
 use scope::ProofStep;
 use scope::Writes;
 ghost use mathlib.Core.Path.{_≡_};
-ghost use mathlib.Core.Bool.{true, false};
 ghost use Prim.Native.Nat.{_+_, _≤_};
 ghost use lib.ListN.{length};
 ghost use Rattle.base.specs.Lent.{old, new, Fills};
 ghost use Rattle.drat.specs.Grammar.{encode, Codes};
 ghost use Rattle.scope.specs.declared.Writes.the-variants.{AddEach};
-ghost use Rattle.scope.specs.Sound.{soundb};
-ghost use Rattle.scope.specs.Contract.{given, before, quiet, Meets};
+ghost use Rattle.scope.specs.Contract.{before, quiet, Meets};
 ghost use Rattle.scope.specs.Steps.{written, clauseSteps};
-ghost use Rattle.scope.specs.Marks.{unheld};
-ghost use Rattle.scope.specs.Write.{renameLits, holders, outside, writeOf};
+ghost use Rattle.scope.specs.Write.{writeOf};
+ghost use Rattle.steps.specs.Names.{namesBy, Nameable};
 ghost use Rattle.steps.specs.Refusals.{laid, laidBytes};
 ghost use Rattle.steps.specs.Answers.{recorded};
 
@@ -102,38 +100,19 @@ pub enum Recorded {
 
 // A step of which all but the room is judged: 2.
 pub fn write_judged(
-    c: Counts,
-    gu: &[u32],
-    ug: &[u32],
-    sg: &[u32],
     gs: &[u32],
-    assignment: &[u32],
-    records: &[u32],
     f: Format,
     step: ProofStep,
     solvervars: bool,
     lits: &[u32],
     out: &mut [u8],
 ) -> Recorded
-    requires { ⌜ soundb (given c gu ug sg gs assignment records) ≡ true ⌝ }
-    requires { ⌜ outside (given c gu ug sg gs assignment records) solvervars (now lits) ≡ false ⌝ }
-    requires { ⌜ unheld (given c gu ug sg gs assignment records) solvervars (now lits) ≡ false ⌝ }
-    ensures { λ r. let bytes = encode f (clauseSteps step (renameLits (holders (before c gu ug sg gs assignment records)) solvervars (old lits))) in
+    requires { ⌜ Nameable (now gs) solvervars (now lits) ⌝ }
+    ensures { λ r. let bytes = encode f (clauseSteps step (namesBy (old gs) solvervars (old lits))) in
         ⌜ r ≡ laid bytes (length (old out)) ⌝ ∗ ⌜ Fills out 0 (laidBytes bytes (length (old out))) ⌝ }
 {
     let mut names = [0u32; 8192];
-    rename_lits(
-        c,
-        gu,
-        ug,
-        sg,
-        gs,
-        assignment,
-        records,
-        solvervars,
-        lits,
-        &mut names,
-    );
+    rename_lits(gs, solvervars, lits, &mut names);
     let k = lits.len();
     let n = bytes_len(f, step, &names[..k]);
     if out.len() < n {
@@ -187,18 +166,5 @@ pub fn write_step(
         return Recorded::Refused(11);
     }
     let k = carried(step, lits.len());
-    write_judged(
-        c,
-        gu,
-        ug,
-        sg,
-        gs,
-        assignment,
-        records,
-        f,
-        step,
-        solvervars,
-        &lits[..k],
-        out,
-    )
+    write_judged(gs, f, step, solvervars, &lits[..k], out)
 }

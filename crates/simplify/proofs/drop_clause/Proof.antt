@@ -1,4 +1,4 @@
-use Rattle.simplify.proofs.SimplifyLaws.{judged, dropped-short, dropped-filled}
+use Rattle.simplify.proofs.SimplifyLaws.{dropped-short, dropped-filled}
 use borrow.Author.Needs.{needs}
 use Rattle.simplify.proofs.drop_clause.Statement.{statement}
 use Rattle.simplify.proofs.drop_clause.Tie as tie
@@ -7,9 +7,7 @@ delete-cause-requires : tie.Need-delete-cause-requires
 delete-cause-requires c κs = search needs
 
 write-judged-requires : tie.Need-write-judged-requires
-write-judged-requires c κs =
-    let entry = c .before .before .before .before .before .before .before .before .before .before in
-    let j = judged _ (entry .args .lits .now) (entry .pre .0) in (j .sound, (j .inside, j .held))
+write-judged-requires c κs = c .before .before .before .before .before .pre
 
 enum-known-wrote : tie.Need-enum-known-wrote
 enum-known-wrote c = search needs
@@ -21,21 +19,22 @@ same-length : tie.Need-same-length
 same-length c = search needs
 
 returns : tie.Need-returns
-returns c =
-    let entry = c .before .before .before .before .before .before .before .before .before .before .before .before .before .before .before in
-    dropped-short (entry .args .f) _ (entry .args .lits .now) (entry .args .redundant) (c .before .before .before .before .before .before .delete-cause .result)
-    (entry .args .bytes .now) _ (entry .pre .0) (entry .pre .1) _ _ (c .before .before .before .before .write-judged .ensures .0) (c .enum-told .given .1)
+returns c t outs s g =
+    let entry = c .before .before .before .before .before .before .before .before .before .before in
+    dropped-short (entry .args .f) t (entry .args .gs .now) (entry .args .lits .now) (entry .args .redundant)
+    (c .before .before .before .before .before .before .delete-cause .result) outs
+    (entry .args .bytes .now) _ g s _ _ (c .before .before .before .before .write-judged .ensures .0) (c .enum-told .given .1)
     (c .before .before .before .before .write-judged .ensures .1)
 
 same-length-2 : tie.Need-same-length-2
 same-length-2 c = search needs
 
 returns-2 : tie.Need-returns-2
-returns-2 c =
-    let entry = c .before .before .before .before .before .before .before .before .before .before .before .before .before .before .before .before in
-    dropped-filled (entry .args .f) _ (entry .args .lits .now) (entry .args .redundant)
-    (c .before .before .before .before .before .before .before .delete-cause .result) (entry .args .bytes .now) _ (entry .pre .0) (entry .pre .1) _ _
-    (c .before .before .before .before .before .write-judged .ensures .0) (c .before .wrote .given .1)
+returns-2 c t outs s g =
+    let entry = c .before .before .before .before .before .before .before .before .before .before .before in
+    dropped-filled (entry .args .f) t (entry .args .gs .now) (entry .args .lits .now) (entry .args .redundant)
+    (c .before .before .before .before .before .before .before .delete-cause .result) outs
+    (entry .args .bytes .now) _ g s _ _ (c .before .before .before .before .before .write-judged .ensures .0) (c .before .wrote .given .1)
     (c .before .before .before .before .before .write-judged .ensures .1)
 
 pub drop-clause-spec : {M : Type 1} → statement M

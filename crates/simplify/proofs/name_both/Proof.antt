@@ -1,19 +1,21 @@
-use Rattle.simplify.proofs.SimplifyLaws.{judged, room-clause, room-rest}
+use Rattle.simplify.proofs.SimplifyLaws.{room-clause, room-rest}
 use borrow.Author.Needs.{needs}
 use Rattle.simplify.proofs.name_both.Statement.{statement}
 use Rattle.simplify.proofs.name_both.Tie as tie
 
 rename-lits-requires : tie.Need-rename-lits-requires
 rename-lits-requires c κs =
-    let entry = c .before .before .before .before .before .before .before .before .before .before in
-    let j = judged _ (entry .args .lits .now) (entry .pre .0) in
-    (j .sound, (j .held, room-clause _ (entry .args .lits .now) (entry .pre .0) (entry .args .clause .now) (entry .pre .1 .1)))
+    let entry = c .before .before .before .before .before .before in (
+      (entry .pre .0),
+      room-clause _ _ (entry .pre .0) (entry .args .clause .now) (entry .pre .1 .1),
+    )
 
 keep-rest-requires : tie.Need-keep-rest-requires
 keep-rest-requires c κs =
-    let entry = c .before .before .before .before .before .before .before .before .before .before .before .before .before .before in
-    let j = judged _ (entry .args .lits .now) (entry .pre .0) in
-    (j .sound, (j .held, room-rest _ (entry .args .lits .now) (entry .pre .0) (entry .args .rest .now) (entry .pre .1 .0)))
+    let entry = c .before .before .before .before .before .before .before .before .before .before in (
+      (entry .pre .0),
+      room-rest _ _ (entry .pre .0) (entry .args .rest .now) (entry .pre .1 .0) (entry .args .assignment .now),
+    )
 
 same-length : tie.Need-same-length
 same-length c = search needs

@@ -1,13 +1,11 @@
-use Rattle.scope.specs.Simplify.{unfalse}
 use Rattle.scope.specs.Write.{renameLit, renameLits}
-use Rattle.steps.proofs.LiteralLaws.{word-small, held-at}
 use Rattle.simplify.specs.Values.{falseBy}
 use mathlib.Core.Logic.{⊎-elim}
 use Rattle.simplify.proofs.KeepLaws.{keptTo, kept-start, count-some, count-none, count-end, count-most, count-room, stored, store-start, store-some}
 use Rattle.simplify.proofs.KeepLaws.{store-none, store-end, store-kept, store-there}
 use Prim.Native.Nat.{_≤_, _-_}
 use lib.ListN.{length, getD}
-use mathlib.Core.Bool.{true, not}
+use mathlib.Core.Bool.{not}
 use mathlib.Core.Path.{_≡_, refl, sym, ap, _∙_}
 use native.Mathlib.Omega.{arith}
 use borrow.Author.Needs.{needs}
@@ -15,26 +13,26 @@ use Rattle.simplify.proofs.clause.keep_rest.Statement.{statement}
 use Rattle.simplify.proofs.clause.keep_rest.Tie as tie
 
 abbrev Inv-loop : tie.InvT-loop
-Inv-loop gu ug sg gs assignment records named lits out₀ k₀ i₀ out k i =
+Inv-loop gs assignment named lits out₀ k₀ i₀ out k i =
     (i ≤ length lits)
     × (k ≡ length (keptTo (λ x. not (falseBy assignment x)) lits i))
     × (out ≡ stored (λ x. not (falseBy assignment x)) lits (renameLit (λ s. getD gs s 0) named) out₀ i)
 
 abbrev μ-loop : tie.MeasureT-loop
-μ-loop gu ug sg gs assignment records named lits out₀ k₀ i₀ out k i = length lits - i
+μ-loop gs assignment named lits out₀ k₀ i₀ out k i = length lits - i
 
 loop-holds : tie.Need-loop-holds Inv-loop μ-loop
 loop-holds c = (
   omega arith,
   sym
-      (ap length (kept-start (λ x. not (falseBy (c .before .before .before .before .before .before .before .before .args .assignment .now) x))
-      (c .before .before .before .before .before .before .before .before .args .lits .now))),
+      (ap length (kept-start (λ x. not (falseBy (c .before .before .before .before .args .assignment .now) x))
+      (c .before .before .before .before .args .lits .now))),
   store-start
-      (λ x. not (falseBy (c .before .before .before .before .before .before .before .before .args .assignment .now) x))
-      (c .before .before .before .before .before .before .before .before .args .lits .now)
-      (renameLit (λ s. getD (c .before .before .before .before .before .before .before .before .args .gs .now) s 0)
-      (c .before .before .before .before .before .before .before .before .args .named))
-      (c .before .before .before .before .before .before .before .before .args .out .now),
+      (λ x. not (falseBy (c .before .before .before .before .args .assignment .now) x))
+      (c .before .before .before .before .args .lits .now)
+      (renameLit (λ s. getD (c .before .before .before .before .args .gs .now) s 0)
+      (c .before .before .before .before .args .named))
+      (c .before .before .before .before .args .out .now),
 )
 
 mul-code : tie.Need-mul-code Inv-loop μ-loop
@@ -48,28 +46,27 @@ is-false-requires c κs = search needs
 
 rename-lit-requires : tie.Need-rename-lit-requires Inv-loop μ-loop
 rename-lit-requires c κs =
-    let entry = c .before .before .before .before .before .before .before .before .before .before .before .before .before in
-    (word-small _ (entry .pre .0) _, λ b. held-at _ true _ _ (entry .pre .1 .0) (c .before .before .before .loop-test .taken) refl)
+    let entry = c .before .before .before .before .before .before .before .before .before in
+    (entry .pre .0 .small _, λ b. entry .pre .0 .held refl _ (c .before .before .before .loop-test .taken))
 
 mul-out : tie.Need-mul-out Inv-loop μ-loop
 mul-out c =
-    let entry = c .before .before .before .before .before .before .before .before .before .before .before .before .before .before in
+    let entry = c .before .before .before .before .before .before .before .before .before .before in
     let z = count-most (λ x. not (falseBy (entry .args .assignment .now) x)) (entry .args .lits .now) (c .before .before .before .before .before .loop .i) _
     (c .before .before .before .before .before .loop .inv .1) in omega arith
 
 slice-write-out : tie.Need-slice-write-out Inv-loop μ-loop
-unfolding unfalse
 slice-write-out c =
-    let entry = c .before .before .before .before .before .before .before .before .before .before .before .before .before .before in
+    let entry = c .before .before .before .before .before .before .before .before .before .before in
     store-there (λ x. not (falseBy (entry .args .assignment .now) x)) (entry .args .lits .now)
     (renameLit (λ s. getD (entry .args .gs .now) s 0) (entry .args .named)) (entry .args .out .now) _ (c .before .before .before .before .before .loop .i) _
     (count-room (λ x. not (falseBy (entry .args .assignment .now) x)) (entry .args .lits .now) _ _ (c .before .before .before .before .loop-test .taken)
     (sym (ap not (c .before .before .is-false .ensures)) ∙ (c .before .if1 .taken)) (c .before .before .before .before .before .loop .inv .1))
-    (entry .pre .1 .1) (c .before .before .before .before .before .loop .inv .2)
+    (entry .pre .1) (c .before .before .before .before .before .loop .inv .2)
 
 add-k : tie.Need-add-k Inv-loop μ-loop
 add-k c =
-    let entry = c .before .before .before .before .before .before .before .before .before .before .before .before .before .before in
+    let entry = c .before .before .before .before .before .before .before .before .before .before in
     let z = count-most (λ x. not (falseBy (entry .args .assignment .now) x)) (entry .args .lits .now) (c .before .before .before .before .before .loop .i) _
     (c .before .before .before .before .before .loop .inv .1) in omega arith
 
@@ -81,7 +78,7 @@ loop-less c = omega arith
 
 loop-again : tie.Need-loop-again Inv-loop μ-loop
 loop-again c =
-    let entry = c .before .before .before .before .before .before .before .before .before .before .before .before .before in
+    let entry = c .before .before .before .before .before .before .before .before .before in
     ⊎-elim (λ w. let e = sym (ap not (c .before .is-false .ensures)) ∙ w .0 .taken in (
       omega arith,
       w .3 ∙ count-some (λ x. not (falseBy (entry .args .assignment .now) x)) (entry .args .lits .now) _ _
@@ -104,14 +101,14 @@ loop-again c =
 
 same-length : tie.Need-same-length Inv-loop μ-loop
 same-length c =
-    let entry = c .before .before .before .before .before .before .before .before .before .before in
+    let entry = c .before .before .before .before .before .before in
     store-kept (λ x. not (falseBy (entry .args .assignment .now) x)) (entry .args .lits .now)
     (renameLit (λ s. getD (entry .args .gs .now) s 0) (entry .args .named)) (entry .args .out .now) _ (c .before .loop .i) (c .before .loop .inv .2)
 
 returns : tie.Need-returns Inv-loop μ-loop
-unfolding renameLits unfalse
+unfolding renameLits
 returns c =
-    let entry = c .before .before .before .before .before .before .before .before .before .before in (
+    let entry = c .before .before .before .before .before .before in (
       count-end (λ x. not (falseBy (entry .args .assignment .now) x)) (entry .args .lits .now) _ _ (c .loop-test .left) (c .before .loop .inv .1),
       store-end
           (λ x. not (falseBy (entry .args .assignment .now) x)) (entry .args .lits .now) (renameLit (λ s. getD (entry .args .gs .now) s 0) (entry .args .named))

@@ -1,8 +1,7 @@
-use Rattle.steps.proofs.StepLaws.{rename-clear, literals-most, literals-part, literals-fit, hashes-most, hashes-fit}
+use Rattle.steps.proofs.StepLaws.{rename-clear, step-nameable, literals-most, literals-fit, hashes-most, hashes-fit}
 use Rattle.steps.proofs.RenameLaws.{rename-refused, rename-done}
-use Rattle.scope.specs.Marks.{unheld}
 use lib.Seq.{length-take-le}
-use mathlib.Core.Path.{sym, ap, _∙_}
+use mathlib.Core.Path.{sym}
 use borrow.Author.Needs.{needs}
 use Rattle.steps.proofs.rename.rename_step.Statement.{statement}
 use Rattle.steps.proofs.rename.rename_step.Tie as tie
@@ -32,13 +31,9 @@ rename-lits-requires c κs =
     let entry = c .before .before .before .before .before .before .before .before .before .before .before .before .before .before .before .before in
     let k = rename-clear _ (entry .args .step) (entry .args .solvervars) (entry .args .lits .now) (entry .args .hashes .now) _ _ _
     (c .before .before .before .before .before .rename-refusal .ensures) (c .before .before .before .before .if1 .left) in
-    let p = literals-part (entry .args .step) (entry .args .lits .now) _ (c .before .before .before .carried .ensures) in (
-      k .clear .sound,
-      (
-        ap (unheld _ (entry .args .solvervars)) p
-            ∙ k .clear .literals .held,
-        literals-fit (entry .args .step) (entry .args .lits .now) _ _ (c .before .before .before .carried .ensures) (k .room),
-      ),
+    let e = c .before .before .before .carried .ensures in (
+      step-nameable _ (entry .args .step) (entry .args .solvervars) (entry .args .lits .now) (entry .args .hashes .now) _ (k .clear) e,
+      literals-fit (entry .args .step) (entry .args .lits .now) _ _ e (k .room),
     )
 
 slice-aggregate-copy-hashes : tie.Need-slice-aggregate-copy-hashes

@@ -1,9 +1,7 @@
 use Rattle.steps.proofs.WriteLaws.{write-first, write-lacked, write-judged, lacked-by}
-use Rattle.steps.proofs.StepLaws.{literals-most, literals-part, step-clear}
-use Rattle.scope.specs.Marks.{unheld}
-use Rattle.scope.specs.Write.{outside}
+use Rattle.steps.proofs.StepLaws.{literals-most, step-clear, step-nameable}
 use lib.Seq.{length-take-le}
-use mathlib.Core.Path.{sym, ap, _∙_}
+use mathlib.Core.Path.{sym, _∙_}
 use borrow.Author.Needs.{needs}
 use Rattle.steps.proofs.write.write_step.Statement.{statement}
 use Rattle.steps.proofs.write.write_step.Tie as tie
@@ -43,8 +41,7 @@ write-judged-requires c κs =
     let entry = c .before .before .before .before .before .before .before .before .before .before .before .before .before .before .before .before .before in
     let k = step-clear _ (entry .args .step) (entry .args .solvervars) (entry .args .lits .now) (entry .args .hashes .now) _
     (c .before .before .before .before .before .before .before .step-refusal .ensures) (c .before .before .before .before .before .before .if1 .left) in
-    let p = literals-part (entry .args .step) (entry .args .lits .now) _ (c .before .before .carried .ensures) in
-    (k .sound, (ap (outside _ (entry .args .solvervars)) p ∙ k .literals .inside, ap (unheld _ (entry .args .solvervars)) p ∙ k .literals .held))
+    step-nameable _ (entry .args .step) (entry .args .solvervars) (entry .args .lits .now) (entry .args .hashes .now) _ k (c .before .before .carried .ensures)
 
 same-length : tie.Need-same-length
 same-length c = search needs
