@@ -22,12 +22,13 @@ use Rattle.scope.proofs.SoundLaws.{sound-of}
 use Rattle.scope.proofs.ResultLaws.{past}
 use Rattle.scope.proofs.ModeLaws.{Observed as ObservedTable, observe-passed}
 use Rattle.changes.specs.Cursor.{AllMapped}
-use Rattle.changes.specs.Leaves.{Leaves, Room}
+use Rattle.changes.specs.Leaves.{Leaves}
+use Rattle.changes.specs.Solvers.{solversOf}
 use Rattle.changes.proofs.CursorLaws.{cursor-start}
 use Rattle.changes.proofs.LeavesLaws.{leaves-length, notes-told, notes-fit, SameSizes, same-sizes}
 use Rattle.changes.proofs.TurnLaws.{turns-none, turns-more, turns-room}
 use Rattle.changes.proofs.CallLaws.{call-refused, call-accepted, refused-words, accepted-words}
-use Rattle.modes.specs.Asks.{UsersFilled, Observes, ObservesAll}
+use Rattle.modes.specs.Asks.{UsersFilled, ObservesAll, ObserveAsks, ObserveAllAsks}
 use Rattle.modes.specs.declared.Observed.the-variants.{Done, Refused}
 use Rattle.modes.specs.Answers.{observed}
 use Rattle.modes.proofs.HiddenLaws.{fine, hiddenAt}
@@ -93,13 +94,19 @@ module _ (t : Table) (g from n at : ℕ) (left : Table) (users users2 words word
   observing-users = ap length (h .filled .values) ∙ length-sets users 0 (each g observeOne t .value)
 
   module _ (outs room : ℕ) (a : ObservesAll t outs room) where
-    pub observing-asks : outs ≡ length users → room ≡ length words → g < t .counts .global → Observes left g from n (length users2)
-        × Room (observeOne g left) at (length words2)
+    pub observing-asks : outs ≡ length users → room ≡ length words → g < t .counts .global
+        → ObserveAsks (left .counts) (left .globalFromUser) (left .userFromGlobal) (left .records) g from n (length users2) at (length words2)
     unfolding observe
-    observing-asks eo er l = (
-      record { sound = subst (λ (s : Table). Sound s) (sym (h .leaves .table)) (o .sound); below = below; mapped = h .mapped; words = room-users },
-      turns-room g (t .counts .global) observeOne t at left words words2 (record { words = let w = a .words in omega arith }) l (h .leaves),
-    )
+    observing-asks eo er l = record {
+      solvers = solversOf left;
+      observes = record {
+        sound = subst (λ (s : Table). Sound s) (sym (h .leaves .table)) (o .sound);
+        below = below;
+        mapped = h .mapped;
+        words = room-users;
+      };
+      words = turns-room g (t .counts .global) observeOne t at left words words2 (record { words = let w = a .words in omega arith }) l (h .leaves);
+    }
       where
         o : ObservedTable t g (each g observeOne t .table)
         o = observe-passed t (a .sound) g
@@ -125,13 +132,13 @@ module _ (t : Table) (g from n at : ℕ) (left : Table) (users users2 words word
         let k = o .same .capacity in
         same-sizes t left words words2 (a .sound .sizes) x (omega arith) (leaves-length (each g observeOne t) 0 at left words words2 (h .leaves))
 
-  pub observing-end : g ≡ t .counts .global → Leaves (observe t) 0 at left words words2 × UsersFilled (observe t) 0 n users users2
+  pub observing-end : g ≤ t .counts .global → t .counts .global ≤ g → Leaves (observe t) 0 at left words words2 × UsersFilled (observe t) 0 n users users2
   unfolding observe
-  observing-end e = (
-    subst (λ (i : ℕ). Leaves (each i observeOne t) 0 at left words words2) e (h .leaves),
-    subst
-        (λ (i : ℕ). UsersFilled (each i observeOne t) 0 n users users2) e (h .filled),
-  )
+  observing-end l m =
+      let e : g ≡ t .counts .global = omega arith in (
+        subst (λ (i : ℕ). Leaves (each i observeOne t) 0 at left words words2) e (h .leaves),
+        subst (λ (i : ℕ). UsersFilled (each i observeOne t) 0 n users users2) e (h .filled),
+      )
 
 -- ---- the call
 
@@ -146,9 +153,9 @@ observe-refused t n users words e z = (
 )
 
 module _ (t : Table) (outs room n : ℕ) (e : n ≡ observeRefusal t outs room) (z : n ≡ 0) where
-  pub observe-asks : ObservesAll t outs room
+  passed : ObservesAll t outs room
   unfolding observeRefusal
-  observe-asks =
+  passed =
       let a = past (not (soundb t)) 1 _ (omega arith) (sym e ∙ z) in
       let b = past (not (allBelow (t .counts .global) (fine (t .records)))) 7 _ (omega arith) (a .1) in
       let d = past (ltb outs (length (observe t .value)) || ltb room (3 * length (observe t .notes))) 2 0 (omega arith) (b .1) in
@@ -158,12 +165,15 @@ module _ (t : Table) (outs room n : ℕ) (e : n ≡ observeRefusal t outs room) 
         words = ltb-false room (3 * length (observe t .notes)) (or-right (ltb outs (length (observe t .value))) _ (d .0));
       }
 
+  pub observe-asks : ObserveAllAsks (t .counts) (t .globalFromUser) (t .userFromGlobal) (t .records) outs room
+  observe-asks = record { solvers = solversOf t; observes = passed }
+
   -- both counts fit
   pub observe-fits : (k at : ℕ) (left : Table) (users users2 words words2 : List ℕ) → Leaves (observe t) 0 at left words words2
       × UsersFilled (observe t) 0 k users users2
       → (k < 2 ^ 32) × (at / 3 < 2 ^ 32)
   observe-fits k at left users users2 words words2 h =
-      let s = observe-asks .sound in
+      let s = passed .sound in
       let x = observe-count t s in
       let m = count-most (t .counts .global) (hiddenAt (t .records)) in
       let w = s .sizes in

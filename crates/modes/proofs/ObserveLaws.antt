@@ -1,5 +1,5 @@
 -- The observation of one global, and of all: how many users and notes, and what a turn leaves.
-use Prim.Native.Nat.{ℕ, zero, suc, _+_, _*_, _≤_, _<_, _^_, max}
+use Prim.Native.Nat.{ℕ, zero, suc, _+_, _*_, _≤_, _<_, max}
 use mathlib.Core.Path.{_≡_, refl, sym, ap, _∙_, subst}
 use mathlib.Core.Bool.{Bool, true, false}
 use mathlib.Core.List.{List, []}
@@ -12,7 +12,7 @@ use lib.Seq.{sets}
 use Rattle.base.specs.Bounded.{count}
 use Rattle.base.proofs.SetsLaws.{sets-append}
 use Rattle.base.proofs.CountLaws.{count-none}
-use Rattle.scope.specs.Table.{Table, recordOf, giveUser, leastFree}
+use Rattle.scope.specs.Table.{Table, modeOf, recordOf, giveUser, leastFree}
 use Rattle.scope.specs.Sound.{Sound}
 use Rattle.scope.specs.Outcome.{Result, stay, choose, each}
 use Rattle.scope.specs.Map.{nextUser}
@@ -24,7 +24,7 @@ use Rattle.changes.specs.Leaves.{Leaves, Room}
 use Rattle.changes.specs.Solvers.{solversOf}
 use Rattle.changes.proofs.LeavesLaws.{leaves-stay}
 use Rattle.changes.proofs.DeletionLaws.{record-read}
-use Rattle.modes.specs.Asks.{There, ShowAsks, UsersFilled, Observes}
+use Rattle.modes.specs.Asks.{ShowAsks, UsersFilled, Observes}
 use Rattle.modes.proofs.CursorLaws.{mapped-more}
 use Rattle.modes.proofs.HiddenLaws.{oneIf, hiddenAt, count-next}
 
@@ -102,81 +102,85 @@ values-up t n (suc m) l = ⊎-elim
     (λ (k : n < suc m). let x = values-up t n m (omega arith) in simp length-append (omega arith))
     (eq-or-lt-of-le l)
 
--- ---- one global
+-- ---- one global, of any table with these records
 
-module _ (t : Table) (g from n outs : ℕ) (h : Observes t g from n outs) where
-  pub observe-words : g < length (t .records)
-  observe-words = let z = h .sound .sizes in let l = h .below in omega arith
+module _ (t : Table) (g : ℕ) (l : g < length (t .records)) (b : Bool) (e : b ≡ isHidden (getD (t .records) g 0)) where
+  hidden-is : isHidden (recordOf t g) ≡ b
+  hidden-is = ap isHidden (sym (record-read t g l)) ∙ sym e
 
-  record-is : getD (t .records) g 0 ≡ recordOf t g
-  record-is = record-read t g observe-words
+  stays : b ≡ false → observeOne g t ≡ stay [] t
+  unfolding observeOne
+  stays q = choose-else _ _ _ (hidden-is ∙ q)
 
-  module _ (b : Bool) (e : b ≡ isHidden (getD (t .records) g 0)) where
-    hidden-is : isHidden (recordOf t g) ≡ b
-    hidden-is = ap isHidden (sym record-is) ∙ sym e
+  shows : b ≡ true → observeOne g t ≡ show g 1 t
+  unfolding observeOne
+  shows q = choose-then _ _ _ (hidden-is ∙ q)
 
-    stays : b ≡ false → observeOne g t ≡ stay [] t
-    unfolding observeOne
-    stays q = choose-else _ _ _ (hidden-is ∙ q)
+  pub stays-leaves : b ≡ false → (at : ℕ) (words : List ℕ) → Leaves (observeOne g t) at at t words words
+  stays-leaves q at words = subst (λ (x : Result (List ℕ)). Leaves x at at t words words) (sym (stays q)) (leaves-stay t at words)
 
-    pub one-stays : b ≡ false → (at : ℕ) (words users : List ℕ) → Leaves (observeOne g t) at at t words words
-        × (UsersFilled (observeOne g t) n n users users × AllMapped (t .globalFromUser) (t .counts .user) from)
-    one-stays q at words users = (
-      subst (λ (x : Result (List ℕ)). Leaves x at at t words words) (sym (stays q)) (leaves-stay t at words),
-      (subst (λ (x : Result (List ℕ)). UsersFilled x n n users users) (sym (stays q)) (record { values = refl; moved = omega arith }), h .mapped),
-    )
+  pub stays-filled : b ≡ false → (n : ℕ) (users : List ℕ) → UsersFilled (observeOne g t) n n users users
+  stays-filled q n users =
+      subst (λ (x : Result (List ℕ)). UsersFilled x n n users users) (sym (stays q)) (record { values = refl; moved = omega arith })
 
-    module _ (q : b ≡ true) where
-      shows : observeOne g t ≡ show g 1 t
-      unfolding observeOne
-      shows = choose-then _ _ _ (hidden-is ∙ q)
+  pub shows-leaves : b ≡ true → (at next : ℕ) (left : Table) (words words2 : List ℕ) → Leaves (show g 1 t) at next left words words2
+      → Leaves (observeOne g t) at next left words words2
+  shows-leaves q at next left words words2 k = subst (λ (x : Result (List ℕ)). Leaves x at next left words words2) (sym (shows q)) k
 
-      there : There t g
-      there = record { sound = h .sound; undeleted = hidden-of (recordOf t g) (hidden-is ∙ q) .0 }
+  pub shows-filled : b ≡ true → (n u : ℕ) (users : List ℕ) → u ≡ leastFree (t .globalFromUser) (t .counts .user)
+      → UsersFilled (observeOne g t) n (n + 1) users (set users n u)
+  unfolding show nextUser
+  shows-filled q n u users p = subst (λ (x : Result (List ℕ)). UsersFilled x n (n + 1) users (set users n u)) (sym (shows q))
+      (record { values = ap (λ (v : ℕ). set users n v) p; moved = refl })
 
-      pub observe-one-asks : (at room : ℕ) → Room (observeOne g t) at room
-          → ShowAsks (t .counts) (t .globalFromUser) (t .userFromGlobal) (t .records) g 1 from at room
-      unfolding show
-      observe-one-asks at room r =
-          let w = subst (λ (x : Result (List ℕ)). Room x at room) shows r .words in
-          record {
-            solvers = solversOf t;
-            shows = record { there = there; hidden = hidden-of (recordOf t g) (hidden-is ∙ q) .1; mode = omega arith; mapped = h .mapped };
-            words = omega arith;
-          }
+-- what a turn asks, and the cursor after it
 
-      -- there is a place for the user
-      pub one-room : n < outs
-      unfolding show
-      one-room = let w = h .words in let x = ap (λ (y : Result (List ℕ)). length (y .value)) shows in omega arith
+pub observe-words : (t : Table) (g from n outs : ℕ) → Observes t g from n outs → g < length (t .records)
+observe-words t g from n outs h = let z = h .sound .sizes in let l = h .below in omega arith
 
-      next-below : (u : ℕ) → u ≡ leastFree (t .globalFromUser) (t .counts .user) → u < t .counts .capacity
-      unfolding nextUser
-      next-below u p = let k = next-user-below t g (h .sound) (there .undeleted) (hidden-of (recordOf t g) (hidden-is ∙ q) .1) in omega arith
+module _ (t : Table) (g from n outs : ℕ) (h : Observes t g from n outs) (b : Bool) (e : b ≡ isHidden (getD (t .records) g 0)) (q : b ≡ true) where
+  words-there : g < length (t .records)
+  words-there = observe-words t g from n outs h
 
-      pub one-small : (u : ℕ) → u ≡ leastFree (t .globalFromUser) (t .counts .user) → u < 4096
-      one-small u p = let l = next-below u p in let z = h .sound .sizes in omega arith
+  hidden-there : (recordOf t g < 36) × (modeOf (recordOf t g) ≡ 2)
+  hidden-there = hidden-of (recordOf t g) (hidden-is t g words-there b e ∙ q)
 
-      after-mapped : (u : ℕ) (left : Table) → u ≡ leastFree (t .globalFromUser) (t .counts .user) → left ≡ show g 1 t .table
-          → AllMapped (left .globalFromUser) (left .counts .user) (u + 1)
-      unfolding show giveUser nextUser
-      after-mapped u left p k =
-          let z = h .sound .sizes in
-          let l = next-below u p in
-          subst (λ (s : Table). AllMapped (s .globalFromUser) (s .counts .user) (u + 1)) (sym k)
-          (subst (λ (v : ℕ). AllMapped (set (t .globalFromUser) v (g + 1)) (max (t .counts .user) (v + 1)) (u + 1)) p
-          (mapped-more (t .globalFromUser) (t .counts .user) u g p (omega arith)))
+  pub observe-one-asks : (at room : ℕ) → Room (observeOne g t) at room
+      → ShowAsks (t .counts) (t .globalFromUser) (t .userFromGlobal) (t .records) g 1 from at room
+  unfolding show
+  observe-one-asks at room r =
+      let w = subst (λ (x : Result (List ℕ)). Room x at room) (shows t g words-there b e q) r .words in
+      record {
+        solvers = solversOf t;
+        shows = record {
+          there = record { sound = h .sound; undeleted = hidden-there .0 };
+          hidden = hidden-there .1;
+          mode = omega arith;
+          mapped = h .mapped;
+        };
+        words = omega arith;
+      }
 
-      pub one-shows : (at next u from : ℕ) (left : Table) (words words2 users : List ℕ) → Leaves (show g 1 t) at next left words words2
-          → u ≡ leastFree (t .globalFromUser) (t .counts .user) → from ≡ u + 1
-          → Leaves (observeOne g t) at next left words words2
-          × (UsersFilled (observeOne g t) n (n + 1) users (set users n u) × AllMapped (left .globalFromUser) (left .counts .user) from)
-      unfolding show nextUser
-      one-shows at next u from left words words2 users k p e = (
-        subst (λ (x : Result (List ℕ)). Leaves x at next left words words2) (sym shows) k,
-        (
-          subst (λ (x : Result (List ℕ)). UsersFilled x n (n + 1) users (set users n u)) (sym shows)
-              (record { values = ap (λ (v : ℕ). set users n v) p; moved = refl }),
-          subst (λ (v : ℕ). AllMapped (left .globalFromUser) (left .counts .user) v) (sym e) (after-mapped u left p (k .table)),
-        ),
-      )
+  -- there is a place for the user
+  pub one-room : n < outs
+  unfolding show
+  one-room = let w = h .words in let x = ap (λ (y : Result (List ℕ)). length (y .value)) (shows t g words-there b e q) in omega arith
+
+  next-below : (u : ℕ) → u ≡ leastFree (t .globalFromUser) (t .counts .user) → u < t .counts .capacity
+  unfolding nextUser
+  next-below u p = let k = next-user-below t g (h .sound) (hidden-there .0) (hidden-there .1) in omega arith
+
+  pub one-small : (u : ℕ) → u ≡ leastFree (t .globalFromUser) (t .counts .user) → u < 4096
+  one-small u p = let l = next-below u p in let z = h .sound .sizes in omega arith
+
+  pub shows-mapped : (u from2 at next : ℕ) (left : Table) (words words2 : List ℕ) → u ≡ leastFree (t .globalFromUser) (t .counts .user)
+      → Leaves (show g 1 t) at next left words words2 → from2 ≡ u + 1
+      → AllMapped (left .globalFromUser) (left .counts .user) from2
+  unfolding show giveUser nextUser
+  shows-mapped u from2 at next left words words2 p k d =
+      let z = h .sound .sizes in
+      let l = next-below u p in
+      subst (λ (v : ℕ). AllMapped (left .globalFromUser) (left .counts .user) v) (sym d)
+      (subst (λ (s : Table). AllMapped (s .globalFromUser) (s .counts .user) (u + 1)) (sym (k .table))
+      (subst (λ (v : ℕ). AllMapped (set (t .globalFromUser) v (g + 1)) (max (t .counts .user) (v + 1)) (u + 1)) p
+      (mapped-more (t .globalFromUser) (t .counts .user) u g p (omega arith))))

@@ -70,8 +70,19 @@ pub record Observes (t : Table) (g from n outs : ℕ) : Type 0 where
   pub mapped : AllMapped (t .globalFromUser) (t .counts .user) from
   pub words : n + length (observeOne g t .value) ≤ outs
 
+-- The same of the lists that are lent, with some lists of solver indices, and there is room for the notes from `at` on.
+pub record ObserveAsks (c : Counts) (gu ug records : List ℕ) (g from n outs at room : ℕ) : Type 0 where
+  pub solvers : Solvers
+  pub observes : Observes (tableWith c gu ug records solvers) g from n outs
+  pub words : Room (observeOne g (tableWith c gu ug records solvers)) at room
+
 -- A sound table, with room for the users and for the notes.
 pub record ObservesAll (t : Table) (outs room : ℕ) : Type 0 where
   pub sound : Sound t
   pub users : length (observe t .value) ≤ outs
   pub words : 3 * length (observe t .notes) ≤ room
+
+-- The same of the lists that are lent, with some lists of solver indices.
+pub record ObserveAllAsks (c : Counts) (gu ug records : List ℕ) (outs room : ℕ) : Type 0 where
+  pub solvers : Solvers
+  pub observes : ObservesAll (tableWith c gu ug records solvers) outs room

@@ -18,14 +18,14 @@ ghost use lib.ListN.{length, getD, set};
 ghost use Rattle.base.specs.Choice.{pick};
 ghost use Rattle.base.specs.Bounded.{allBelow, count};
 ghost use Rattle.base.specs.Lent.{old, new, Fills};
-ghost use Rattle.scope.specs.Contract.{given, before, after, lent, Does, Meets};
+ghost use Rattle.scope.specs.Contract.{before, lent, Does, Meets};
 ghost use Rattle.scope.specs.Table.{tableOf, assumedOf, withMode, leastFree};
 ghost use Rattle.scope.specs.Outcome.{noting};
 ghost use Rattle.scope.specs.Modes.{modeNumber, show, hide, setMode, setModeRefusal, setModeOf, isHidden, observeOne, observe, observeRefusal, observeOf};
 ghost use Rattle.changes.specs.Cursor.{AllMapped};
-ghost use Rattle.changes.specs.Leaves.{Leaves, Room};
+ghost use Rattle.changes.specs.Leaves.{Leaves};
 ghost use Rattle.changes.specs.Solvers.{Solvers, tableWith};
-ghost use Rattle.modes.specs.Asks.{ShowAsks, HideAsks, SetAsks, UsersFilled, Observes, ObservesAll};
+ghost use Rattle.modes.specs.Asks.{ShowAsks, HideAsks, SetAsks, UsersFilled, ObserveAsks, ObserveAllAsks};
 ghost use Rattle.modes.specs.Counting.{modeNotes};
 ghost use Rattle.modes.specs.Answers.{modeSet, observed};
 
@@ -337,14 +337,11 @@ pub struct ObservedTo {
     pub at: usize,
 }
 
-// A hidden global goes to Witness; its user is filled.
+// A hidden global goes to Witness; its user is filled. The lists of solver indices are not lent and may be any.
 fn observe_one(
     c: Counts,
     gu: &mut [u32],
     ug: &mut [u32],
-    sg: &[u32],
-    gs: &[u32],
-    assignment: &[u32],
     records: &mut [u32],
     global: Global,
     from: u32,
@@ -353,11 +350,11 @@ fn observe_one(
     users: &mut [u32],
     notes: &mut [u32],
 ) -> ObservedTo
-    requires { ⌜ Observes (given c gu ug sg gs assignment records) (global .0) from filled (length (now users)) ⌝ }
-    requires { ⌜ Room (observeOne (global .0) (given c gu ug sg gs assignment records)) at (length (now notes)) ⌝ }
-    ensures { λ r. ⌜ Leaves (observeOne (global .0) (before c gu ug sg gs assignment records)) at (r .at)
-        (after (r .counts) gu ug sg gs assignment records) (old notes) (new notes) ⌝ }
-    ensures { λ r. ⌜ UsersFilled (observeOne (global .0) (before c gu ug sg gs assignment records)) filled (r .filled) (old users) (new users) ⌝ }
+    requires { ⌜ ObserveAsks c (now gu) (now ug) (now records) (global .0) from filled (length (now users)) at (length (now notes)) ⌝ }
+    ensures { λ r. ⌜ ((x : Solvers) → Leaves (observeOne (global .0) (tableWith c (old gu) (old ug) (old records) x)) at (r .at)
+        (tableWith (r .counts) (new gu) (new ug) (new records) x) (old notes) (new notes)) ⌝ }
+    ensures { λ r. ⌜ ((x : Solvers) → UsersFilled (observeOne (global .0) (tableWith c (old gu) (old ug) (old records) x)) filled (r .filled)
+        (old users) (new users)) ⌝ }
     ensures { λ r. ⌜ AllMapped (new gu) (r .counts .user) (r .from) ⌝ }
 {
     if !is_hidden(records[global.0 as usize]) {
@@ -381,22 +378,19 @@ fn observe_one(
     }
 }
 
-// Every global in ascending order, on a sound table with room for the users and the notes.
+// Every global in ascending order, on a sound table with room for the users and the notes. The lists of solver indices may be any.
 fn observe_all(
     c: Counts,
     gu: &mut [u32],
     ug: &mut [u32],
-    sg: &[u32],
-    gs: &[u32],
-    assignment: &[u32],
     records: &mut [u32],
     users: &mut [u32],
     notes: &mut [u32],
 ) -> ObservedTo
-    requires { ⌜ ObservesAll (given c gu ug sg gs assignment records) (length (now users)) (length (now notes)) ⌝ }
-    ensures { λ r. ⌜ Leaves (observe (before c gu ug sg gs assignment records)) 0 (r .at)
-        (after (r .counts) gu ug sg gs assignment records) (old notes) (new notes) ⌝ }
-    ensures { λ r. ⌜ UsersFilled (observe (before c gu ug sg gs assignment records)) 0 (r .filled) (old users) (new users) ⌝ }
+    requires { ⌜ ObserveAllAsks c (now gu) (now ug) (now records) (length (now users)) (length (now notes)) ⌝ }
+    ensures { λ r. ⌜ ((x : Solvers) → Leaves (observe (tableWith c (old gu) (old ug) (old records) x)) 0 (r .at)
+        (tableWith (r .counts) (new gu) (new ug) (new records) x) (old notes) (new notes)) ⌝ }
+    ensures { λ r. ⌜ ((x : Solvers) → UsersFilled (observe (tableWith c (old gu) (old ug) (old records) x)) 0 (r .filled) (old users) (new users)) ⌝ }
 {
     let last = c.global;
     let mut k = ObservedTo {
@@ -412,9 +406,6 @@ fn observe_all(
             counts,
             gu,
             ug,
-            sg,
-            gs,
-            assignment,
             records,
             Global(g),
             k.from,
@@ -459,7 +450,7 @@ pub fn observe_internal_vars(
     if n != 0 {
         return Observed::Refused(n);
     }
-    let k = observe_all(c, gu, ug, sg, gs, assignment, records, users, notes);
+    let k = observe_all(c, gu, ug, records, users, notes);
     let counts = k.counts;
     Observed::Done(k.filled as u32, counts, (k.at / 3) as u32)
 }

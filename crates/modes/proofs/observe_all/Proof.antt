@@ -2,33 +2,33 @@ use Rattle.modes.proofs.ObserveCallLaws.{Observing, observing-none, obs
 use native.Mathlib.Omega.{arith}
 use mathlib.Core.Path.{refl}
 use Prim.Native.Nat.{_-_, _≤_}
-use Rattle.scope.specs.Table.{tableOf}
+use Rattle.changes.specs.Solvers.{Solvers, tableWith}
 use Rattle.modes.proofs.observe_all.Statement.{statement}
 use Rattle.modes.proofs.observe_all.Tie as tie
 
 abbrev Inv-loop : tie.InvT-loop
-Inv-loop gu₀ ug₀ sg gs assignment records₀ users₀ notes₀ last k₀ g₀ gu ug records users notes k g =
-    (g ≤ last) × Observing (tableOf (k₀ .counts) gu₀ ug₀ sg gs assignment records₀) g (k .from) (k .filled) (k .at)
-    (tableOf (k .counts) gu ug sg gs assignment records) users₀ users notes₀ notes
+Inv-loop gu₀ ug₀ records₀ users₀ notes₀ last k₀ g₀ gu ug records users notes k g =
+    (g ≤ last) × ((x : Solvers) → Observing (tableWith (k₀ .counts) gu₀ ug₀ records₀ x) g (k .from) (k .filled) (k .at)
+    (tableWith (k .counts) gu ug records x) users₀ users notes₀ notes)
 
 abbrev μ-loop : tie.MeasureT-loop
-μ-loop gu₀ ug₀ sg gs assignment records₀ users₀ notes₀ last k₀ g₀ gu ug records users notes k g = last - g
+μ-loop gu₀ ug₀ records₀ users₀ notes₀ last k₀ g₀ gu ug records users notes k g = last - g
 
 loop-holds : tie.Need-loop-holds Inv-loop μ-loop
-loop-holds c = (omega arith, observing-none _ _ _)
+loop-holds c = (omega arith, λ x. observing-none _ _ _)
 
 observe-one-requires : tie.Need-observe-one-requires Inv-loop μ-loop
 observe-one-requires c κs =
-    let entry = c .before .before .before .before .before .before .before .before .before .before .before .before .before .before .before .before in
-    observing-asks _ _ _ _ _ _ _ _ _ _ (c .before .before .before .before .before .before .before .loop .inv .1) _ _ (entry .pre) refl refl
-    (c .before .before .before .before .before .before .loop-test .taken)
+    let entry = c .before .before .before .before .before .before .before .before .before .before .before .before .before in
+    observing-asks _ _ _ _ _ _ _ _ _ _ (c .before .before .before .before .before .before .before .loop .inv .1 (entry .pre .solvers)) _ _
+    (entry .pre .observes) refl refl (c .before .before .before .before .before .before .loop-test .taken)
 
 add-g : tie.Need-add-g Inv-loop μ-loop
 add-g c =
     let at-loop-test = c .before .before .before .before .before .before .before .before .before .before .before .before .before .before .before .before
     .before in
-    let entry = at-loop-test .before .before .before .before .before .before .before .before .before .before in
-    let l = (at-loop-test .loop-test .taken) in let z = (entry .pre .sound .sizes) in omega arith
+    let entry = at-loop-test .before .before .before .before .before .before .before in
+    let l = (at-loop-test .loop-test .taken) in let z = (entry .pre .observes .sound .sizes) in omega arith
 
 loop-less : tie.Need-loop-less Inv-loop μ-loop
 loop-less c =
@@ -40,37 +40,41 @@ loop-again : tie.Need-loop-again Inv-loop μ-loop
 loop-again c =
     let at-observe-one = c .before .before .before .before .before .before .before .before .before .before in
     let at-loop-test = at-observe-one .before .before .before .before .before .before .before in
-    let at-loop = at-loop-test .before in (
+    let at-loop = at-loop-test .before in
+    let turn = at-observe-one .observe-one .ensures in (
       let l = (at-loop-test .loop-test .taken) in omega arith,
-      observing-more _ _ _ _ _ _ _ _ _ _ (at-loop .loop .inv .1) _ _ _ _ _ _
-          (at-observe-one .observe-one .ensures),
+      λ x. observing-more _ _ _ _ _ _ _ _ _ _ (at-loop .loop .inv .1 x) _ _ _ _ _ _ (turn .0 x, (turn .1 .0 x, turn .1 .1)),
     )
 
 same-length : tie.Need-same-length Inv-loop μ-loop
 same-length c =
-    let entry = c .before .before .before .before .before .before .before .before .before .before in
-    observing-sizes _ _ _ _ _ _ _ _ _ _ (c .before .loop .inv .1) _ _ (entry .pre) .globalFromUser
+    observing-sizes _ _ _ _ _ _ _ _ _ _ (c .before .loop .inv .1 (c .before .before .before .before .before .before .before .pre .solvers)) _ _
+    (c .before .before .before .before .before .before .before .pre .observes) .globalFromUser
 
 same-length-2 : tie.Need-same-length-2 Inv-loop μ-loop
 same-length-2 c =
-    let entry = c .before .before .before .before .before .before .before .before .before .before in
-    observing-sizes _ _ _ _ _ _ _ _ _ _ (c .before .loop .inv .1) _ _ (entry .pre) .userFromGlobal
+    observing-sizes _ _ _ _ _ _ _ _ _ _ (c .before .loop .inv .1 (c .before .before .before .before .before .before .before .pre .solvers)) _ _
+    (c .before .before .before .before .before .before .before .pre .observes) .userFromGlobal
 
 same-length-3 : tie.Need-same-length-3 Inv-loop μ-loop
 same-length-3 c =
-    let entry = c .before .before .before .before .before .before .before .before .before .before in
-    observing-sizes _ _ _ _ _ _ _ _ _ _ (c .before .loop .inv .1) _ _ (entry .pre) .records
+    observing-sizes _ _ _ _ _ _ _ _ _ _ (c .before .loop .inv .1 (c .before .before .before .before .before .before .before .pre .solvers)) _ _
+    (c .before .before .before .before .before .before .before .pre .observes) .records
 
 same-length-4 : tie.Need-same-length-4 Inv-loop μ-loop
-same-length-4 c = observing-users _ _ _ _ _ _ _ _ _ _ (c .before .loop .inv .1)
+same-length-4 c =
+    observing-users _ _ _ _ _ _ _ _ _ _ (c .before .loop .inv .1 (c .before .before .before .before .before .before .before .pre .solvers))
 
 same-length-5 : tie.Need-same-length-5 Inv-loop μ-loop
 same-length-5 c =
-    let entry = c .before .before .before .before .before .before .before .before .before .before in
-    observing-sizes _ _ _ _ _ _ _ _ _ _ (c .before .loop .inv .1) _ _ (entry .pre) .notes
+    observing-sizes _ _ _ _ _ _ _ _ _ _ (c .before .loop .inv .1 (c .before .before .before .before .before .before .before .pre .solvers)) _ _
+    (c .before .before .before .before .before .before .before .pre .observes) .notes
 
 returns : tie.Need-returns Inv-loop μ-loop
-returns c = observing-end _ _ _ _ _ _ _ _ _ _ (c .before .loop .inv .1) (let a = (c .before .loop .inv .0) in let b = (c .loop-test .left) in omega arith)
+returns c = (
+  λ x. observing-end _ _ _ _ _ _ _ _ _ _ (c .before .loop .inv .1 x) (c .before .loop .inv .0) (c .loop-test .left) .0,
+  λ x. observing-end _ _ _ _ _ _ _ _ _ _ (c .before .loop .inv .1 x) (c .before .loop .inv .0) (c .loop-test .left) .1,
+)
 
 pub observe-all-spec : {M : Type 1} → statement M
 observe-all-spec =

@@ -24,22 +24,24 @@ observe-all-requires c κs = observe-asks _ _ _ _ (c .before .before .before .be
 
 cast-t32 : tie.Need-cast-t32
 cast-t32 c =
-    let at-observe-all = c .before .before .before .before .before .before .before .before .before .before .before .before in
+    let entry = c .before .before .before .before .before .before .before .before .before .before .before .before in
+    let at-observe-all = entry in
     let at-if1 = at-observe-all .before .before .before .before .before .before in
     let at-observe-refusal = at-if1 .before in
     record {
       fits = observe-fits _ _ _ _ (at-observe-refusal .observe-refusal .ensures) (at-if1 .if1 .left) _ _ _ _ _ _ _
-          (at-observe-all .observe-all .ensures) .0;
+          ((at-observe-all .observe-all .ensures .0) _, (at-observe-all .observe-all .ensures .1) _) .0;
     }
 
 cast-t33 : tie.Need-cast-t33
 cast-t33 c =
-    let at-observe-all = c .before .before .before .before .before .before .before .before .before .before .before .before .before in
+    let entry = c .before .before .before .before .before .before .before .before .before .before .before .before .before in
+    let at-observe-all = entry in
     let at-if1 = at-observe-all .before .before .before .before .before .before in
     let at-observe-refusal = at-if1 .before in
     record {
       fits = observe-fits _ _ _ _ (at-observe-refusal .observe-refusal .ensures) (at-if1 .if1 .left) _ _ _ _ _ _ _
-          (at-observe-all .observe-all .ensures) .1;
+          ((at-observe-all .observe-all .ensures .0) _, (at-observe-all .observe-all .ensures .1) _) .1;
     }
 
 same-length-4 : tie.Need-same-length-4
@@ -59,10 +61,12 @@ same-length-8 c = search needs
 
 returns-2 : tie.Need-returns-2
 returns-2 c =
-    let at-observe-all = c .before .before .before .before .before .before .before .before .before .before .before .before .before in
+    let entry = c .before .before .before .before .before .before .before .before .before .before .before .before .before in
+    let at-observe-all = entry in
     let at-if1 = at-observe-all .before .before .before .before .before .before in
     let at-observe-refusal = at-if1 .before in
-    observe-does _ _ _ _ (at-observe-refusal .observe-refusal .ensures) (at-if1 .if1 .left) _ _ _ _ _ _ _ _ (at-observe-all .observe-all .ensures)
+    observe-does _ _ _ _ (at-observe-refusal .observe-refusal .ensures) (at-if1 .if1 .left) _ _ _ _ _ _ _ _
+    ((at-observe-all .observe-all .ensures .0) _, (at-observe-all .observe-all .ensures .1) _)
 
 pub observe-internal-vars-spec : {M : Type 1} → statement M
 observe-internal-vars-spec =

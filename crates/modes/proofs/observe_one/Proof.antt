@@ -1,4 +1,5 @@
-use Rattle.modes.proofs.ObserveLaws.{observe-words, one-stays, observe-one-asks, one-room, one-small, one-shows}
+use Rattle.modes.proofs.ObserveLaws.{observe-words, stays-leaves, stays-filled, shows-leaves, shows-filled, shows-mapped, observe-one-asks, one-room}
+use Rattle.modes.proofs.ObserveLaws.{one-small}
 use borrow.Author.Tests.{not-true, not-false}
 use native.Mathlib.Omega.{arith}
 use borrow.Author.Needs.{needs}
@@ -13,50 +14,56 @@ mul-is-hidden c = search needs
 
 slice-read-is-hidden : tie.Need-slice-read-is-hidden
 slice-read-is-hidden c =
-    let entry = c .before .before .before .before .before .before .before .before .before .before in
-    observe-words _ _ _ _ _ (entry .pre .0)
+    observe-words _ _ _ _ _ (c .before .before .before .before .before .before .before .pre .observes)
 
 is-hidden-requires : tie.Need-is-hidden-requires
 is-hidden-requires c κs = search needs
 
 returns : tie.Need-returns
 returns c =
-    let entry = c .before .before .before .before .before .before .before .before .before .before .before .before in
-    one-stays _ _ _ _ _ (entry .pre .0) _ (c .before .is-hidden .ensures) (not-true _ (c .if1 .taken)) _ _ _
+    let words = observe-words _ _ _ _ _ (c .before .before .before .before .before .before .before .before .before .pre .observes) in
+    let hidden = c .before .is-hidden .ensures in
+    let shown = not-true _ (c .if1 .taken) in (
+      λ x. stays-leaves _ _ words _ hidden shown _ _,
+      (
+        λ x. stays-filled _ _ words _ hidden shown _ _,
+        c .before .before .before .before .before .before .before .before .before .pre .observes .mapped,
+      ),
+    )
 
 add-next : tie.Need-add-next
 add-next c = search needs
 
 show-requires : tie.Need-show-requires
 show-requires c κs =
-    let entry = c .before .before .before .before .before .before .before .before .before .before .before .before .before .before .before .before in
-    observe-one-asks _ _ _ _ _ (entry .pre .0) _ (c .before .before .before .before .before .is-hidden .ensures)
-    (not-false _ (c .before .before .before .before .if1 .left)) _ _ (entry .pre .1)
+    let entry = c .before .before .before .before .before .before .before .before .before .before .before .before .before in
+    observe-one-asks _ _ _ _ _ (entry .pre .observes) _ (c .before .before .before .before .before .is-hidden .ensures)
+    (not-false _ (c .before .before .before .before .if1 .left)) _ _ (entry .pre .words)
 
 mul-users : tie.Need-mul-users
 mul-users c =
     let l = one-room _ _ _ _ _ (c .before .before .before .before .before .before .before .before .before .before .before .before .before .before
-    .before .before .before .before .before .before .before .before .before .before .before .before .before .pre .0) _ (c .before .before .before
-    .before .before .before .before .before .before .before .before .before .before .before .before .before .is-hidden .ensures) (not-false _ (c
-    .before .before .before .before .before .before .before .before .before .before .before .before .before .before .before .if1 .left)) in
+    .before .before .before .before .before .before .before .before .before .before .pre .observes) _ (c .before .before .before .before .before
+    .before .before .before .before .before .before .before .before .before .before .before .is-hidden .ensures) (not-false _ (c .before .before
+    .before .before .before .before .before .before .before .before .before .before .before .before .before .if1 .left)) in
     let k = (c .before .before .before .before .before .before .before .before .before .before .before .before .before .before .before .before
-    .before .before .before .before .before .before .before .before .before .before .before .good) in
+    .before .before .before .before .before .before .before .before .good) in
     omega arith
 
 slice-write-users : tie.Need-slice-write-users
 slice-write-users c =
     let at-if1 = c .before .before .before .before .before .before .before .before .before .before .before .before .before .before .before in
     let at-is-hidden = at-if1 .before in
-    let entry = at-is-hidden .before .before .before .before .before .before .before .before .before .before .before in
-    one-room _ _ _ _ _ (entry .pre .0) _ (at-is-hidden .is-hidden .ensures) (not-false _ (at-if1 .if1 .left))
+    let entry = at-is-hidden .before .before .before .before .before .before .before .before in
+    one-room _ _ _ _ _ (entry .pre .observes) _ (at-is-hidden .is-hidden .ensures) (not-false _ (at-if1 .if1 .left))
 
-add-t22 : tie.Need-add-t22
-add-t22 c =
+add-t19 : tie.Need-add-t19
+add-t19 c =
     let at-show = c .before .before .before .before .before .before .before .before .before .before .before in
     let at-if1 = at-show .before .before .before .before .before in
     let at-is-hidden = at-if1 .before in
-    let entry = at-is-hidden .before .before .before .before .before .before .before .before .before .before .before in
-    let l = one-small _ _ _ _ _ (entry .pre .0) _ (at-is-hidden .is-hidden .ensures) (not-false _ (at-if1 .if1 .left)) _ (at-show .show .ensures .1) in
+    let entry = at-is-hidden .before .before .before .before .before .before .before .before in
+    let l = one-small _ _ _ _ _ (entry .pre .observes) _ (at-is-hidden .is-hidden .ensures) (not-false _ (at-if1 .if1 .left)) _ (at-show .show .ensures .1) in
     omega arith
 
 same-length : tie.Need-same-length
@@ -79,9 +86,19 @@ returns-2 c =
     let at-show = c .before .before .before .before .before .before .before .before .before .before .before in
     let at-if1 = at-show .before .before .before .before .before in
     let at-is-hidden = at-if1 .before in
-    let entry = at-is-hidden .before .before .before .before .before .before .before .before .before .before .before in
-    one-shows _ _ _ _ _ (entry .pre .0) _ (at-is-hidden .is-hidden .ensures) (not-false _ (at-if1 .if1 .left)) _ _ _ _ _ _ _ _ ((at-show .show .ensures .0) _)
-    (at-show .show .ensures .1) (omega arith)
+    let entry = at-is-hidden .before .before .before .before .before .before .before .before in
+    let asks = entry .pre .observes in
+    let words = observe-words _ _ _ _ _ asks in
+    let test = at-is-hidden .is-hidden .ensures in
+    let hidden = not-false _ (at-if1 .if1 .left) in
+    let shown = at-show .show .ensures in (
+      λ x. shows-leaves _ _ words _ test hidden _ _ _ _ _ (shown .0 x),
+      (
+        λ x. shows-filled _ _ words _ test hidden _ _ _ (shown .1),
+        shows-mapped _ _ _ _ _ asks _ test hidden _ _ _ _ _ _ _ (shown .1) (shown .0 _)
+            (omega arith),
+      ),
+    )
 
 pub observe-one-spec : {M : Type 1} → statement M
 observe-one-spec =
@@ -96,7 +113,7 @@ observe-one-spec =
     show-requires
     mul-users
     slice-write-users
-    add-t22
+    add-t19
     same-length
     same-length-2
     same-length-3
