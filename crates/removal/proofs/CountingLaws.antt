@@ -45,6 +45,14 @@ removal-few user r = go (eqb user 0 && eqb (isolatedOf r) 1)
     go true = omega arith
     go false = omega arith
 
+pub removal-some : (user r : ℕ) → 1 ≤ removalNotes user r
+unfolding removalNotes
+removal-some user r = go (eqb user 0 && eqb (isolatedOf r) 1)
+  where
+    go : (b : Bool) → 1 ≤ pick b 2 1
+    go true = omega arith
+    go false = omega arith
+
 -- by the test that the code makes
 pub removal-two : (user r : ℕ) → eqb user 0 && eqb (isolatedOf r) 1 ≡ true → 2 ≡ removalNotes user r
 unfolding removalNotes

@@ -8,7 +8,8 @@ use Rattle.scope.proofs.MoveLaws.{undeleted-below}
 use Rattle.scope.proofs.RemoveLaws.{held-undeleted}
 use Rattle.removal.specs.Asks.{Sweepable}
 
-pub holding-of : (t : Table) → Sound t → (s : ℕ) → Sweepable t s
+pub holding-of : (t : Table) → Sound t → (s : ℕ)
+    → Sweepable (t .userFromGlobal) (t .solverFromGlobal) (t .globalFromSolver) (t .assignment) (t .records) s
 holding-of t h s g e =
     let z = h .sizes in
     let u = held-undeleted t g s h e in

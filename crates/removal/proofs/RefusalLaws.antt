@@ -31,7 +31,8 @@ module _ (t : Table) (s : ℕ) (g : Global) (e : At g ≡ foundGlobal (getD (t .
   unfolding remove
   remove-is = let q = global-word _ (At g) e in let z : holderOf t s ≡ g .0 = omega arith in ap (λ (i : ℕ). removeHeld i s t) z
 
-  pub remove-holding : soundb t ≡ true → Holding t (g .0) s
+  pub remove-holding : soundb t ≡ true
+      → Holding (t .userFromGlobal) (t .solverFromGlobal) (t .globalFromSolver) (t .assignment) (t .records) (g .0) s
   remove-holding y = holding-of t (sound-of t y) s (g .0) (global-word _ (At g) e)
 
 module _ (t : Table) (s room : ℕ) where

@@ -4,13 +4,13 @@ use mathlib.Core.Path.{_≡_, refl, sym, ap, _∙_, subst}
 use mathlib.Core.Bool.{true, not}
 use mathlib.Core.List.{List, [], _∷_}
 use native.Mathlib.Omega.{arith}
-use lib.Dec.{eqb, ltb}
+use lib.Dec.{ltb}
 use lib.ListN.{length, getD, set, length-set}
 use lib.Seq.{sets}
 use borrow.Author.Tests.{eqb-false, ltb-false, not-false}
 use Rattle.scope.specs.declared.Counts.{Counts}
 use Rattle.scope.specs.declared.Global.{Global}
-use Rattle.scope.specs.Table.{Table, tableOf, recordOf, takeSolver}
+use Rattle.scope.specs.Table.{Table, tableOf, recordOf, freshRecord, takeSolver}
 use Rattle.scope.specs.Sound.{soundb}
 use Rattle.scope.specs.Notes.{solver-, notesWords}
 use Rattle.scope.specs.Outcome.{Result}
@@ -26,10 +26,10 @@ use Rattle.changes.specs.Live.{Live}
 use Rattle.changes.proofs.LeavesLaws.{leaves-then}
 use Rattle.changes.proofs.DeletionLaws.{delete-any}
 use Rattle.changes.proofs.CallLaws.{call-refused, call-accepted, call-noted}
-use Rattle.removal.specs.Asks.{Holding}
+use Rattle.removal.specs.Asks.{RemoveAsks}
 use Rattle.removal.specs.declared.Removed.the-variants.{Done, Refused}
 use Rattle.removal.specs.Answers.{removed}
-use Rattle.removal.proofs.CountingLaws.{removal-notes, removal-few}
+use Rattle.removal.proofs.CountingLaws.{removal-notes, removal-few, removal-some}
 use Rattle.scope.proofs.MarkLaws.{held-past}
 use Rattle.table.proofs.FoundLaws.{global-word}
 use Rattle.removal.proofs.RefusalLaws.{remove-is, remove-holding}
@@ -59,11 +59,12 @@ module _ (t : Table) (g s : ℕ) (d : Counts) (sg gs : List ℕ)
   remove-leaves at next past left words words2 words3 q k e =
       subst (λ (n : ℕ). Leaves (removeHeld g s t) at n left words words3) (sym e) (leaves-then (deleteIfUnused g) (taken-leaves at words words2 q) k)
 
-  pub remove-asks : (at room room2 : ℕ) → Holding t g s → Room (removeHeld g s t) at room → room2 ≡ room
+  pub remove-asks : (at room room2 : ℕ)
+      → RemoveAsks (t .userFromGlobal) (t .solverFromGlobal) (t .globalFromSolver) (t .records) g s at room → room2 ≡ room
       → Live (t .userFromGlobal) sg (t .records) g
       × ((gu2 gs2 a : List ℕ) → Room (deleteIfUnused g (tableOf d gu2 (t .userFromGlobal) sg gs2 a (t .records))) (at + 3) room2)
   unfolding removeHeld mid
-  remove-asks at room room2 h r q = (live, delete-any g mid (at + 3) room2 (subst (λ (u : Table). Room (deleteIfUnused g u) (at + 3) room2) (sym mid-is) words))
+  remove-asks at room room2 h q = (live, delete-any g mid (at + 3) room2 (subst (λ (u : Table). Room (deleteIfUnused g u) (at + 3) room2) (sym mid-is) words))
     where
       live : Live (t .userFromGlobal) sg (t .records) g
       live =
@@ -72,12 +73,11 @@ module _ (t : Table) (g s : ℕ) (d : Counts) (sg gs : List ℕ)
           record { user = l .user; solver = omega arith; words = l .words; small = l .small; undeleted = l .undeleted }
 
       words : Room (deleteIfUnused g (takeSolver g s t)) (at + 3) room2
-      words = let a = r .words in record { words = omega arith }
+      words = let a = h .words in let k = removal-notes g s t in record { words = omega arith }
 
 -- there is room for S(g,-)
-pub remove-room : (t : Table) (g s at room : ℕ) → Room (removeHeld g s t) at room → at + 3 ≤ room
-unfolding removeHeld
-remove-room t g s at room r = let a = r .words in omega arith
+pub remove-room : (ug sg gs records : List ℕ) (g s at room : ℕ) → RemoveAsks ug sg gs records g s at room → at + 3 ≤ room
+remove-room ug sg gs records g s at room h = let a = h .words in let k = removal-some (getD ug g 0) (getD records g freshRecord) in omega arith
 
 -- ---- the call
 
@@ -101,12 +101,13 @@ module _ (t : Table) (s room : ℕ) (h : Removable t s room) where
   never-nothing e = h .held (global-word _ Nothing e)
 
   module _ (g : Global) (e : At g ≡ foundGlobal (getD (t .globalFromSolver) s 0)) where
-    pub held-asks : Holding t (g .0) s × Room (removeHeld (g .0) s t) 0 room
-    held-asks = (
-      remove-holding t s g e (h .sound),
-      subst (λ (x : Result (List ℕ)). Room x 0 room) (remove-is t s g e) (let w = h .words in
-          record { words = omega arith }),
-    )
+    pub held-asks : RemoveAsks (t .userFromGlobal) (t .solverFromGlobal) (t .globalFromSolver) (t .records) (g .0) s 0 room
+    held-asks =
+        let k = remove-holding t s g e (h .sound) in
+        let n = removal-notes (g .0) s t in
+        let x = ap (λ (y : Result (List ℕ)). length (y .notes)) (remove-is t s g e) in
+        let w = h .words in
+        record { live = k .live; solver = k .solver; words = omega arith }
 
     -- its notes are at most two
     pub held-fits : (next : ℕ) (left : Table) (words words2 : List ℕ) → Leaves (removeHeld (g .0) s t) 0 next left words words2 → next / 3 < 2 ^ 32

@@ -9,7 +9,7 @@ use lib.ListN.{length}
 use borrow.Author.Tests.{ltb-false, not-false, lt-ltb, le-ltb}
 use Rattle.scope.specs.declared.Counts.{Counts}
 use Rattle.scope.specs.Table.{Table}
-use Rattle.scope.specs.Sound.{soundb, Sizes}
+use Rattle.scope.specs.Sound.{soundb, Sizes, Sound}
 use Rattle.scope.specs.Outcome.{each}
 use Rattle.scope.specs.Remove.{sweepOne, sweep, sweepRefusal, sweepOf}
 use Rattle.scope.specs.Contract.{Does}
@@ -20,10 +20,10 @@ use Rattle.changes.specs.Leaves.{Leaves, Room}
 use Rattle.changes.proofs.LeavesLaws.{leaves-length, SameSizes, same-sizes}
 use Rattle.changes.proofs.TurnLaws.{turns-none, turns-more, turns-room}
 use Rattle.changes.proofs.CallLaws.{call-refused, call-accepted, call-noted}
-use Rattle.removal.specs.Asks.{Sweepable}
+use Rattle.removal.specs.Asks.{SweepAsks, SweepAllAsks}
 use Rattle.removal.specs.declared.Removed.the-variants.{Done, Refused}
 use Rattle.removal.specs.Answers.{removed}
-use Rattle.removal.proofs.SweepLaws.{sweep-few}
+use Rattle.removal.proofs.SweepLaws.{sweep-few, one-notes}
 use Rattle.removal.proofs.HeldLaws.{holding-of}
 
 -- ---- the loop
@@ -42,13 +42,15 @@ unfolding sweep
 sweep-end t s at left words words2 e h = subst (λ (i : ℕ). Leaves (each i sweepOne t) 0 at left words words2) e h
 
 module _ (t : Table) (y : soundb t ≡ true) (s at : ℕ) (left : Table) (words words2 : List ℕ) (h : Leaves (each s sweepOne t) 0 at left words words2) where
-  pub sweep-asks : (room : ℕ) → s < t .counts .solver → Room (sweep t) 0 room → room ≡ length words → Sweepable left s
-      × Room (sweepOne s left) at (length words2)
+  pub sweep-asks : (room : ℕ) → s < t .counts .solver → Room (sweep t) 0 room → room ≡ length words
+      → SweepAsks (left .userFromGlobal) (left .solverFromGlobal) (left .globalFromSolver) (left .assignment) (left .records) s at (length words2)
   unfolding sweep
-  sweep-asks room l r e = (
-    subst (λ (u : Table). Sweepable u s) (sym (h .table)) (holding-of (each s sweepOne t .table) (sweep-passed t (sound-of t y) s .sound) s),
-    turns-room s (t .counts .solver) sweepOne t at left words words2 (subst (λ (n : ℕ). Room (each (t .counts .solver) sweepOne t) 0 n) e r) l h,
-  )
+  sweep-asks room l r e =
+      let p = subst (λ (u : Table). Sound u) (sym (h .table)) (sweep-passed t (sound-of t y) s .sound) in
+      let n = one-notes s left (λ g q. holding-of left p s g q .live .words) in
+      let w = turns-room s (t .counts .solver) sweepOne t at left words words2
+      (subst (λ (m : ℕ). Room (each (t .counts .solver) sweepOne t) 0 m) e r) l h .words in
+      record { sweepable = holding-of left p s; words = omega arith }
 
   pub sweep-sizes : SameSizes t left words words2
   sweep-sizes =
@@ -87,8 +89,8 @@ module _ (t : Table) (room n : ℕ) (e : n ≡ sweepRefusal t room) (z : n ≡ 0
       let b = past (ltb room (3 * length (sweep t .notes))) 2 0 (omega arith) (a .1) in
       (not-false (soundb t) (a .0), ltb-false room (3 * length (sweep t .notes)) (b .0))
 
-  pub all-asks : (soundb t ≡ true) × Room (sweep t) 0 room
-  all-asks = let w = passed .1 in (passed .0, record { words = omega arith })
+  pub all-asks : SweepAllAsks (t .counts) (t .userFromGlobal) (t .solverFromGlobal) (t .globalFromSolver) (t .assignment) (t .records) room
+  all-asks = let w = passed .1 in record { gu = t .globalFromUser; sound = passed .0; words = record { words = omega arith } }
 
   pub all-fits : (next : ℕ) (left : Table) (words words2 : List ℕ) → Leaves (sweep t) 0 next left words words2 → next / 3 < 2 ^ 32
   all-fits next left words words2 k =

@@ -46,7 +46,7 @@ swept-notes g s t l =
     ∙ rw (e, u)
 
 -- of an index whose global, if it is held, has a record
-one-notes : (s : ℕ) (t : Table) → ((g : ℕ) → getD (t .globalFromSolver) s 0 ≡ g + 1 → g < length (t .records)) → length (sweepOne s t .notes) ≡ notesAt t s
+pub one-notes : (s : ℕ) (t : Table) → ((g : ℕ) → getD (t .globalFromSolver) s 0 ≡ g + 1 → g < length (t .records)) → length (sweepOne s t .notes) ≡ notesAt t s
 unfolding sweepOne notesBy word
 one-notes s t h = go (getD (t .globalFromSolver) s 0) refl
   where
@@ -86,7 +86,8 @@ pub notes-counted-more : (ug gs assignment records : List ℕ) (s n k : ℕ) →
     → NotesCounted ug gs assignment records (s + 1) (n + k)
 notes-counted-more ug gs assignment records s n k p q t h e = swept-more t h s n k (p t h e) (rw (e .0, e .1, e .2, e .3) q)
 
-pub notes-counted-end : (ug gs assignment records : List ℕ) (s mark n : ℕ) → s ≡ mark → NotesCounted ug gs assignment records s n → NotesCounted ug gs assignment records mark n
+pub notes-counted-end : (ug gs assignment records : List ℕ) (s mark n : ℕ) → s ≡ mark → NotesCounted ug gs assignment records s n
+    → NotesCounted ug gs assignment records mark n
 notes-counted-end ug gs assignment records s mark n e p t h q = p t h q ∙ ap (λ (i : ℕ). length (each i sweepOne t .notes)) e
 
 pub swept-end : (t : Table) (s n : ℕ) → s ≡ t .counts .solver → n ≡ length (each s sweepOne t .notes) → n ≡ length (sweep t .notes)

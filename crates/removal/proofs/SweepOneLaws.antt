@@ -16,11 +16,10 @@ use Rattle.base.proofs.MemberLaws.{getD-default}
 use Rattle.table.specs.Found.{foundGlobal}
 use Rattle.table.proofs.FoundLaws.{global-word}
 use Rattle.table.specs.declared.FoundGlobal.the-variants.{At, Nothing}
-use Rattle.changes.specs.Leaves.{Leaves, Room}
+use Rattle.changes.specs.Leaves.{Leaves}
 use Rattle.changes.proofs.LeavesLaws.{leaves-stay}
-use Rattle.changes.proofs.DeletionLaws.{record-read}
 use Rattle.removal.specs.Counting.{removalNotes, learnt, isLoose, sweptNotes, notesBy}
-use Rattle.removal.specs.Asks.{Holding, SlotReadable}
+use Rattle.removal.specs.Asks.{Holding, RemoveAsks, SlotReadable}
 
 -- ---- a record
 
@@ -39,14 +38,15 @@ learnt-small w zero l k = l
 learnt-small w (suc v) l k = omega arith
 
 -- the global of a held index, as the code reads it
-pub readable : (t : Table) (g s : ℕ) → Holding t g s → SlotReadable (t .userFromGlobal) (t .assignment) (t .records) g s
-readable t g s h =
-    let e = record-read t g (h .live .words) in
-    let l = h .live .undeleted in
-    record { user = h .live .user; words = h .live .words; undeleted = omega arith; value = h .value; small = h .small }
+module _ (ug sg gs assignment records : List ℕ) (g s : ℕ) (h : Holding ug sg gs assignment records g s) where
+  pub readable : SlotReadable ug assignment records g s
+  readable =
+      let e = getD-default records g 0 47 (h .live .words) in
+      let l = h .live .undeleted in
+      record { user = h .live .user; words = h .live .words; undeleted = omega arith; value = h .value; small = h .small }
 
-pub learn-asks : (t : Table) (g s : ℕ) → Holding t g s → (getD (t .records) g 0 < 36) × (getD (t .assignment) s 0 ≤ 2)
-learn-asks t g s h = let r = readable t g s h in (r .undeleted, r .small)
+  pub learn-asks : (getD records g 0 < 36) × (getD assignment s 0 ≤ 2)
+  learn-asks = (readable .undeleted, readable .small)
 
 held : (gs : List ℕ) (s : ℕ) (g : Global) → At g ≡ foundGlobal (getD gs s 0) → getD gs s 0 ≡ suc (g .0)
 held gs s g e = global-word _ (At g) e ∙ add-one (g .0)
@@ -72,6 +72,23 @@ module _ (ug gs assignment records : List ℕ) (s : ℕ) where
     unfolding notesBy sweptNotes word
     notes-removed b n q = rw (held gs s g e, learnt-is assignment records (g .0) s w (h .words) p, b) q
 
+-- what the removal asks once the value is learnt
+pub one-asks : (ug sg gs assignment records : List ℕ) (s : ℕ) (g : Global) → At g ≡ foundGlobal (getD gs s 0)
+    → Holding ug sg gs assignment records (g .0) s → (w : ℕ) → w ≡ learnt (getD records (g .0) 0) (getD assignment s 0) → isLoose w ≡ true
+    → (at room : ℕ) → at + 3 * notesBy ug gs assignment records s ≤ room → RemoveAsks ug sg gs (set records (g .0) w) (g .0) s at room
+one-asks ug sg gs assignment records s g e h w p b at room r =
+    let l = h .live in
+    let x = length-set records (g .0) w in
+    let q = getD-set-same records (g .0) w 47 (l .words) in
+    let i = learnt-is assignment records (g .0) s w (l .words) p in
+    let f = learnt-small (getD records (g .0) 47) (getD assignment s 0) (l .undeleted) (h .small) in
+    let n = notes-removed ug gs assignment records s g e (readable ug sg gs assignment records (g .0) s h) w p b (removalNotes (getD ug (g .0) 0) w) refl in
+    record {
+      live = record { user = l .user; solver = l .solver; words = omega arith; small = l .small; undeleted = omega arith };
+      solver = h .solver;
+      words = subst (λ (v : ℕ). at + 3 * removalNotes (getD ug (g .0) 0) v ≤ room) (sym q) (omega arith);
+    }
+
 -- ---- the sweep
 
 module _ (t : Table) (s at : ℕ) where
@@ -79,7 +96,8 @@ module _ (t : Table) (s at : ℕ) where
   unfolding sweepOne word
   one-none words e = rw (global-word (getD (t .globalFromSolver) s 0) Nothing e) (leaves-stay t at words)
 
-  module _ (g : Global) (e : At g ≡ foundGlobal (getD (t .globalFromSolver) s 0)) (h : Holding t (g .0) s)
+  module _ (g : Global) (e : At g ≡ foundGlobal (getD (t .globalFromSolver) s 0))
+      (h : Holding (t .userFromGlobal) (t .solverFromGlobal) (t .globalFromSolver) (t .assignment) (t .records) (g .0) s)
       (w : ℕ) (p : w ≡ learnt (getD (t .records) (g .0) 0) (getD (t .assignment) s 0)) where
     mid : Table
     mid = tableOf (t .counts) (t .globalFromUser) (t .userFromGlobal) (t .solverFromGlobal) (t .globalFromSolver) (t .assignment) (set (t .records) (g .0) w)
@@ -127,30 +145,3 @@ module _ (t : Table) (s at : ℕ) where
         → Leaves (sweepOne s t) at next left words words2
     unfolding mid
     one-removed next left words words2 b k = subst (λ (x : Result (List ℕ)). Leaves x at next left words words2) (sym (remove-is b)) k
-
-    pub one-asks : (room : ℕ) → Room (sweepOne s t) at room → isLoose w ≡ true
-        → Holding (tableOf (t .counts) (t .globalFromUser) (t .userFromGlobal) (t .solverFromGlobal) (t .globalFromSolver) (t .assignment)
-        (set (t .records) (g .0) w)) (g .0) s
-        × Room (removeHeld (g .0) s (tableOf (t .counts) (t .globalFromUser) (t .userFromGlobal) (t .solverFromGlobal) (t .globalFromSolver) (t .assignment)
-        (set (t .records) (g .0) w))) at room
-    unfolding mid
-    one-asks room r b = (holding, subst (λ (x : Result (List ℕ)). Room x at room) (remove-is b) r)
-      where
-        small : w < 36
-        small =
-            let l = h .live .undeleted in
-            let k = learnt-small (recordOf t (g .0)) (getD (t .assignment) s 0) l (h .small) in
-            let q = learnt-is (t .assignment) (t .records) (g .0) s w (h .live .words) p in
-            omega arith
-
-        holding : Holding mid (g .0) s
-        holding =
-            let l = h .live in
-            let n = length-set (t .records) (g .0) w in
-            let q = mid-record in
-            record {
-              live = record { user = l .user; solver = l .solver; words = omega arith; small = l .small; undeleted = omega (arith, small) };
-              solver = h .solver;
-              value = h .value;
-              small = h .small;
-            }

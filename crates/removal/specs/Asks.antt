@@ -1,21 +1,44 @@
 -- What the operations inside Remove and Sweep ask of the table.
-use Prim.Native.Nat.{ℕ, _+_, _≤_, _<_}
+use Prim.Native.Nat.{ℕ, _+_, _*_, _≤_, _<_}
 use mathlib.Core.Path.{_≡_}
+use mathlib.Core.Bool.{true}
 use mathlib.Core.List.{List}
 use lib.ListN.{length, getD}
-use Rattle.scope.specs.Table.{Table}
+use Rattle.scope.specs.declared.Counts.{Counts}
+use Rattle.scope.specs.Table.{tableOf, freshRecord}
+use Rattle.scope.specs.Sound.{soundb}
+use Rattle.scope.specs.Remove.{sweep}
+use Rattle.changes.specs.Leaves.{Room}
 use Rattle.changes.specs.Live.{Live}
+use Rattle.removal.specs.Counting.{removalNotes, notesBy}
+
+-- The global g is undeleted, both it and the solver index s have their words, and there is room for the notes of the removal from `at` on.
+pub record RemoveAsks (ug sg gs records : List ℕ) (g s at room : ℕ) : Type 0 where
+  pub live : Live ug sg records g
+  pub solver : s < length gs
+  pub words : at + 3 * removalNotes (getD ug g 0) (getD records g freshRecord) ≤ room
 
 -- The global g is undeleted, and both it and the solver index s have their words.
-pub record Holding (t : Table) (g s : ℕ) : Type 0 where
-  pub live : Live (t .userFromGlobal) (t .solverFromGlobal) (t .records) g
-  pub solver : s < length (t .globalFromSolver)
-  pub value : s < length (t .assignment)
-  pub small : getD (t .assignment) s 0 ≤ 2
+pub record Holding (ug sg gs assignment records : List ℕ) (g s : ℕ) : Type 0 where
+  pub live : Live ug sg records g
+  pub solver : s < length gs
+  pub value : s < length assignment
+  pub small : getD assignment s 0 ≤ 2
 
 -- So is the global that holds the solver index s, if one does.
-abbrev pub Sweepable : Table → ℕ → Type 0
-Sweepable t s = (g : ℕ) → getD (t .globalFromSolver) s 0 ≡ g + 1 → Holding t g s
+abbrev pub Sweepable : List ℕ → List ℕ → List ℕ → List ℕ → List ℕ → ℕ → Type 0
+Sweepable ug sg gs assignment records s = (g : ℕ) → getD gs s 0 ≡ g + 1 → Holding ug sg gs assignment records g s
+
+-- The same, and there is room for the notes of the sweep of s from `at` on.
+pub record SweepAsks (ug sg gs assignment records : List ℕ) (s at room : ℕ) : Type 0 where
+  pub sweepable : Sweepable ug sg gs assignment records s
+  pub words : at + 3 * notesBy ug gs assignment records s ≤ room
+
+-- The lists that are lent are of a sound table, with some list gu, and there is room for the notes of its sweep.
+pub record SweepAllAsks (c : Counts) (ug sg gs assignment records : List ℕ) (room : ℕ) : Type 0 where
+  pub gu : List ℕ
+  pub sound : soundb (tableOf c gu ug sg gs assignment records) ≡ true
+  pub words : Room (sweep (tableOf c gu ug sg gs assignment records)) 0 room
 
 -- What is read of a solver index s that the global g holds: the words are there, and g is undeleted.
 pub record SlotReadable (ug assignment records : List ℕ) (g s : ℕ) : Type 0 where

@@ -11,17 +11,16 @@ use table::holder;
 use table::is_sound;
 use table::put_note;
 ghost use mathlib.Core.Path.{_≡_};
-ghost use mathlib.Core.Bool.{true};
-ghost use Prim.Native.Nat.{ℕ, _+_, _*_, _≤_, _<_};
+ghost use mathlib.Core.List.{List};
+ghost use Prim.Native.Nat.{ℕ, _+_, _≤_, _<_};
 ghost use lib.ListN.{length, getD};
 ghost use Rattle.base.specs.Lent.{old, new};
-ghost use Rattle.scope.specs.Contract.{given, before, after, lent, Meets};
-ghost use Rattle.scope.specs.Sound.{soundb};
-ghost use Rattle.scope.specs.Outcome.{each};
+ghost use Rattle.scope.specs.Contract.{before, lent, Meets};
+ghost use Rattle.scope.specs.Table.{tableOf};
 ghost use Rattle.scope.specs.Remove.{removeHeld, removeRefusal, removeOf, sweepOne, sweep, sweepRefusal, sweepOf};
-ghost use Rattle.changes.specs.Leaves.{Leaves, Room};
+ghost use Rattle.changes.specs.Leaves.{Leaves};
 ghost use Rattle.removal.specs.Counting.{removalNotes, learnt, isLoose, notesBy, NotesCounted};
-ghost use Rattle.removal.specs.Asks.{Holding, SlotReadable, Sweepable};
+ghost use Rattle.removal.specs.Asks.{RemoveAsks, SlotReadable, SweepAsks, SweepAllAsks};
 ghost use Rattle.removal.specs.Answers.{removed};
 
 // The counts after, and how many notes were made; or the number of the refusal.
@@ -30,24 +29,21 @@ pub enum Removed {
     Refused(u32),
 }
 
-// S(g,-), then D if unused. The assignment word stays.
+// S(g,-), then D if unused. The assignment word stays. The lists that are not lent, gu and a, may be any.
 fn remove_held(
     c: Counts,
-    gu: &[u32],
     ug: &[u32],
     sg: &mut [u32],
     gs: &mut [u32],
-    assignment: &[u32],
     records: &mut [u32],
     global: Global,
     solver: Solver,
     at: usize,
     notes: &mut [u32],
 ) -> Passed
-    requires { ⌜ Holding (given c gu ug sg gs assignment records) (global .0) (solver .0) ⌝ }
-    requires { ⌜ Room (removeHeld (global .0) (solver .0) (given c gu ug sg gs assignment records)) at (length (now notes)) ⌝ }
-    ensures { λ r. ⌜ Leaves (removeHeld (global .0) (solver .0) (before c gu ug sg gs assignment records)) at (r .at)
-        (after (r .counts) gu ug sg gs assignment records) (old notes) (new notes) ⌝ }
+    requires { ⌜ RemoveAsks (now ug) (now sg) (now gs) (now records) (global .0) (solver .0) at (length (now notes)) ⌝ }
+    ensures { λ r. ⌜ ((gu a : List ℕ) → Leaves (removeHeld (global .0) (solver .0) (tableOf c gu (old ug) (old sg) (old gs) a (old records))) at (r .at)
+        (tableOf (r .counts) gu (old ug) (new sg) (new gs) a (new records)) (old notes) (new notes)) ⌝ }
 {
     let next = at + 3;
     let counts = c.remove(sg, gs, global, solver);
@@ -115,19 +111,7 @@ pub fn remove_solver_var(
     let FoundGlobal::At(global) = holder(gs, solver) else {
         return Removed::Refused(held_refusal(gs, solver));
     };
-    let p = remove_held(
-        c,
-        gu,
-        ug,
-        sg,
-        gs,
-        assignment,
-        records,
-        global,
-        solver,
-        0,
-        notes,
-    );
+    let p = remove_held(c, ug, sg, gs, records, global, solver, 0, notes);
     let counts = p.counts;
     Removed::Done(counts, (p.at / 3) as u32)
 }
@@ -204,10 +188,9 @@ fn sweep_refusal(
     0
 }
 
-// A solver index that is held: a value becomes the unit; then isolated and not assumed is removed.
+// A solver index that is held: a value becomes the unit; then isolated and not assumed is removed. The list gu is not lent and may be any.
 fn sweep_one(
     c: Counts,
-    gu: &[u32],
     ug: &[u32],
     sg: &mut [u32],
     gs: &mut [u32],
@@ -217,10 +200,9 @@ fn sweep_one(
     at: usize,
     notes: &mut [u32],
 ) -> Passed
-    requires { ⌜ Sweepable (given c gu ug sg gs assignment records) (solver .0) ⌝ }
-    requires { ⌜ Room (sweepOne (solver .0) (given c gu ug sg gs assignment records)) at (length (now notes)) ⌝ }
-    ensures { λ r. ⌜ Leaves (sweepOne (solver .0) (before c gu ug sg gs assignment records)) at (r .at)
-        (after (r .counts) gu ug sg gs assignment records) (old notes) (new notes) ⌝ }
+    requires { ⌜ SweepAsks (now ug) (now sg) (now gs) (now assignment) (now records) (solver .0) at (length (now notes)) ⌝ }
+    ensures { λ r. ⌜ ((gu : List ℕ) → Leaves (sweepOne (solver .0) (tableOf c gu (old ug) (old sg) (old gs) (old assignment) (old records))) at (r .at)
+        (tableOf (r .counts) gu (old ug) (new sg) (new gs) (old assignment) (new records)) (old notes) (new notes)) ⌝ }
 {
     let FoundGlobal::At(global) = holder(gs, solver) else {
         return Passed { counts: c, at };
@@ -231,25 +213,12 @@ fn sweep_one(
     if !is_loose(w) {
         return Passed { counts: c, at };
     }
-    remove_held(
-        c,
-        gu,
-        ug,
-        sg,
-        gs,
-        assignment,
-        records,
-        global,
-        solver,
-        at,
-        notes,
-    )
+    remove_held(c, ug, sg, gs, records, global, solver, at, notes)
 }
 
-// Every solver index in ascending order, on a sound table with room for the notes.
+// Every solver index in ascending order, on a sound table with room for the notes. The list gu is not lent and may be any.
 fn sweep_all(
     c: Counts,
-    gu: &[u32],
     ug: &[u32],
     sg: &mut [u32],
     gs: &mut [u32],
@@ -257,10 +226,9 @@ fn sweep_all(
     records: &mut [u32],
     notes: &mut [u32],
 ) -> Passed
-    requires { ⌜ soundb (given c gu ug sg gs assignment records) ≡ true ⌝ }
-    requires { ⌜ Room (sweep (given c gu ug sg gs assignment records)) 0 (length (now notes)) ⌝ }
-    ensures { λ r. ⌜ Leaves (sweep (before c gu ug sg gs assignment records)) 0 (r .at)
-        (after (r .counts) gu ug sg gs assignment records) (old notes) (new notes) ⌝ }
+    requires { ⌜ SweepAllAsks c (now ug) (now sg) (now gs) (now assignment) (now records) (length (now notes)) ⌝ }
+    ensures { λ r. ⌜ ((gu : List ℕ) → Leaves (sweep (tableOf c gu (old ug) (old sg) (old gs) (old assignment) (old records))) 0 (r .at)
+        (tableOf (r .counts) gu (old ug) (new sg) (new gs) (old assignment) (new records)) (old notes) (new notes)) ⌝ }
 {
     let last = c.solver;
     let mut p = Passed { counts: c, at: 0 };
@@ -269,7 +237,6 @@ fn sweep_all(
         let counts = p.counts;
         p = sweep_one(
             counts,
-            gu,
             ug,
             sg,
             gs,
@@ -303,7 +270,7 @@ pub fn sweep(
     if n != 0 {
         return Removed::Refused(n);
     }
-    let p = sweep_all(c, gu, ug, sg, gs, assignment, records, notes);
+    let p = sweep_all(c, ug, sg, gs, assignment, records, notes);
     let counts = p.counts;
     Removed::Done(counts, (p.at / 3) as u32)
 }

@@ -1,5 +1,7 @@
 use Rattle.removal.proofs.RemoveLaws.{remove-room, remove-asks, remove-leaves}
 use native.Mathlib.Omega.{arith}
+use mathlib.Core.List.{[]}
+use Rattle.scope.specs.Table.{tableOf}
 use borrow.Author.Needs.{needs}
 use Rattle.removal.proofs.remove_held.Statement.{statement}
 use Rattle.removal.proofs.remove_held.Tie as tie
@@ -12,11 +14,15 @@ remove-requires c κs = search needs
 
 put-note-requires : tie.Need-put-note-requires
 put-note-requires c κs =
-    let entry = c .before .before .before .before .before .before .before .before .before .before .before .before .before .before .before in
-    (remove-room _ _ _ _ _ (entry .pre .1), omega arith)
+    let entry = c .before .before .before .before .before .before .before .before .before .before .before .before .before in
+    (remove-room _ _ _ _ _ _ _ _ (entry .pre), omega arith)
 
 delete-global-if-unused-requires : tie.Need-delete-global-if-unused-requires
-delete-global-if-unused-requires c κs = remove-asks _ _ _ _ _ _ (c .before .before .before .before .before .before .before .before .before .before .before .remove .ensures) _ _ _ (c .before .before .before .before .before .before .before .before .before .before .before .before .before .before .before .before .before .before .before .before .before .pre .0) (c .before .before .before .before .before .before .before .before .before .before .before .before .before .before .before .before .before .before .before .before .before .pre .1) (c .before .before .before .before .before .put-note .kept .0)
+delete-global-if-unused-requires c κs =
+    let at-remove = c .before .before .before .before .before .before .before .before .before .before .before in
+    let entry = at-remove .before .before .before .before .before .before .before .before in
+    remove-asks (tableOf _ [] _ _ _ [] _) _ _ _ _ _ (at-remove .remove .ensures) _ _ _ (entry .pre)
+    (c .before .before .before .before .before .put-note .kept .0)
 
 same-length : tie.Need-same-length
 same-length c = search needs
@@ -31,7 +37,11 @@ same-length-4 : tie.Need-same-length-4
 same-length-4 c = search needs
 
 returns : tie.Need-returns
-returns c = remove-leaves _ _ _ _ _ _ (c .before .before .before .before .before .before .before .before .before .before .before .before .before .before .before .before .remove .ensures) _ _ _ _ _ _ _ (c .before .before .before .before .before .before .before .before .before .before .put-note .ensures) ((c .before .before .before .before .delete-global-if-unused .ensures) _ _ _) (omega arith)
+returns c =
+    let at-put-note = c .before .before .before .before .before .before .before .before .before .before in
+    let at-remove = at-put-note .before .before .before .before .before .before in
+    λ gu a. remove-leaves _ _ _ _ _ _ (at-remove .remove .ensures) _ _ _ _ _ _ _ (at-put-note .put-note .ensures)
+    ((c .before .before .before .before .delete-global-if-unused .ensures) _ _ _) (omega arith)
 
 pub remove-held-spec : {M : Type 1} → statement M
 remove-held-spec =

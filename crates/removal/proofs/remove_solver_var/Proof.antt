@@ -48,21 +48,23 @@ returns-2 c = absurd
 
 remove-held-requires : tie.Need-remove-held-requires
 remove-held-requires c κs =
-    let at-remove-refusal = c .before .before .before .before .before .before .before .before .before .before in
+    let entry = c .before .before .before .before .before .before .before .before .before .before in
+    let at-remove-refusal = entry in
     held-asks _ _ _ (removable _ _ _ _ (at-remove-refusal .remove-refusal .ensures)
     (c .before .before .before .before .before .before .before .before .before .if1 .left)) _
     (sym (c .before .before .before .before .before .global .given .1) ∙ (c .before .before .before .before .before .before .before .holder .ensures))
 
 cast-t36 : tie.Need-cast-t36
 cast-t36 c =
-    let at-remove-held = c .before .before .before .before .before .before .before .before .before .before in
+    let entry = c .before .before .before .before .before .before .before .before .before .before in
+    let at-remove-held = entry in
     let at-global = at-remove-held .before .before .before .before .before .before in
     let at-holder = at-global .before .before in
     let at-if1 = at-holder .before .before in
     let at-remove-refusal = at-if1 .before in
     record {
       fits = held-fits _ _ _ (removable _ _ _ _ (at-remove-refusal .remove-refusal .ensures) (at-if1 .if1 .left)) _
-          (sym (at-global .global .given .1) ∙ (at-holder .holder .ensures)) _ _ _ _ (at-remove-held .remove-held .ensures);
+          (sym (at-global .global .given .1) ∙ (at-holder .holder .ensures)) _ _ _ _ ((at-remove-held .remove-held .ensures) _ _);
     }
 
 same-length-7 : tie.Need-same-length-7
@@ -79,14 +81,15 @@ same-length-10 c = search needs
 
 returns-3 : tie.Need-returns-3
 returns-3 c =
-    let at-remove-held = c .before .before .before .before .before .before .before .before .before .before in
+    let entry = c .before .before .before .before .before .before .before .before .before .before in
+    let at-remove-held = entry in
     let at-global = at-remove-held .before .before .before .before .before .before in
     let at-holder = at-global .before .before in
     let at-if1 = at-holder .before .before in
     let at-remove-refusal = at-if1 .before in
     remove-does _ _ _ (removable _ _ _ _ (at-remove-refusal .remove-refusal .ensures) (at-if1 .if1 .left)) _
     (sym (at-global .global .given .1) ∙ (at-holder .holder .ensures)) _ _ _ _ _ _ (at-remove-refusal .remove-refusal .ensures) (at-if1 .if1 .left)
-    (at-remove-held .remove-held .ensures)
+    ((at-remove-held .remove-held .ensures) _ _)
 
 pub remove-solver-var-spec : {M : Type 1} → statement M
 remove-solver-var-spec =

@@ -20,7 +20,8 @@ same-length : tie.Need-same-length
 same-length c = search needs
 
 returns : tie.Need-returns
-returns c = one-none _ _ _ _ (sym (c .enum-told .given .1) ∙ (c .before .before .holder .ensures))
+returns c =
+    λ gu. one-none _ _ _ _ (sym (c .enum-told .given .1) ∙ (c .before .before .holder .ensures))
 
 cast-g : tie.Need-cast-g
 cast-g c = search needs
@@ -30,8 +31,8 @@ mul-learnt-record c = search needs
 
 slice-read-learnt-record : tie.Need-slice-read-learnt-record
 slice-read-learnt-record c =
-    let entry = c .before .before .before .before .before .before .before .before .before .before .before .before .before .before in
-    ((entry .pre .0) _ (global-word _ _ (sym (c .before .before .before .global .given .1)
+    let entry = c .before .before .before .before .before .before .before .before .before .before .before .before .before in
+    ((entry .pre .sweepable) _ (global-word _ _ (sym (c .before .before .before .global .given .1)
     ∙ (c .before .before .before .before .before .holder .ensures)))) .live .words
 
 cast-learnt-record : tie.Need-cast-learnt-record
@@ -42,14 +43,15 @@ mul-learnt-record-2 c = search needs
 
 shared-slice-read-learnt-record : tie.Need-shared-slice-read-learnt-record
 shared-slice-read-learnt-record c =
-    let entry = c .before .before .before .before .before .before .before .before .before .before .before .before .before .before .before .before in
-    ((entry .pre .0) _ (global-word _ _ (sym (c .before .before .before .before .before .global .given .1)
+    let entry = c .before .before .before .before .before .before .before .before .before .before .before .before .before .before .before in
+    ((entry .pre .sweepable) _ (global-word _ _ (sym (c .before .before .before .before .before .global .given .1)
     ∙ (c .before .before .before .before .before .before .before .holder .ensures)))) .value
 
 learnt-record-requires : tie.Need-learnt-record-requires
 learnt-record-requires c κs =
-    let entry = c .before .before .before .before .before .before .before .before .before .before .before .before .before .before .before .before in
-    learn-asks _ _ _ ((entry .pre .0) _ (global-word _ _ (sym (c .before .before .before .before .before .global .given .1)
+    let entry = c .before .before .before .before .before .before .before .before .before .before .before .before .before .before .before in
+    learn-asks _ _ _ _ _ _ _
+    ((entry .pre .sweepable) _ (global-word _ _ (sym (c .before .before .before .before .before .global .given .1)
     ∙ (c .before .before .before .before .before .before .before .holder .ensures))))
 
 mul-records : tie.Need-mul-records
@@ -57,8 +59,8 @@ mul-records c = search needs
 
 slice-write-records : tie.Need-slice-write-records
 slice-write-records c =
-    let entry = c .before .before .before .before .before .before .before .before .before .before .before .before .before .before .before .before .before in
-    ((entry .pre .0) _ (global-word _ _ (sym (c .before .before .before .before .before .before .global .given .1)
+    let entry = c .before .before .before .before .before .before .before .before .before .before .before .before .before .before .before .before in
+    ((entry .pre .sweepable) _ (global-word _ _ (sym (c .before .before .before .before .before .before .global .given .1)
     ∙ (c .before .before .before .before .before .before .before .before .holder .ensures)))) .live .words
 
 is-loose-requires : tie.Need-is-loose-requires
@@ -73,20 +75,21 @@ same-length-3 c = search needs
 returns-2 : tie.Need-returns-2
 returns-2 c =
     let at-holder = c .before .before .before .before .before .before .before .before .before .before in
-    let entry = at-holder .before .before .before .before .before .before .before .before .before in
-    one-kept _ _ _ _ (sym (c .before .before .before .before .before .before .before .before .global .given .1) ∙ (at-holder .holder .ensures))
-    ((entry .pre .0) _ (global-word _ _ (sym (c .before .before .before .before .before .before .before .before .global .given .1)
+    let entry = at-holder .before .before .before .before .before .before .before .before in
+    λ gu. one-kept _ _ _ _ (sym (c .before .before .before .before .before .before .before .before .global .given .1) ∙ (at-holder .holder .ensures))
+    ((entry .pre .sweepable) _ (global-word _ _ (sym (c .before .before .before .before .before .before .before .before .global .given .1)
     ∙ (at-holder .holder .ensures)))) _ (c .before .before .learnt-record .ensures) _ (sym (c .before .is-loose .ensures) ∙ not-true _ (c .if1 .taken))
 
 remove-held-requires : tie.Need-remove-held-requires
 remove-held-requires c κs =
     let at-global = c .before .before .before .before .before .before .before .before .before .before .before .before in
     let at-holder = at-global .before .before in
-    let entry = at-holder .before .before .before .before .before .before .before .before .before in
-    one-asks _ _ _ _ (sym (at-global .global .given .1) ∙ (at-holder .holder .ensures))
-    ((entry .pre .0) _ (global-word _ _ (sym (at-global .global .given .1) ∙ (at-holder .holder .ensures)))) _
-    (c .before .before .before .before .before .before .learnt-record .ensures) _ (entry .pre .1)
-    (sym (c .before .before .before .before .before .is-loose .ensures) ∙ not-false _ (c .before .before .before .before .if1 .left))
+    let entry = at-holder .before .before .before .before .before .before .before .before in
+    one-asks _ _ _ _ _ _ _ (sym (at-global .global .given .1) ∙ (at-holder .holder .ensures))
+    ((entry .pre .sweepable) _ (global-word _ _ (sym (at-global .global .given .1) ∙ (at-holder .holder .ensures)))) _
+    (c .before .before .before .before .before .before .learnt-record .ensures)
+    (sym (c .before .before .before .before .before .is-loose .ensures) ∙ not-false _ (c .before .before .before .before .if1 .left)) _ _
+    (entry .pre .words)
 
 same-length-4 : tie.Need-same-length-4
 same-length-4 c = search needs
@@ -95,7 +98,8 @@ same-length-5 : tie.Need-same-length-5
 same-length-5 c = search needs
 
 same-length-6 : tie.Need-same-length-6
-same-length-6 c = (c .before .before .before .before .before .before .before .before .remove-held .kept .1 .1 .1 .1 .1 .1 .0) ∙ simp length-set
+same-length-6 c =
+    (c .before .before .before .before .before .before .before .before .remove-held .kept .1 .1 .1 .1 .0) ∙ simp length-set
 
 same-length-7 : tie.Need-same-length-7
 same-length-7 c = search needs
@@ -107,11 +111,11 @@ returns-3 c =
     let at-learnt-record = at-is-loose .before in
     let at-global = at-learnt-record .before .before .before .before .before .before in
     let at-holder = at-global .before .before in
-    let entry = at-holder .before .before .before .before .before .before .before .before .before in
-    one-removed _ _ _ _ (sym (at-global .global .given .1) ∙ (at-holder .holder .ensures))
-    ((entry .pre .0) _ (global-word _ _ (sym (at-global .global .given .1) ∙ (at-holder .holder .ensures)))) _ (at-learnt-record .learnt-record .ensures) _
-    _ _ _ (sym (at-is-loose .is-loose .ensures) ∙ not-false _ (at-if1 .if1 .left))
-    (c .before .before .before .before .before .before .before .before .remove-held .ensures)
+    let entry = at-holder .before .before .before .before .before .before .before .before in
+    λ gu. one-removed _ _ _ _ (sym (at-global .global .given .1) ∙ (at-holder .holder .ensures))
+    ((entry .pre .sweepable) _ (global-word _ _ (sym (at-global .global .given .1) ∙ (at-holder .holder .ensures)))) _
+    (at-learnt-record .learnt-record .ensures) _ _ _ _ (sym (at-is-loose .is-loose .ensures) ∙ not-false _ (at-if1 .if1 .left))
+    ((c .before .before .before .before .before .before .before .before .remove-held .ensures) _ _)
 
 pub sweep-one-spec : {M : Type 1} → statement M
 sweep-one-spec =
