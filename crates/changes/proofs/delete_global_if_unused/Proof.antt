@@ -1,9 +1,8 @@
-use Rattle.base.proofs.Truth.{false-of}
 use Rattle.changes.proofs.DeletionLaws.{delete-fits, delete-room, delete-leaves, keep-leaves}
 use mathlib.Core.Path.{refl}
 use mathlib.Core.List.{[]}
 use native.Mathlib.Omega.{arith}
-use Rattle.base.proofs.Truth.{truth}
+use Rattle.base.proofs.Truth.{truth, false-of}
 use borrow.Author.Needs.{needs}
 use Rattle.changes.proofs.delete_global_if_unused.Statement.{statement}
 use Rattle.changes.proofs.delete_global_if_unused.Tie as tie

@@ -24,8 +24,7 @@ observe-all-requires c κs = observe-asks _ _ _ _ (c .before .before .before .be
 
 cast-t32 : tie.Need-cast-t32
 cast-t32 c =
-    let entry = c .before .before .before .before .before .before .before .before .before .before .before .before in
-    let at-observe-all = entry in
+    let at-observe-all = c .before .before .before .before .before .before .before .before .before .before .before .before in
     let at-if1 = at-observe-all .before .before .before .before .before .before in
     let at-observe-refusal = at-if1 .before in
     record {
@@ -35,8 +34,7 @@ cast-t32 c =
 
 cast-t33 : tie.Need-cast-t33
 cast-t33 c =
-    let entry = c .before .before .before .before .before .before .before .before .before .before .before .before .before in
-    let at-observe-all = entry in
+    let at-observe-all = c .before .before .before .before .before .before .before .before .before .before .before .before .before in
     let at-if1 = at-observe-all .before .before .before .before .before .before in
     let at-observe-refusal = at-if1 .before in
     record {
@@ -61,8 +59,7 @@ same-length-8 c = search needs
 
 returns-2 : tie.Need-returns-2
 returns-2 c =
-    let entry = c .before .before .before .before .before .before .before .before .before .before .before .before .before in
-    let at-observe-all = entry in
+    let at-observe-all = c .before .before .before .before .before .before .before .before .before .before .before .before .before in
     let at-if1 = at-observe-all .before .before .before .before .before .before in
     let at-observe-refusal = at-if1 .before in
     observe-does _ _ _ _ (at-observe-refusal .observe-refusal .ensures) (at-if1 .if1 .left) _ _ _ _ _ _ _ _

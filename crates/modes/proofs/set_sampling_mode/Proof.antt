@@ -39,8 +39,7 @@ same-length-7 c = search needs
 
 returns-2 : tie.Need-returns-2
 returns-2 c =
-    let entry = c .before .before .before .before .before .before .before .before .before .before .before .before .before in
-    let at-mode-number = entry in
+    let at-mode-number = c .before .before .before .before .before .before .before .before .before .before .before .before .before in
     let at-if1 = at-mode-number .before in
     let at-set-mode-refusal = at-if1 .before in
     set-does _ _ _ _ _ (at-set-mode-refusal .set-mode-refusal .ensures) (at-if1 .if1 .left) _ _ _ _ _ (at-mode-number .mode-number .ensures)

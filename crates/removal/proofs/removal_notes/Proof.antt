@@ -1,6 +1,5 @@
 use native.Mathlib.Omega.{arith}
-use Rattle.base.proofs.Truth.{truth}
-use Rattle.base.proofs.Truth.{false-of}
+use Rattle.base.proofs.Truth.{truth, false-of}
 use Rattle.removal.proofs.CountingLaws.{removal-two, removal-one}
 use Rattle.removal.proofs.removal_notes.Statement.{statement}
 use Rattle.removal.proofs.removal_notes.Tie as tie

@@ -48,16 +48,14 @@ returns-2 c = absurd
 
 remove-held-requires : tie.Need-remove-held-requires
 remove-held-requires c κs =
-    let entry = c .before .before .before .before .before .before .before .before .before .before in
-    let at-remove-refusal = entry in
+    let at-remove-refusal = c .before .before .before .before .before .before .before .before .before .before in
     held-asks _ _ _ (removable _ _ _ _ (at-remove-refusal .remove-refusal .ensures)
     (c .before .before .before .before .before .before .before .before .before .if1 .left)) _
     (sym (c .before .before .before .before .before .global .given .1) ∙ (c .before .before .before .before .before .before .before .holder .ensures))
 
 cast-t36 : tie.Need-cast-t36
 cast-t36 c =
-    let entry = c .before .before .before .before .before .before .before .before .before .before in
-    let at-remove-held = entry in
+    let at-remove-held = c .before .before .before .before .before .before .before .before .before .before in
     let at-global = at-remove-held .before .before .before .before .before .before in
     let at-holder = at-global .before .before in
     let at-if1 = at-holder .before .before in
@@ -81,8 +79,7 @@ same-length-10 c = search needs
 
 returns-3 : tie.Need-returns-3
 returns-3 c =
-    let entry = c .before .before .before .before .before .before .before .before .before .before in
-    let at-remove-held = entry in
+    let at-remove-held = c .before .before .before .before .before .before .before .before .before .before in
     let at-global = at-remove-held .before .before .before .before .before .before in
     let at-holder = at-global .before .before in
     let at-if1 = at-holder .before .before in

@@ -23,8 +23,7 @@ sweep-all-requires c κs = all-asks _ _ _ (c .before .before .before .before .be
 
 cast-t28 : tie.Need-cast-t28
 cast-t28 c =
-    let entry = c .before .before .before .before .before .before .before .before .before .before in
-    let at-sweep-all = entry in
+    let at-sweep-all = c .before .before .before .before .before .before .before .before .before .before in
     let at-if1 = at-sweep-all .before .before .before .before .before in
     let at-sweep-refusal = at-if1 .before in
     record { fits = all-fits _ _ _ (at-sweep-refusal .sweep-refusal .ensures) (at-if1 .if1 .left) _ _ _ _ ((at-sweep-all .sweep-all .ensures) _) }
@@ -43,8 +42,7 @@ same-length-7 c = search needs
 
 returns-2 : tie.Need-returns-2
 returns-2 c =
-    let entry = c .before .before .before .before .before .before .before .before .before .before in
-    let at-sweep-all = entry in
+    let at-sweep-all = c .before .before .before .before .before .before .before .before .before .before in
     let at-if1 = at-sweep-all .before .before .before .before .before in
     let at-sweep-refusal = at-if1 .before in
     sweep-does _ _ _ (at-sweep-refusal .sweep-refusal .ensures) (at-if1 .if1 .left) _ _ _ _ _ ((at-sweep-all .sweep-all .ensures) _)
