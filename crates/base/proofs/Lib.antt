@@ -5,3 +5,4 @@ pub mod Pigeon
 pub mod CountLaws
 pub mod SetsLaws
 pub mod MemberLaws
+pub mod KeepLaws

@@ -11,7 +11,7 @@ use lib.ListN.{length, getD, take, List·getD-eq-default}
 use lib.Seq.{take-suc, take-all}
 use Rattle.base.specs.Choice.{pick}
 use Rattle.base.specs.Bounded.{everyOf, anyOf, keepOf}
-use Rattle.base.proofs.BelowLaws.{and-left, and-right, and-both, and-not-left, and-not-right}
+use Rattle.base.proofs.BelowLaws.{and-left, and-right, and-both, and-not-left, and-not-right, and-true}
 use Rattle.base.proofs.Truth.{split}
 
 -- ---- a disjunction that is false has neither part
@@ -121,6 +121,33 @@ module _ {A : Type 0} (p : A → Bool) where
   any-more xs i d l =
       rw (add-one, take-suc xs i d l, any-append (take i xs) (getD xs i d ∷ []))
       (ap (λ (b : Bool). anyOf p (take i xs) || b) (or-none (p (getD xs i d))))
+
+  -- ---- the same of whether every member passes
+
+  pub every-start : (xs : List A) → everyOf p (take 0 xs) ≡ true
+  unfolding everyOf
+  every-start xs = refl
+
+  pub every-more : (xs : List A) (i : ℕ) (d : A) → i < length xs → everyOf p (take (i + 1) xs) ≡ everyOf p (take i xs) && p (getD xs i d)
+  unfolding everyOf
+  every-more xs i d l =
+      rw (add-one, take-suc xs i d l, every-append (take i xs) (getD xs i d ∷ []))
+      (ap (λ (b : Bool). everyOf p (take i xs) && b) (and-true (p (getD xs i d))))
+
+  pub every-next : (xs : List A) (i : ℕ) (d : A) (r : Bool) → i < length xs → r ≡ everyOf p (take i xs) → r && p (getD xs i d) ≡ everyOf p (take (i + 1) xs)
+  every-next xs i d r l e = ap (λ (b : Bool). b && p (getD xs i d)) e ∙ sym (every-more xs i d l)
+
+  pub every-step : (xs : List A) (i : ℕ) (d : A) → i < length xs → everyOf p (take i xs) ≡ true → p (getD xs i d) ≡ true → everyOf p (take (i + 1) xs) ≡ true
+  every-step xs i d l e h = every-more xs i d l ∙ and-both e h
+
+  pub every-end : (xs : List A) (i : ℕ) (r : Bool) → length xs ≤ i → r ≡ everyOf p (take i xs) → r ≡ everyOf p xs
+  every-end xs i r l e = e ∙ ap (everyOf p) (take-all i xs l)
+
+  pub every-fails : (xs : List A) (i : ℕ) (d : A) → i < length xs → p (getD xs i d) ≡ false → everyOf p xs ≡ false
+  unfolding everyOf
+  every-fails [] i d l e = absurd (not-suc-le-zero l)
+  every-fails (x ∷ xs) zero d l e = and-not-left (p x) (everyOf p xs) e
+  every-fails (x ∷ xs) (suc i) d l e = and-not-right (p x) (everyOf p xs) (every-fails xs i d (le-of-suc-le-suc l) e)
 
   -- ---- a loop that keeps members
 

@@ -1,4 +1,3 @@
-pub mod KeepLaws
 pub mod SortLaws
 pub mod SimplifyLaws
 pub mod AnswerLaws

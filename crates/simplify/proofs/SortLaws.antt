@@ -18,7 +18,7 @@ use Rattle.scope.specs.Table.{Table}
 use Rattle.scope.specs.Simplify.{isTrue, isFalse, unfalse, simplified, simplifiedNumber}
 use Rattle.simplify.specs.Values.{trueBy, falseBy, unfalseBy}
 use Rattle.simplify.specs.Cuts.{Cuts, shortened, binary}
-use Rattle.simplify.proofs.KeepLaws.{some-go}
+use Rattle.base.proofs.KeepLaws.{some-go}
 
 -- ---- the code's way, by the assignment
 

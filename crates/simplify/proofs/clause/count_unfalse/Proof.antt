@@ -1,6 +1,6 @@
 use Rattle.simplify.specs.Values.{falseBy}
 use mathlib.Core.Logic.{⊎-elim}
-use Rattle.simplify.proofs.KeepLaws.{keptTo, kept-start, count-some, count-none, count-end, count-most}
+use Rattle.base.proofs.KeepLaws.{keptTo, kept-start, count-some, count-none, count-end, count-most}
 use Prim.Native.Nat.{_≤_, _-_}
 use lib.ListN.{length}
 use mathlib.Core.Bool.{not}

@@ -1,8 +1,8 @@
 use Rattle.scope.specs.Write.{renameLit, renameLits}
 use Rattle.simplify.specs.Values.{falseBy}
 use mathlib.Core.Logic.{⊎-elim}
-use Rattle.simplify.proofs.KeepLaws.{keptTo, kept-start, count-some, count-none, count-end, count-most, count-room, stored, store-start, store-some}
-use Rattle.simplify.proofs.KeepLaws.{store-none, store-end, store-kept, store-there}
+use Rattle.base.proofs.KeepLaws.{keptTo, kept-start, count-some, count-none, count-end, count-most, count-room, stored, store-start, store-some}
+use Rattle.base.proofs.KeepLaws.{store-none, store-end, store-kept, store-there}
 use Prim.Native.Nat.{_≤_, _-_}
 use lib.ListN.{length, getD}
 use mathlib.Core.Bool.{not}

@@ -1,4 +1,4 @@
--- The literals that are not false, for a loop that has passed the first i.
+-- The members that pass a test, for a loop that has passed the first i.
 use Prim.Native.Nat.{ℕ, suc, _+_, _≤_, _<_}
 use mathlib.Core.Path.{_≡_, refl, sym, ap, _∙_}
 use mathlib.Core.Bool.{Bool, true, false, not, _||_}
