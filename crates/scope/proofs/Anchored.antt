@@ -1,6 +1,6 @@
 -- The anchors hold: what the definitions give is what document 01 says, row by row, by computation.
 use mathlib.Core.Path.{refl}
-use Rattle.base.specs.Bounded.{allBelow, least, count, anyOf, keepOf}
+use Rattle.base.specs.Bounded.{allBelow, least, count, everyOf, anyOf, keepOf}
 use Rattle.scope.specs.Table.{word, isShown, giveUser, takeUser, giveSolver, takeSolver, putRecord, putValue, dropGlobal, leastFree, undeleted}
 use Rattle.scope.specs.Table.{nextSolver}
 use Rattle.scope.specs.Sound.{soundb, sizesb, marksb, atMostb, tailb, backb, namedb, deletedb, tailsb, pairsb}
@@ -20,6 +20,8 @@ use Rattle.drat.specs.Numeral.{spell, further, bytesOf}
 use Rattle.drat.specs.Grammar.{number, numbers, encodeStep, encode}
 use Rattle.scope.specs.Write.{renameLits, unmatched, outside, stepRefusal, renameRefusal, renameOf, stepBytes, writeRefusal, writeOf}
 use Rattle.scope.specs.Simplify.{unfalse, simplified, simplifyBytes, simplifyRefusal, simplifyOf}
+use Rattle.scope.specs.Binary.{cutsb, sectionsOf, eachSection, times, hasMirror, mirrored, keptAt, deletesAt, sectionsFor, filledCodes, keptWords}
+use Rattle.scope.specs.Binary.{keptCount, deleteBytes, binaryRefusal, binaryOf}
 use Rattle.scope.specs.Models.{globalValue, rowOf, globalModel, userLiteral, userModel, modelRefusal, modelOf}
 use Rattle.scope.specs.Anchors.{AnchorsAgree}
 use Rattle.scope.specs.AnchorsWords.{literalAnchors, recordParts, everyPart, noteRows, heldRows}
@@ -28,6 +30,7 @@ use Rattle.scope.specs.AnchorsNames.{openAnchors, lookups, mapAnswers, m
 use Rattle.scope.specs.AnchorsModes.{setModes, observes, removes, sweeps, models}
 use Rattle.scope.specs.AnchorsMarks.{markRows, assigns}
 use Rattle.scope.specs.AnchorsSteps.{simplifies, kindAnchors, causes, renames, writeAnchors}
+use Rattle.scope.specs.AnchorsBinary.{binaries}
 
 literals-hold : AnchorsAgree literalAnchors
 unfolding allBelow least count anyOf keepOf word isShown giveUser takeUser giveSolver takeSolver putRecord putValue dropGlobal soundb sizesb marksb
@@ -182,11 +185,18 @@ unfolding allBelow least count anyOf keepOf word isShown giveUser takeUser giveS
     renameOf stepBytes writeRefusal writeOf
 written-hold = (refl, (refl, (refl, (refl, (refl, (refl, (refl, (refl, (refl, (refl, (refl, (refl, (refl, (refl, (refl, (refl, (refl, (refl, (refl, (refl, (refl, (refl, (refl, (refl, (refl, (refl, (refl, (refl, (refl, (refl, (refl, (refl, (refl, (refl, (refl, tt)))))))))))))))))))))))))))))))))))
 
+binaries-hold : AnchorsAgree binaries
+unfolding allBelow everyOf anyOf keepOf word isShown soundb sizesb marksb atMostb tailb backb namedb deletedb tailsb pairsb notesWords unless notHeld
+    unheld litsHeldElse spell further bytesOf number numbers encodeStep encode renameLits cutsb sectionsOf eachSection times hasMirror mirrored keptAt
+    deletesAt sectionsFor filledCodes keptWords keptCount deleteBytes binaryRefusal binaryOf
+binaries-hold = (refl, (refl, (refl, (refl, (refl, (refl, (refl, (refl, (refl, (refl, (refl, (refl, (refl, (refl, (refl, (refl, (refl, (refl, (refl, (refl, (refl, (refl, (refl, (refl, (refl, (refl, (refl, (refl, (refl, (refl, (refl, (refl, tt))))))))))))))))))))))))))))))))
+
 pub anchored : AnchorsAgree literalAnchors × AnchorsAgree recordParts × AnchorsAgree everyPart × AnchorsAgree noteRows × AnchorsAgree heldRows
     × AnchorsAgree sounds × AnchorsAgree openAnchors × AnchorsAgree lookups × AnchorsAgree mapAnswers × AnchorsAgree maps
     × AnchorsAgree newUsers × AnchorsAgree grantAnchors × AnchorsAgree poses × AnchorsAgree setModes × AnchorsAgree observes
     × AnchorsAgree removes × AnchorsAgree sweeps × AnchorsAgree models × AnchorsAgree markRows × AnchorsAgree assigns
     × AnchorsAgree simplifies × AnchorsAgree kindAnchors × AnchorsAgree causes × AnchorsAgree renames × AnchorsAgree writeAnchors
+    × AnchorsAgree binaries
 anchored = (
   literals-hold,
   recordParts-hold,
@@ -213,4 +223,5 @@ anchored = (
   causes-hold,
   renames-hold,
   written-hold,
+  binaries-hold,
 )

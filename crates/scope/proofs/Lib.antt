@@ -15,6 +15,8 @@ pub mod OpenLaws
 pub mod WantedLaws
 pub mod PoseLaws
 pub mod WriteLaws
+pub mod BinaryLaws
+pub mod BinaryAgain
 pub mod RuledOut
 pub mod NoteCounts
 pub mod NoteWords

@@ -1,4 +1,5 @@
--- Promise c, of the calls that fill further slices: Pose, Observe, Simplify, Rename, Write and Model are accepted and do their work where there is room.
+-- Promise c, of the calls that fill further slices: Pose, Observe, Simplify, Simplify binary, Rename, Write and Model are accepted and do their work where
+-- there is room.
 use Prim.Native.Nat.{ℕ, zero, suc, _+_, _-_, _*_, _<_, _≤_}
 use mathlib.Core.Path.{_≡_, refl, sym, ap, subst, _∙_}
 use mathlib.Core.Bool.{Bool, true, false, _&&_, not}
@@ -34,6 +35,8 @@ use Rattle.scope.specs.declared.Simplified.{Simplified}
 use Rattle.scope.specs.declared.Simplified.the-variants.{Kept, Dropped, Shortened, Binary}
 use Rattle.scope.specs.Marks.{notHeld, unheld}
 use Rattle.scope.specs.Simplify.{isTrue, isFalse, unfalse, simplified, restOf, simplifySteps, simplifyBytes, simplifyRefusal, simplifyOf}
+use Rattle.scope.specs.Binary.{cutsb, mirrored, sectionsFor, sectionCount, eachSection, deletesAt, filledCodes, keptWords, deleteBytes}
+use Rattle.scope.specs.Binary.{binaryRefusal, binaryOf}
 use Rattle.scope.specs.Models.{globalModel, userModel, modelRefusal, modelOf}
 use Rattle.scope.proofs.SoundLaws.{sound-to}
 use Rattle.scope.proofs.MoveLaws.{undeleted-below}
@@ -44,6 +47,7 @@ use Rattle.scope.proofs.GrantLaws.{grant-granted, grant-has}
 use Rattle.scope.proofs.PoseLaws.{PoseRoom, poseStep, usersToGrant, pose-room, pose-one-posed, pose-count, pose-part-words}
 use Rattle.scope.proofs.WriteLaws.{rename-codes, solver-codes, keep-none, written-valid}
 use Rattle.scope.proofs.MarkLaws.{lits-else}
+use Rattle.scope.proofs.BinaryLaws.{all-held, deletes-valid}
 
 -- ---- Observe
 
@@ -205,6 +209,25 @@ simplify-works f t lits redundant outs room p h b c k l =
     let e = unless-none (simplifyRefusal f t lits redundant outs room) t _ r in (
       ap (λ (o : Outcome). o .words) e,
       ap (λ (o : Outcome). readProof f (o .bytes)) e ∙ spells-read (encode-spells f _ (simplify-valid (simplified t lits) t lits redundant p b)),
+    )
+
+-- ---- Simplify binary
+
+-- the lists answered are those that stay, and the bytes are read back as the delete steps
+pub binary-works : (f : Format) (t : Table) (lists : List ℕ) (outs room : ℕ) → Sound t → cutsb (sectionCount t) lists ≡ true
+    → mirrored (sectionsFor t lists) ≡ true → unheld t true (filledCodes (sectionsFor t lists)) ≡ false
+    → length (keptWords t (sectionsFor t lists)) ≤ outs → length (deleteBytes f t (sectionsFor t lists)) ≤ room
+    → (binaryOf f t lists outs room .words ≡ keptWords t (sectionsFor t lists))
+    × (readProof f (binaryOf f t lists outs room .bytes) ≡ steps (eachSection (deletesAt t) 0 (sectionsFor t lists)))
+unfolding binaryOf binaryRefusal deleteBytes
+binary-works f t lists outs room p a b c k l =
+    let ss = sectionsFor t lists in
+    let r : binaryRefusal f t lists outs room ≡ 0 =
+    rw (sound-to t p, a, b)
+    (lits-else t true (filledCodes ss) _ c ∙ rw (le-ltb outs (length (keptWords t ss)) k, le-ltb room (length (deleteBytes f t ss)) l)) in
+    let e = unless-none (binaryRefusal f t lists outs room) t _ r in (
+      ap (λ (o : Outcome). o .words) e,
+      ap (λ (o : Outcome). readProof f (o .bytes)) e ∙ spells-read (encode-spells f _ (deletes-valid t 0 ss p (all-held t ss b c))),
     )
 
 -- ---- Model

@@ -1,4 +1,5 @@
--- The calls of a session (demand 3's list) with their arguments, the room lent to a call for what it fills, and what each call does.
+-- The calls of a session (demand 3's list, and those that orders of document 02 add to it) with their arguments, the room lent to a call for what it
+-- fills, and what each call does.
 use Prim.Native.Nat.{ℕ}
 use mathlib.Core.Bool.{Bool}
 use mathlib.Core.List.{List}
@@ -16,6 +17,7 @@ use Rattle.scope.specs.Modes.{setModeOf, observeOf}
 use Rattle.scope.specs.Marks.{markOf, assignOf}
 use Rattle.scope.specs.Remove.{removeOf, sweepOf}
 use Rattle.scope.specs.Simplify.{simplifyOf}
+use Rattle.scope.specs.Binary.{binaryOf}
 use Rattle.scope.specs.Write.{renameOf, writeOf}
 use Rattle.scope.specs.Models.{modelOf}
 
@@ -36,6 +38,7 @@ pub data Call : Type 0 where
   remove : (solver : ℕ) → Call
   sweep : Call
   simplify : (lits : List ℕ) (redundant : Bool) → Call
+  simplifyBinary : (lists : List ℕ) → Call
   rename : (step : ProofStep) (solverVars : Bool) (lits hashes : List ℕ) → Call
   write : (step : ProofStep) (solverVars : Bool) (lits hashes : List ℕ) → Call
   model : Call
@@ -72,6 +75,7 @@ perform f (assign c) rooms t = assignOf t c
 perform f (remove s) rooms t = removeOf t s (rooms .notes)
 perform f sweep rooms t = sweepOf t (rooms .notes)
 perform f (simplify lits redundant) rooms t = simplifyOf f t lits redundant (rooms .words) (rooms .bytes)
+perform f (simplifyBinary lists) rooms t = binaryOf f t lists (rooms .words) (rooms .bytes)
 perform f (rename step solverVars lits hashes) rooms t = renameOf t step solverVars lits hashes (rooms .words) (rooms .more)
 perform f (write step solverVars lits hashes) rooms t = writeOf f t step solverVars lits hashes (rooms .bytes)
 perform f model rooms t = modelOf t (rooms .words) (rooms .more)

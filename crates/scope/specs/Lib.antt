@@ -16,6 +16,7 @@ pub mod Remove
 pub mod Steps
 pub mod Write
 pub mod Simplify
+pub mod Binary
 pub mod Models
 pub mod Calls
 pub mod Contract
@@ -24,5 +25,6 @@ pub mod AnchorsNames
 pub mod AnchorsModes
 pub mod AnchorsMarks
 pub mod AnchorsSteps
+pub mod AnchorsBinary
 pub mod AnchorsSound
 pub mod AnchorsWords

@@ -1,5 +1,5 @@
 -- Literals (document 01, "Words used").
-use Prim.Native.Nat.{ℕ, _+_, _*_, _/_, _%_}
+use Prim.Native.Nat.{ℕ, _+_, _-_, _*_, _/_, _%_}
 use mathlib.Core.Bool.{Bool}
 use lib.Dec.{eqb}
 
@@ -14,7 +14,11 @@ indexOf c = c / 2
 abbrev pub signOf : ℕ → ℕ
 signOf c = c % 2
 
--- Its DIMACS number is index + 1, negated if negative.
+-- the literal of the same index and the other sign
+abbrev pub notLit : ℕ → ℕ
+notLit c = codeOf (indexOf c) (1 - signOf c)
+
+-- A literal in DIMACS: its index counted from 1, with a minus where it is negative.
 pub record Dimacs : Type 0 where
   pub negative : Bool
   pub magnitude : ℕ

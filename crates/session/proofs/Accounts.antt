@@ -5,7 +5,7 @@ use mathlib.Core.Bool.{false, true}
 use mathlib.Core.List.{List, [], _∷_, _++_, map}
 use Prim.Native.Nat.{ℕ}
 use Rattle.base.specs.Answer.{Answer, accepted, refused}
-use Rattle.base.specs.Bounded.{allBelow, least, count, anyOf, keepOf}
+use Rattle.base.specs.Bounded.{allBelow, least, count, everyOf, anyOf, keepOf}
 use Rattle.drat.specs.Numeral.{spell, further, bytesOf}
 use Rattle.drat.specs.Grammar.{Step, stepOf, number, numbers, encodeStep, encode}
 use Rattle.drat.specs.declared.Format.the-variants.{Text}
@@ -31,9 +31,11 @@ use Rattle.scope.specs.Remove as R
 use Rattle.scope.specs.Marks.{notHeld, assignRefusal, assignOf, unheld, heldElse, litsHeldElse}
 use Rattle.scope.specs.Write.{renameLits, unmatched, outside, stepRefusal, stepBytes, writeRefusal, writeOf}
 use Rattle.scope.specs.Simplify.{unfalse, simplified, simplifyBytes, simplifyRefusal, simplifyOf}
-use Rattle.scope.specs.Calls.{mapUser, pose, grant, setMode, observe, assign, sweep, simplify, write, lending, perform}
+use Rattle.scope.specs.Binary.{cutsb, sectionsOf, eachSection, times, hasMirror, mirrored, keptAt, deletesAt, sectionsFor, filledCodes, keptWords, keptCount}
+use Rattle.scope.specs.Binary.{deleteBytes, binaryRefusal, binaryOf}
+use Rattle.scope.specs.Calls.{mapUser, pose, grant, setMode, observe, assign, sweep, simplify, simplifyBinary, write, lending, perform}
 use Rattle.session.specs.Ledger.{notesOf, shownBy, Line, line, plus, minus, given, nil, cons, Enters}
-use Rattle.session.specs.Entered.{entriesOf, linesOf}
+use Rattle.session.specs.Entered.{entriesOf, sectionsIn, goneLines, binaryLines, linesOf}
 use Rattle.session.specs.Session.{Turn, turn, turnDoes, State, start, enter, afterTurn, run}
 use Rattle.session.specs.Made.{notesIn, Fillable, noneLent, Made, made, Program, ends, calls, seen, ledger}
 
@@ -280,6 +282,42 @@ all-enter =
     (cons (record { kind = refl; lits = cons (plus held1) nil })
     (cons (record { kind = refl; lits = cons (minus held2) nil })
     (cons (record { kind = refl; lits = cons (plus held2) nil }) (cons (record { kind = refl; lits = cons given nil }) nil))))))))
+
+-- ---- binary clauses
+
+-- The same four indices, 0 false. The clauses of 1 and 6, of 0 and 2, and of 2 and 4: the first two go, each with one delete. The lists answered are
+-- given again, and nothing goes. Then 15, since 6 under 0 has no mirror.
+abbrev pairs : List Turn
+pairs =
+    turn (pose (6 ∷ 0 ∷ 2 ∷ 4 ∷ []) false) (lending 24 4 0 0)
+    ∷ turn (assign 1) (lending 0 0 0 0)
+    ∷ turn (simplifyBinary (1 ∷ 6 ∷ 1 ∷ 2 ∷ 0 ∷ 2 ∷ 0 ∷ 4 ∷ 0 ∷ 1 ∷ 2 ∷ 0 ∷ 1 ∷ 1 ∷ [])) (lending 0 10 0 17)
+    ∷ turn (simplifyBinary (0 ∷ 0 ∷ 0 ∷ 1 ∷ 4 ∷ 0 ∷ 1 ∷ 2 ∷ 0 ∷ 0 ∷ [])) (lending 0 10 0 0)
+    ∷ turn (simplifyBinary (1 ∷ 6 ∷ 0 ∷ 0 ∷ 0 ∷ 0 ∷ 0 ∷ 0 ∷ 0 ∷ [])) (lending 0 99 0 99)
+    ∷ []
+
+abbrev pairLines : List Line
+pairLines = line Delete true (1 ∷ 6 ∷ []) posed ∷ line Delete true (0 ∷ 2 ∷ []) posed ∷ []
+
+-- `d -4 3 0`, `d 4 1 0`; words, half the number of entries, bytes
+pub all-pairs :
+    (answers (start (emptyTable 8)) pairs
+    ≡ accepted (4 ∷ 8 ∷ []) ∷ accepted [] ∷ accepted (10 ∷ 1 ∷ 17 ∷ []) ∷ accepted (10 ∷ 1 ∷ 0 ∷ []) ∷ refused 15 [] ∷ [])
+    × (run Text (start (emptyTable 8)) pairs .lines ≡ pairLines)
+    × (run Text (start (emptyTable 8)) pairs .bytes
+    ≡ 100 ∷ 32 ∷ 45 ∷ 52 ∷ 32 ∷ 51 ∷ 32 ∷ 48 ∷ 10 ∷ 100 ∷ 32 ∷ 52 ∷ 32 ∷ 49 ∷ 32 ∷ 48 ∷ 10 ∷ [])
+unfolding allBelow least count everyOf anyOf keepOf spell further bytesOf number numbers encodeStep encode word isShown giveUser giveSolver putValue
+    soundb sizesb marksb atMostb tailb backb namedb deletedb tailsb pairsb choose each unless emptyTable leastFree M.globalFor M.mapOne M.fillGap
+    M.mapUser undeleted M.unsampled nextSolver G.grantOne G.grant P.poseOne P.pose P.wanted P.usersToMap P.poseRefusal P.poseOf notHeld heldElse
+    assignRefusal assignOf renameLits unheld litsHeldElse cutsb sectionsOf eachSection times hasMirror mirrored keptAt deletesAt sectionsFor filledCodes
+    keptWords keptCount deleteBytes binaryRefusal binaryOf notesOf perform turnDoes entriesOf sectionsIn goneLines binaryLines linesOf enter
+    afterTurn run
+all-pairs = (refl, refl, refl)
+
+pub pairs-enter : Enters pairLines (stepOf Delete (7 ∷ 4 ∷ []) ∷ stepOf Delete (6 ∷ 0 ∷ []) ∷ [])
+pairs-enter =
+    cons (record { kind = refl; lits = cons (minus held0) (cons (plus held3) nil) })
+    (cons (record { kind = refl; lits = cons (plus held0) (cons (plus held1) nil) }) nil)
 
 -- ---- a program, as it stands in memory
 

@@ -11,6 +11,7 @@ use borrow.Author.Tests.{eqb-false, leb-false, ltb-false, not-false}
 use Rattle.base.specs.Bounded.{allBelow, anyOf}
 use Rattle.base.specs.Answer.{accepted}
 use Rattle.base.proofs.MemberLaws.{or-left, or-right}
+use Rattle.base.proofs.BelowLaws.{and-left, and-right}
 use Rattle.drat.specs.Grammar.{Step, Codes, Valid, encode}
 use Rattle.drat.specs.declared.Format.{Format}
 use Rattle.scope.specs.declared.SamplingMode.{SamplingMode}
@@ -41,6 +42,7 @@ use Rattle.scope.specs.Remove.{removeRefusal, removeOf, sweepRefusal, sweepOf}
 use Rattle.scope.specs.Steps.{ruleOf, literalsOf, clauseSteps}
 use Rattle.scope.specs.Write.{renameLits, holders, unmatched, outside, stepRefusal, renameOf, lacked, stepBytes, writeRefusal, writeOf}
 use Rattle.scope.specs.Simplify.{isTrue, isFalse, unfalse, simplified, restOf, simplifySteps, simplifyBytes, simplifyRefusal, simplifiedNumber, simplifyOf}
+use Rattle.scope.specs.Binary.{cutsb, mirrored, sectionsFor, sectionCount, eachSection, deletesAt, filledCodes, keptWords, deleteBytes, binaryRefusal, binaryOf}
 use Rattle.scope.specs.Models.{modelOf}
 use Rattle.scope.specs.Calls
 use Rattle.scope.proofs.SoundLaws.{sound-of}
@@ -53,12 +55,14 @@ use Rattle.scope.proofs.ModeLaws.{set-mode-reach, observe-reach}
 use Rattle.scope.proofs.MarkLaws.{held-past, lits-past, mark-reach, assign-reach}
 use Rattle.scope.proofs.RemoveLaws.{remove-reach, sweep-reach}
 use Rattle.scope.proofs.WriteLaws.{solver-codes, rename-codes, keep-none, written-valid}
+use Rattle.scope.proofs.BinaryLaws.{all-held, deletes-valid}
 use Rattle.session.specs.Ledger.{EntersLit, Pairwise, nil, cons, Enters}
 use Rattle.session.specs.Entered.{hiddenBy, entriesOf, simplifyLines, linesOf}
 use Rattle.session.specs.Session.{Turn, turn, turnDoes}
 use Rattle.session.specs.Made.{filledBy}
 use Rattle.session.proofs.ToldLaws.{ToldFor, last-snoc, take-filled}
 use Rattle.session.proofs.EnterLaws.{Tell, solver-lits, lits-enter, write-enters}
+use Rattle.session.proofs.BinaryLines.{binary-enters}
 
 -- ---- what is owed
 
@@ -358,6 +362,31 @@ simplify-owed f t lits redundant rooms = owed f _ t _ _ (λ e.
     valid-kind Shortened all some = (some, (all, tt))
     valid-kind Binary all some = (some, (all, tt))
 
+binary-owed : (f : Format) (t : Table) (lists : List ℕ) (rooms : Calls.Rooms)
+    → Owed f (turn (Calls.simplifyBinary lists) rooms) t (turnDoes f (turn (Calls.simplifyBinary lists) rooms) t)
+unfolding turnDoes Calls.perform binaryOf binaryRefusal sectionsFor deleteBytes linesOf
+binary-owed f t lists rooms = owed f _ t _ _ (λ e.
+    let ss = sectionsFor t lists in
+    let (p, e1) = first-sound t _ e in
+    let (a, e2) = past (not (cutsb (sectionCount t) lists && mirrored ss)) 15 _ (omega arith) e1 in
+    let (held, e3) = lits-past t true (filledCodes ss) _ e2 in
+    let (z, _) = past (ltb (rooms .words) (length (keptWords t ss)) || ltb (rooms .bytes) (length (deleteBytes f t ss))) 2 _ (omega arith) e3 in
+    let b = not-false (cutsb (sectionCount t) lists && mirrored ss) a in
+    let m = and-right (cutsb (sectionCount t) lists) _ b in
+    accepting refl (writing-lawful f _ t _ _ (eachSection (deletesAt t) 0 ss) (record {
+      table = refl;
+      notes = refl;
+      hidden = refl;
+      bytes = refl;
+      noteCount = refl;
+      wordCount = refl;
+      byteCount = refl;
+      wordRoom = ltb-false (rooms .words) (length (keptWords t ss)) (or-left _ _ z);
+      byteRoom = ltb-false (rooms .bytes) _ (or-right (ltb (rooms .words) (length (keptWords t ss))) _ z);
+      enters = λ notes h. binary-enters t (sectionCount t) lists m held (and-left (cutsb (sectionCount t) lists) _ b) notes h;
+      valid = deletes-valid t 0 ss p (all-held t ss m held);
+    })))
+
 -- ---- every call
 
 abbrev CallOwed : Format → Calls.Call → Calls.Rooms → Table → Type 0
@@ -388,6 +417,7 @@ call-owed f (Calls.assign c) rooms t = assign-owed f t c rooms
 call-owed f (Calls.remove s) rooms t = remove-owed f t s rooms
 call-owed f Calls.sweep rooms t = sweep-owed f t rooms
 call-owed f (Calls.simplify lits redundant) rooms t = simplify-owed f t lits redundant rooms
+call-owed f (Calls.simplifyBinary lists) rooms t = binary-owed f t lists rooms
 call-owed f (Calls.rename step solverVars lits hashes) rooms t = rename-owed f t step solverVars lits hashes rooms
 call-owed f (Calls.write step solverVars lits hashes) rooms t = write-owed f t step solverVars lits hashes rooms
 call-owed f Calls.model rooms t = model-owed f t rooms

@@ -6,6 +6,7 @@ pub mod LedgerLaws
 pub mod EnterLaws
 pub mod AgreeLaws
 pub mod ToldLaws
+pub mod BinaryLines
 pub mod CallLaws
 pub mod LookupLaws
 pub mod SessionLaws

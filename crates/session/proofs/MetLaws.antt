@@ -25,6 +25,7 @@ use Rattle.scope.specs.Modes.{setModeOf, observeOf}
 use Rattle.scope.specs.Marks.{markOf, assignOf}
 use Rattle.scope.specs.Remove.{removeOf, sweepOf}
 use Rattle.scope.specs.Simplify.{simplifyRefusal, simplifyOf}
+use Rattle.scope.specs.Binary.{binaryRefusal, binaryOf}
 use Rattle.scope.specs.Write.{stepRefusal, renameOf, writeRefusal, writeOf}
 use Rattle.scope.specs.Models.{modelOf}
 use Rattle.scope.specs.Calls
@@ -195,6 +196,17 @@ pub simplify-met : (f : Format) (lits : Lent) (redundant : Bool) (said : Said) (
 unfolding turnDoes perform simplifyOf simplifyRefusal
 simplify-met f lits redundant said c gu ug sg gs assignment records out bytes h k l =
     let o = simplifyOf f (before c gu ug sg gs assignment records) (old lits) redundant (length (old out)) (length (old bytes)) in
+    record { meets = h; words = k; more = none-has (o .more); bytes = l }
+
+-- `binary::simplify_binary`
+pub binary-met : (f : Format) (lists : Lent) (said : Said) (c : Counts) (gu ug sg gs assignment records out bytes : Lent)
+    → Meets (λ t room. binaryOf f t (old lists) (length (old out)) (length (old bytes))) said (quiet c gu ug sg gs assignment records)
+    → Fills out 0 (binaryOf f (before c gu ug sg gs assignment records) (old lists) (length (old out)) (length (old bytes)) .words)
+    → Fills bytes 0 (binaryOf f (before c gu ug sg gs assignment records) (old lists) (length (old out)) (length (old bytes)) .bytes)
+    → Met f (made (Calls.simplifyBinary (old lists)) said (quiet c gu ug sg gs assignment records) (fillable out) noneLent (fillable bytes))
+unfolding turnDoes perform binaryOf binaryRefusal
+binary-met f lists said c gu ug sg gs assignment records out bytes h k l =
+    let o = binaryOf f (before c gu ug sg gs assignment records) (old lists) (length (old out)) (length (old bytes)) in
     record { meets = h; words = k; more = none-has (o .more); bytes = l }
 
 -- `steps::rename_step`

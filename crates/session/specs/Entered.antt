@@ -1,7 +1,11 @@
 -- What the ledger enters of an accepted call (document 01, "Session").
-use Prim.Native.Nat.{ℕ, zero, suc}
-use mathlib.Core.Bool.{Bool, true, false}
+use Prim.Native.Nat.{ℕ, zero, suc, _+_, _-_, _%_}
+use mathlib.Core.Bool.{Bool, true, false, _&&_, not}
 use mathlib.Core.List.{List, [], _∷_, _++_, map}
+use lib.Dec.{eqb, ltb}
+use lib.ListN.{length, take, drop}
+use Rattle.base.specs.Choice.{pick}
+use Rattle.base.specs.Bounded.{anyOf, keepOf}
 use Rattle.drat.specs.declared.Kind.the-variants.{Add, Delete}
 use Rattle.scope.specs.declared.SamplingMode.{SamplingMode}
 use Rattle.scope.specs.declared.SamplingMode.the-variants.{Sample, Witness, Hide}
@@ -10,7 +14,8 @@ use Rattle.scope.specs.declared.ProofStep.the-variants.{AddClause, AtClause, Un
 use Rattle.scope.specs.declared.ProofStep.the-variants.{FailedAssumptions, SolverVarName, UserVarName, DeleteVar, ChangeSamplingMode, ChangeHashBits, End}
 use Rattle.scope.specs.Notes.{Note}
 use Rattle.scope.specs.Entries.{Entry, noted, hides}
-use Rattle.scope.specs.Calls.{Call, lookup, mapUser, newUser, pose, grant, setMode, observe, mark, assign, remove, sweep, simplify, rename, write, model}
+use Rattle.scope.specs.Calls.{Call, lookup, mapUser, newUser, pose, grant, setMode, observe, mark, assign, remove, sweep, simplify, simplifyBinary}
+use Rattle.scope.specs.Calls.{rename, write, model}
 use Rattle.session.specs.Ledger.{Line, line}
 
 -- about names: that a Set mode was to Hide, then the notes
@@ -32,6 +37,7 @@ hiddenBy (assign c) = []
 hiddenBy (remove s) = []
 hiddenBy sweep = []
 hiddenBy (simplify lits redundant) = []
+hiddenBy (simplifyBinary lists) = []
 hiddenBy (rename step solverVars lits hashes) = []
 hiddenBy (write step solverVars lits hashes) = []
 hiddenBy model = []
@@ -65,7 +71,31 @@ writeLines (ChangeSamplingMode g sample) solverVars lits notes = []
 writeLines (ChangeHashBits bits) solverVars lits notes = []
 writeLines End solverVars lits notes = []
 
--- about clauses: from the arguments, the values answered, the words filled and all notes up to then. Only Simplify and Write have lines.
+-- Simplify binary, told by the lists given and the lists answered. Lists in words: a count, then as many entries, again and again to the end.
+unfoldable pub sectionsIn : ℕ → List ℕ → List (List ℕ)
+sectionsIn zero ws = []
+sectionsIn (suc k) [] = []
+sectionsIn (suc k) (n ∷ ws) = take n ws ∷ sectionsIn k (drop n ws)
+
+-- the code next to c: of the same index, with the other sign
+abbrev pub opposite : ℕ → ℕ
+opposite c = pick (eqb (c % 2) 0) (c + 1) (c - 1)
+
+-- The section of the literal l, before and after. An entry m that is no longer there was a clause of two literals, the opposite of l and m. It stood in
+-- two sections; the delete is entered at the one whose opposite is the smaller code, in the order of the entries.
+unfoldable pub goneLines : ℕ → List ℕ → List ℕ → List Note → List Line
+goneLines l before after notes =
+    map (λ m. line Delete true (opposite l ∷ m ∷ []) notes)
+    (keepOf (λ m. not (anyOf (λ x. eqb x m) after) && ltb (opposite l) m) before)
+
+-- the sections in ascending order of their literals, the first that of l; one that is not there afterwards has no entry
+unfoldable pub binaryLines : ℕ → List (List ℕ) → List (List ℕ) → List Note → List Line
+binaryLines l [] after notes = []
+binaryLines l (es ∷ before) [] notes = goneLines l es [] notes ++ binaryLines (l + 1) before [] notes
+binaryLines l (es ∷ before) (ks ∷ after) notes = goneLines l es ks notes ++ binaryLines (l + 1) before after notes
+
+-- about clauses: from the arguments, the values answered, the words filled and all notes up to then. Only Simplify, Simplify binary and Write
+-- have lines.
 unfoldable pub linesOf : Call → List ℕ → List ℕ → List Note → List Line
 linesOf (lookup asked i) vs ws notes = []
 linesOf (mapUser u sampling) vs ws notes = []
@@ -79,6 +109,7 @@ linesOf (assign c) vs ws notes = []
 linesOf (remove s) vs ws notes = []
 linesOf sweep vs ws notes = []
 linesOf (simplify lits redundant) vs ws notes = simplifyLines vs lits ws notes
+linesOf (simplifyBinary lists) vs ws notes = binaryLines 0 (sectionsIn (length lists) lists) (sectionsIn (length ws) ws) notes
 linesOf (rename step solverVars lits hashes) vs ws notes = []
 linesOf (write step solverVars lits hashes) vs ws notes = writeLines step solverVars lits notes
 linesOf model vs ws notes = []

@@ -14,7 +14,7 @@ use Rattle.scope.specs.Notes.{Note, user+, user-, solver+, solver-, deletes, ch
 use Rattle.scope.specs.Outcome.{Outcome}
 use Rattle.scope.specs.Contract.{Said, Memory, Meets}
 use Rattle.scope.specs.Calls.{Call, lookup, mapUser, newUser, pose, grant, setMode, observe}
-use Rattle.scope.specs.Calls.{mark, assign, remove, sweep, simplify, rename, write, model, lending}
+use Rattle.scope.specs.Calls.{mark, assign, remove, sweep, simplify, simplifyBinary, rename, write, model, lending}
 use Rattle.session.specs.Session.{Turn, turn, turnDoes, State, enter}
 
 -- ---- the notes in memory
@@ -56,7 +56,7 @@ lastOr d [] = d
 lastOr d (v ∷ vs) = lastOr v vs
 
 -- What the values answered say was filled: the count of notes stands last, the number of words first; Simplify answers its number of
--- literals second and of bytes fourth, Write its number of bytes.
+-- literals second and of bytes fourth, Simplify binary its number of bytes third, Write its number of bytes.
 abbrev pub filledBy : Call → List ℕ → FilledCounts
 filledBy (lookup asked i) vs = filledCounts 0 0 0
 filledBy (mapUser u sampling) vs = filledCounts (lastOr 0 vs) 0 0
@@ -70,6 +70,7 @@ filledBy (assign c) vs = filledCounts 0 0 0
 filledBy (remove s) vs = filledCounts (lastOr 0 vs) 0 0
 filledBy sweep vs = filledCounts (lastOr 0 vs) 0 0
 filledBy (simplify lits redundant) vs = filledCounts 0 (nth 1 vs) (nth 3 vs)
+filledBy (simplifyBinary lists) vs = filledCounts 0 (nth 0 vs) (nth 2 vs)
 filledBy (rename step solverVars lits hashes) vs = filledCounts 0 (nth 0 vs) 0
 filledBy (write step solverVars lits hashes) vs = filledCounts 0 0 (nth 0 vs)
 filledBy model vs = filledCounts 0 (nth 0 vs) 0
