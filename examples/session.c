@@ -87,6 +87,19 @@ static size_t proving(const uint32_t *clause, uint8_t *proof, size_t room) {
     return length;
 }
 
+/* Pairs before the sweep: `box 2 or not box 1` has a true literal and goes, `box 1 or box 3` stays. An entry m under l is the clause not l or m. */
+static void thinning(void) {
+    const uint32_t lists[10] = {0, 1, NEG(1), 1, POS(0), 1, POS(2), 0, 1, POS(1)};
+    const uint32_t kept_want[8] = {0, 0, 0, 1, POS(2), 0, 1, POS(1)};
+    uint32_t kept[10];
+    uint8_t line[16];
+    hz_thinned thinned = hz_simplify_binary(c, TABLE, HZ_TEXT, lists, 10, kept, 10, line, sizeof line);
+    expect(thinned.refusal == HZ_ACCEPTED && thinned.words == 8 && thinned.half == 1 && thinned.bytes == 9);
+    expect(memcmp(kept, kept_want, sizeof kept_want) == 0 && memcmp(line, "d 3 -2 0\n", 9) == 0);
+    hz_thinned cut = hz_simplify_binary(c, TABLE, HZ_TEXT, lists, 9, kept, 10, line, sizeof line);
+    expect(cut.refusal == HZ_BAD_LISTS && cut.words == 0 && cut.half == 0 && cut.bytes == 0);
+}
+
 /* Box 1 is hidden; box 3 is in use and stays through the sweep. A line about the index that box 2 has given back is then refused. */
 static void sweeping(uint8_t *proof, size_t room) {
     hz_mode_set hidden = hz_set_mode(c, TABLE, 1, HZ_HIDE, NOTES);
@@ -153,6 +166,7 @@ int main(void) {
     uint8_t proof[64];
     naming(clause);
     size_t length = proving(clause, proof, sizeof proof);
+    thinning();
     sweeping(proof, sizeof proof);
     reading(proof, length);
     modelling();

@@ -10,8 +10,9 @@
  * A list is a pointer and its length in elements. A pointer is aligned and not null, also where the length is 0, and a list that a call may
  * change overlaps no other list lent to it.
  * An index, a literal code (twice the index, one more if negated) and a length may be any number, and a list may hold any words.
- * Stack: hz_simplify takes 64 KB beside the caller's own and hz_write 32 KB, whatever the clause, the others a few. A thread of 64 KB is too
- * small for hz_simplify; one of 128 KB is enough for any call.
+ * Stack, beside the caller's own: hz_simplify_binary takes 192 KB, hz_simplify 64 KB and hz_write 32 KB, whatever they are given, the
+ * others a few. A thread of 256 KB is enough for any call, one of 128 KB for any but hz_simplify_binary; one of 64 KB is too small for
+ * hz_simplify.
  *
  * Every answer begins with `refusal`: 0 if the call was accepted, else one of the numbers below or HZ_UNKNOWN. A refused call changes no
  * memory, its counts are those given (of hz_open: the capacity given and 0, 0, 0), and its other fields are 0 or false unless said
@@ -44,7 +45,8 @@ enum hz_refusal {
     HZ_NOT_IN_DRAT = 11,     /* DRAT lacks this kind of step */
     HZ_FEW_UNKNOWN = 12,     /* no literal is true, some are false, and fewer than two are unknown */
     HZ_BROKEN_PROOF = 13,    /* a step is not whole */
-    HZ_UNMATCHED = 14        /* units and hashes differ in number */
+    HZ_UNMATCHED = 14,       /* units and hashes differ in number */
+    HZ_BAD_LISTS = 15        /* the lists are not one section for each literal code, or an entry has no mirror */
 };
 
 /* A number for a mode, a mark, a format, a step kind, a cause or the kind of one clause that stands for none. Nothing is done. */
@@ -153,6 +155,13 @@ typedef struct {
 
 typedef struct {
     uint32_t refusal;
+    size_t words; /* how many words the lists have now */
+    size_t half;  /* half the number of their entries, rounded down */
+    size_t bytes;
+} hz_thinned;
+
+typedef struct {
+    uint32_t refusal;
     hz_step step; /* as given, with a refusal too */
     size_t lits;
     size_t hashes;
@@ -236,6 +245,14 @@ hz_noted hz_sweep(hz_counts c, HZ_TABLE, HZ_NOTES);
 /* Simplify a clause of solver literals; the rest is filled into `out`, the steps' bytes into `proof`: 1, 3, 8, 12, 2. */
 hz_simplified hz_simplify(hz_counts c, HZ_TABLE_CONST, uint32_t format, const uint32_t *lits, size_t lits_len, bool redundant,
                           uint32_t *out, size_t out_len, uint8_t *proof, size_t proof_len);
+
+/* Simplify binary clauses before the sweep: those with a literal that has a value go. The lists that are left are filled into `out`, the delete
+ * steps' bytes into `proof`: 1, 15, 8, 2.
+ * Lists are words: for each literal code below twice the solver watermark, ascending, a section of a count and then that many literal codes,
+ * the entries. An entry m in the section of l is the clause of not l and m; the same clause stands there as often as not l in the section of
+ * not m, its mirror. 8: a section that is not empty is of an index that no global holds. As many words as were given are enough for `out`. */
+hz_thinned hz_simplify_binary(hz_counts c, HZ_TABLE_CONST, uint32_t format, const uint32_t *lists, size_t lists_len, uint32_t *out,
+                              size_t out_len, uint8_t *proof, size_t proof_len);
 
 /* Rename a step's literals, which are solver literals if `solver_vars`, else global ones: 1, 14, 3, 8, 2. */
 hz_renamed hz_rename(hz_counts c, HZ_TABLE_CONST, hz_step step, bool solver_vars, const uint32_t *lits, size_t lits_len,

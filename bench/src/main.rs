@@ -2,6 +2,7 @@
 //! seen to give the same; then they run in turn, and the least time of each is taken.
 #![deny(missing_docs)]
 
+mod binary;
 mod bulk;
 mod codec;
 mod growth;
@@ -21,12 +22,13 @@ type Part = (&'static str, fn(&report::Report));
 /// All parts, or those named on the command line.
 fn main() {
     let report = report::Report::default();
-    let parts: [Part; 7] = [
+    let parts: [Part; 8] = [
         ("writers", codec::writers),
         ("readers", codec::readers),
         ("real", real::proofs),
         ("sound", sound::tables),
         ("bulk", bulk::calls),
+        ("binary", binary::lists),
         ("single", single::table),
         ("growth", growth::table),
     ];

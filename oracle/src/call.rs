@@ -1,6 +1,10 @@
 //! The calls, with the room lent to each, and who answers them.
-use crate::reading::{self, Outcome, Table};
-use varisat_unchanged::drive::{self, Made, Oracle, Step};
+use crate::reading::{
+    self,
+    drat::{self, Clause},
+    Outcome, Table,
+};
+use varisat_unchanged::drive::{self, pairs::Thinned, Made, Oracle, Step};
 
 pub use varisat_unchanged::drive::Format;
 
@@ -60,7 +64,7 @@ pub enum ProofStep {
     End,
 }
 
-/// A call with its arguments and the lengths of the slices that it is lent to fill.
+/// A call with its arguments and the lengths of the slices that it is lent to fill. Lists of binary clauses are given in words.
 #[derive(Clone, PartialEq, Eq, Debug)]
 pub enum Call {
     Lookup { asked: Asked, index: u32 },
@@ -78,11 +82,12 @@ pub enum Call {
     Rename { step: ProofStep, solver_vars: bool, lits: Vec<u32>, hashes: Vec<u64>, outs: usize, hash_outs: usize },
     Write { step: ProofStep, solver_vars: bool, lits: Vec<u32>, hashes: Vec<u64>, room: usize },
     Model { globals: usize, users: usize },
+    SimplifyBinary { lists: Vec<u32>, outs: usize, room: usize },
 }
 
-pub const KINDS: [&str; 15] = [
+pub const KINDS: [&str; 16] = [
     "Lookup", "Map", "New user", "Pose", "Grant", "Set mode", "Observe", "Mark", "Assign", "Remove", "Sweep", "Simplify",
-    "Rename", "Write", "Model",
+    "Rename", "Write", "Model", "Binary",
 ];
 
 impl Call {
@@ -104,6 +109,7 @@ impl Call {
             Call::Rename { .. } => 12,
             Call::Write { .. } => 13,
             Call::Model { .. } => 14,
+            Call::SimplifyBinary { .. } => 15,
         }
     }
 
@@ -118,7 +124,10 @@ impl Call {
             | Call::Remove { room, .. }
             | Call::Sweep { room }
             | Call::Write { room, .. } => vec![room],
-            Call::Pose { outs, room, .. } | Call::Observe { outs, room } | Call::Simplify { outs, room, .. } => vec![outs, room],
+            Call::Pose { outs, room, .. }
+            | Call::Observe { outs, room }
+            | Call::Simplify { outs, room, .. }
+            | Call::SimplifyBinary { outs, room, .. } => vec![outs, room],
             Call::Rename { outs, hash_outs, .. } => vec![outs, hash_outs],
             Call::Model { globals, users } => vec![globals, users],
         }
@@ -130,7 +139,7 @@ impl Call {
             Call::Lookup { .. } | Call::Mark { .. } | Call::Assign { .. } => vec![],
             Call::Write { .. } => vec![o.bytes.len()],
             Call::Pose { .. } | Call::Observe { .. } => vec![o.words.len(), o.notes.len()],
-            Call::Simplify { .. } => vec![o.words.len(), o.bytes.len()],
+            Call::Simplify { .. } | Call::SimplifyBinary { .. } => vec![o.words.len(), o.bytes.len()],
             Call::Rename { .. } | Call::Model { .. } => vec![o.words.len(), o.more.len()],
             _ => vec![o.notes.len()],
         }
@@ -138,7 +147,7 @@ impl Call {
 
     /// By document 01.
     pub fn read(&self, format: Format, t: &Table) -> Outcome {
-        use reading::{model, modes, names, remove, steps};
+        use reading::{binary, model, modes, names, remove, steps};
         match self {
             Call::Lookup { asked, index } => names::lookup(t, *asked, *index),
             Call::Map { user, sampling, room } => names::map(t, *user, *sampling, *room),
@@ -159,6 +168,7 @@ impl Call {
                 steps::write(t, format, *step, *solver_vars, lits, hashes, *room)
             }
             Call::Model { globals, users } => model::model(t, *globals, *users),
+            Call::SimplifyBinary { lists, outs, room } => binary::simplify_binary(t, format, lists, *outs, *room),
         }
     }
 
@@ -221,6 +231,7 @@ impl Call {
                 let values = vec![words.len() as u64, users.len() as u64];
                 Outcome { values, words, more: users.into_iter().map(u64::from).collect(), ..Outcome::default() }
             }
+            Call::SimplifyBinary { lists, .. } => thinned(rust.simplify_binary(lists, format), format),
         }
     }
 }
@@ -294,6 +305,16 @@ fn simplified(s: drive::Simplified, redundant: bool) -> Outcome {
     assert_eq!(s.cause, cause.map(|cause| if redundant { drive::Cause::Redundant } else { cause }));
     let values = vec![made, s.rest.len() as u32, s.redundant as u32, s.bytes.len() as u32];
     Outcome { words: s.rest, bytes: s.bytes, ..told(values) }
+}
+
+fn thinned(thinned: Thinned, format: Format) -> Outcome {
+    let Thinned { words, count, steps, bytes } = thinned;
+    // the steps as recorded, whose cause DRAT does not write, are those that the bytes say
+    assert!(steps.iter().all(|(_, cause)| *cause == drive::Cause::Satisfied));
+    let clauses = steps.into_iter().map(|(lits, _)| Clause { delete: true, lits }).collect();
+    assert_eq!(drat::read(format, &bytes), Ok(clauses));
+    let values = vec![words.len() as u32, count as u32, bytes.len() as u32];
+    Outcome { words, bytes, ..told(values) }
 }
 
 /// The step with the literals and the hashes that its kind carries.

@@ -7,12 +7,12 @@ use crate::ledger::Ledger;
 use crate::library::Library;
 use crate::random::{self, Rng, Style};
 use crate::reading::{Outcome, Table};
-use varisat_unchanged::drive::{self, Oracle};
+use varisat_unchanged::drive::{self, pairs::additions, Oracle};
 
 /// How many calls of each kind were answered with each refusal, 0 being accepted.
 #[derive(Default)]
 pub struct Tally {
-    pub by: [[u64; 15]; 15],
+    pub by: [[u64; 16]; 16],
     pub sessions: u64,
     pub calls: u64,
     /// Accepted calls that varisat's functions answered too.
@@ -27,7 +27,7 @@ impl Tally {
         println!(
             "{:<10}{}",
             "",
-            (0..15).map(|n| format!("{:>9}", if n == 0 { "accepted".into() } else { n.to_string() })).collect::<String>()
+            (0..16).map(|n| format!("{:>9}", if n == 0 { "accepted".into() } else { n.to_string() })).collect::<String>()
         );
         for (kind, row) in KINDS.iter().zip(&self.by) {
             let cells: String = row.iter().map(|&n| if n == 0 { format!("{:>9}", "") } else { format!("{:>9}", n) }).collect();
@@ -37,7 +37,7 @@ impl Tally {
 
     /// Refusals that document 01 lists for a call of which there was none.
     pub fn missing(&self) -> Vec<String> {
-        const LISTED: [&[usize]; 15] = [
+        const LISTED: [&[usize]; 16] = [
             &[1],
             &[1, 2, 3, 4, 5],
             &[1, 2, 5],
@@ -53,6 +53,7 @@ impl Tally {
             &[1, 2, 3, 8, 14],
             &[1, 2, 3, 8, 11, 14],
             &[1, 2],
+            &[1, 2, 8, 15],
         ];
         let mut missing = vec![];
         for (kind, listed) in LISTED.iter().enumerate() {
@@ -61,7 +62,7 @@ impl Tally {
                     missing.push(format!("{} {}", KINDS[kind], n));
                 }
             }
-            for n in 1..15 {
+            for n in 1..16 {
                 if self.by[kind][n] != 0 && !listed.contains(&n) {
                     missing.push(format!("{} answered {}", KINDS[kind], n));
                 }
@@ -127,7 +128,7 @@ impl Session {
         let Some(rust) = &mut self.rust else {
             return Ok(());
         };
-        if !in_range(call) {
+        if !is_possible(call, &self.table) {
             return Ok(());
         }
         tally.compared += 1;
@@ -171,8 +172,9 @@ impl Session {
     }
 }
 
-/// Varisat's variables end at 2^28; naming steps are the only accepted calls that could carry more.
-fn in_range(call: &Call) -> bool {
+/// Varisat's variables end at 2^28; naming steps are the only accepted calls that could carry more. Its lists of binary clauses are made by
+/// additions.
+fn is_possible(call: &Call, t: &Table) -> bool {
     let fits = |index: u32, word: u32| index < 1 << 28 && word < 1 << 28;
     match call {
         Call::Rename { step, .. } | Call::Write { step, .. } => match *step {
@@ -180,6 +182,7 @@ fn in_range(call: &Call) -> bool {
             ProofStep::DeleteVar(g) | ProofStep::ChangeSamplingMode(g, _) => fits(g, 0),
             _ => true,
         },
+        Call::SimplifyBinary { lists, .. } => additions(lists, 2 * t.counts.solver as usize).is_some(),
         _ => true,
     }
 }

@@ -46,6 +46,7 @@ impl Ledger {
                     self.step(clause.delete, *solver_vars, &clause.lits);
                 }
             }
+            Call::SimplifyBinary { lists, .. } => self.pairs(lists, &outcome.words),
             _ => (),
         }
         self.bytes.extend(&outcome.bytes);
@@ -63,6 +64,25 @@ impl Ledger {
             (1, _) => self.holder[last as usize - 1] = Some(global),
             (2, _) => self.shown[global as usize] = false,
             _ => (),
+        }
+    }
+
+    /// By the lists given and answered: an entry went if its section has none of the kind any more. Of the two entries of a clause one is
+    /// deleted.
+    fn pairs(&mut self, given: &[u32], answered: &[u32]) {
+        let sections = |mut words: &[u32]| {
+            let mut all = vec![];
+            while let Some((&count, rest)) = words.split_first() {
+                let (section, after) = rest.split_at(count as usize);
+                all.push(section.to_vec());
+                words = after;
+            }
+            all
+        };
+        for (l, (before, after)) in (0u32..).zip(sections(given).iter().zip(sections(answered))) {
+            for &m in before.iter().filter(|m| l ^ 1 < **m && !after.contains(m)) {
+                self.step(true, true, &[l ^ 1, m]);
+            }
         }
     }
 

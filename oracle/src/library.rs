@@ -182,6 +182,7 @@ impl Library {
             }
             Call::Write { step, solver_vars, lits, hashes, room } => self.write(*step, *solver_vars, lits, hashes, *room),
             Call::Model { globals, users } => self.model(*globals, *users),
+            Call::SimplifyBinary { lists, outs, room } => self.simplify_binary(lists, *outs, *room),
         }
     }
 
@@ -240,6 +241,24 @@ impl Library {
                     ..Outcome::default()
                 })
             }
+        }
+    }
+
+    fn simplify_binary(&mut self, lists: &[u32], outs: usize, room: usize) -> Result<Outcome, String> {
+        let mut out = vec![BEFORE; outs];
+        let mut proof = vec![BEFORE as u8; room];
+        match self.table.simplify_binary(format_of(self.format), lists, &mut out, &mut proof) {
+            Err(refusal) => {
+                kept(&out, 0, BEFORE)?;
+                kept(&proof, 0, BEFORE as u8)?;
+                Ok(Outcome { refusal: refusal.number(), ..Outcome::default() })
+            }
+            Ok(answer) => Ok(Outcome {
+                values: [answer.words, answer.half, answer.bytes].map(|count| count as u64).to_vec(),
+                words: kept(&out, answer.words, BEFORE)?,
+                bytes: kept(&proof, answer.bytes, BEFORE as u8)?,
+                ..Outcome::default()
+            }),
         }
     }
 

@@ -6,6 +6,7 @@ mod compare;
 mod ledger;
 #[cfg(feature = "library")]
 mod library;
+mod lists;
 mod pinned;
 mod random;
 mod reachable;
@@ -20,6 +21,7 @@ use random::Rng;
 
 const USAGE: &str = "usage: oracle sample [SEED]        about a minute of everything
        oracle calls N [SEED]       N calls in random sessions
+       oracle binary N [SEED]      N lists of binary clauses on random sound tables
        oracle reachable            every reachable table of capacity 1 and 2, every table of capacity 1
        oracle record [SEED]        the recorded list that crates/replay replays, to standard output";
 
@@ -28,6 +30,7 @@ fn sample(seed: u64, tally: &mut Tally) -> run::Verdict<()> {
     let tables = reachable::walk(1, 1, tally).map_err(run::told)?;
     println!("capacity 1: {} reachable tables", tables);
     run::sessions(&mut rng, 5_000_000, tally)?;
+    binary(&mut rng, 400_000, tally)?;
     let unsound = run::damaged(&mut rng, 200_000, tally)?;
     println!("200000 damaged tables, {} of them unsound", unsound);
     let opened = run::opens(&mut rng, 20_000)?;
@@ -36,6 +39,12 @@ fn sample(seed: u64, tally: &mut Tally) -> run::Verdict<()> {
     println!("1000000 proofs read: {} whole, {} with too little room, {} broken", by[0], by[1], by[2]);
     let by = run::writes(&mut rng, 1_000_000)?;
     println!("1000000 proofs written from lists: {} whole, {} no proof, {} with too little room", by[0], by[1], by[2]);
+    Ok(())
+}
+
+fn binary(rng: &mut Rng, calls: u64, tally: &mut Tally) -> run::Verdict<()> {
+    let [accepted, compared] = run::binaries(rng, calls, tally)?;
+    println!("{} lists of binary clauses, {} accepted, {} of these answered by varisat too", calls, accepted, compared);
     Ok(())
 }
 
@@ -74,6 +83,7 @@ fn main() {
     let verdict = match args.first().map(String::as_str) {
         Some("sample") => sample(number(1).unwrap_or(1), &mut tally),
         Some("calls") => run::sessions(&mut Rng::new(number(2).unwrap_or(1)), number(1).unwrap_or(1_000_000), &mut tally),
+        Some("binary") => binary(&mut Rng::new(number(2).unwrap_or(1)), number(1).unwrap_or(1_000_000), &mut tally),
         Some("reachable") => reachable(&mut tally),
         Some("record") => record(number(1).unwrap_or(1)),
         _ => {

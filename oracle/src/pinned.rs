@@ -1,6 +1,6 @@
 //! Calls that stand in every recorded list, whatever the seed: each sees a departure from document 01 that random calls meet rarely or not.
 use crate::call::{Call, Cause, ProofStep, ASKED};
-use crate::reading::Table;
+use crate::reading::{binary::words, Table};
 
 /// A sound table of capacity 4: user 0 and solver index 1 at global 0; solver index 0, which is true, at global 1, which is hidden; global 2
 /// deleted; global 3 not used yet.
@@ -119,5 +119,55 @@ pub fn renamings() -> Vec<Call> {
     calls.extend(hashed.map(|step| rename(step, &lits, &hashes, 1)));
     calls.push(rename(ProofStep::FailedAssumptions, &lits[..1], &[7, 8, 9], 3));
     calls.push(rename(ProofStep::FailedAssumptions, &[], &[7], 1));
+    calls
+}
+
+/// On an empty table: no sections at all, and a word too many.
+pub fn no_sections() -> Vec<Call> {
+    let binary = |lists: &[u32]| Call::SimplifyBinary { lists: lists.to_vec(), outs: 1, room: 1 };
+    vec![binary(&[]), binary(&[0]), binary(&[u32::MAX])]
+}
+
+/// The lists of clauses over four indices, added in turn.
+fn added(clauses: &[[u32; 2]]) -> Vec<u32> {
+    let mut sections = vec![vec![]; 8];
+    for &[a, b] in clauses {
+        sections[a as usize ^ 1].push(b);
+        sections[b as usize ^ 1].push(a);
+    }
+    words(&sections)
+}
+
+/// The words with one changed.
+fn with(words: &[u32], place: usize, word: u32) -> Vec<u32> {
+    let mut words = words.to_vec();
+    words[place] = word;
+    words
+}
+
+/// Solver indices 0 to 3 held by globals 3, 0, 2 and 1; 0 false and 1 true. Then lists of binary clauses: whole ones with enough room, just
+/// enough and one too little of each; an order that no additions make; entries that are their own mirror; each damage by itself; and lists
+/// once index 2 is not held.
+pub fn binaries() -> Vec<Call> {
+    let binary = |lists: &[u32], outs, room| Call::SimplifyBinary { lists: lists.to_vec(), outs, room };
+    let pose = Call::Pose { lits: vec![6, 0, 5, 2], sampling: true, outs: 4, room: 24 };
+    let mut calls = vec![pose, Call::Assign { lit: 1 }, Call::Assign { lit: 2 }];
+    // the first three go, in 25 bytes of text or 12 in binary; the others stay
+    let whole = added(&[[0, 4], [2, 0], [0, 1], [6, 6], [4, 7], [4, 7]]);
+    calls.extend([(20, 30), (14, 25), (14, 24), (14, 12), (14, 11), (13, 25)].map(|(outs, room)| binary(&whole, outs, room)));
+    let crossed = [0, 0, 0, 0, 2, 7, 6, 2, 6, 7, 2, 4, 5, 2, 5, 4];
+    let alone = [3, 1, 1, 1, 0, 0, 0, 0, 0, 0, 3, 6, 6, 6];
+    let same = [0, 1, 0, 0, 0, 0, 0, 0, 0];
+    calls.extend([&crossed[..], &with(&crossed, 5, 6), &alone, &same, &[0; 8], &whole[..9]].map(|lists| binary(lists, 20, 30)));
+    let longer = [&whole[..], &[0]].concat();
+    calls.extend([&whole[..19], &whole[..17], &longer, &[]].map(|lists| binary(lists, 20, 30)));
+    let changed = [(0, u32::MAX), (17, u32::MAX), (17, 1), (19, 8), (19, u32::MAX), (1, 2), (3, 6), (15, 5)];
+    calls.extend(changed.map(|(place, word)| binary(&with(&whole, place, word), 20, 30)));
+
+    calls.push(Call::Remove { solver: 2, room: 6 });
+    let others = added(&[[0, 2], [6, 6]]);
+    let lists = [&whole, &with(&whole, 19, 8), &others];
+    calls.extend(lists.map(|lists| binary(lists, 0, 0)));
+    calls.extend(lists.map(|lists| binary(lists, 20, 30)));
     calls
 }

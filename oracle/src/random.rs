@@ -1,5 +1,6 @@
 //! Random calls, random sound tables and damaged ones, all from a seed.
 use crate::call::{Call, Format, Mark, ProofStep, ASKED, CAUSES, MARKS};
+use crate::lists;
 use crate::reading::{Table, FRESH, MOST_LITERALS};
 
 /// xorshift64*
@@ -42,7 +43,7 @@ impl Rng {
         self.one_in(2)
     }
 
-    fn shuffle<T>(&mut self, all: &mut [T]) {
+    pub fn shuffle<T>(&mut self, all: &mut [T]) {
         for i in (1..all.len()).rev() {
             all.swap(i, self.index(i + 1));
         }
@@ -51,14 +52,14 @@ impl Rng {
 
 /// How often each kind of call is made in a session; drawn anew for each, so that some hide much, some remove much, some only write.
 pub struct Style {
-    weights: [u64; 15],
+    weights: [u64; 16],
     /// One in so many arguments is any number at all.
     wild: u64,
     /// The most literals in a clause.
     longest: usize,
 }
 
-const USUAL: [u64; 15] = [4, 8, 5, 6, 8, 12, 3, 12, 10, 8, 4, 10, 5, 8, 3];
+const USUAL: [u64; 16] = [4, 8, 5, 6, 8, 12, 3, 12, 10, 8, 4, 10, 5, 8, 3, 10];
 
 impl Style {
     pub fn draw(rng: &mut Rng, capacity: u32) -> Style {
@@ -263,13 +264,24 @@ fn roomy(rng: &mut Rng, t: &Table, style: &Style) -> Call {
             let (step, solver_vars, lits, hashes) = step_parts(rng, t, style);
             Call::Write { step, solver_vars, lits, hashes, room: all }
         }
-        _ => Call::Model { globals: all, users: all },
+        14 => Call::Model { globals: all, users: all },
+        _ => Call::SimplifyBinary { lists: lists::draw(rng, t), outs: all, room: all },
     }
 }
 
 /// A call whose rooms are what it needs, a little more, or now and then too little.
 pub fn call(rng: &mut Rng, format: Format, t: &Table, style: &Style) -> Call {
-    let mut call = roomy(rng, t, style);
+    let call = roomy(rng, t, style);
+    in_rooms(rng, format, t, call)
+}
+
+/// Lists of binary clauses likewise.
+pub fn binary(rng: &mut Rng, format: Format, t: &Table) -> Call {
+    let call = Call::SimplifyBinary { lists: lists::draw(rng, t), outs: usize::MAX, room: usize::MAX };
+    in_rooms(rng, format, t, call)
+}
+
+fn in_rooms(rng: &mut Rng, format: Format, t: &Table, mut call: Call) -> Call {
     let needed = call.filled(&call.read(format, t));
     let short = rng.one_in(10);
     for (room, needed) in call.rooms().into_iter().zip(needed) {

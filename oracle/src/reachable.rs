@@ -3,7 +3,7 @@ use std::collections::HashSet;
 
 use crate::call::{Call, Cause, Format, ProofStep, ASKED, MARKS};
 use crate::compare::{Disagreement, Session, Tally};
-use crate::reading::Table;
+use crate::reading::{binary::words, Table};
 
 /// Room enough for every call at these capacities.
 const ALL: usize = 64;
@@ -49,7 +49,8 @@ fn changing(capacity: u32) -> Vec<Call> {
 
 /// The calls that change no table.
 fn telling(capacity: u32) -> Vec<Call> {
-    let mut calls = vec![Call::Model { globals: ALL, users: ALL }];
+    let mut calls = binaries(capacity);
+    calls.push(Call::Model { globals: ALL, users: ALL });
     for index in 0..=capacity {
         calls.extend(ASKED.map(|asked| Call::Lookup { asked, index }));
     }
@@ -70,6 +71,22 @@ fn telling(capacity: u32) -> Vec<Call> {
         }
     }
     calls
+}
+
+/// Lists of binary clauses: every list of a few small words, and those of every clause or two, as many sections as each number of indices has.
+fn binaries(capacity: u32) -> Vec<Call> {
+    let mut all = lists(4, 4);
+    for indices in 1..=capacity {
+        for codes in lists(4, 2 * indices).into_iter().filter(|codes| codes.len() % 2 == 0) {
+            let mut sections = vec![vec![]; 2 * indices as usize];
+            for clause in codes.chunks(2) {
+                sections[clause[0] as usize ^ 1].push(clause[1]);
+                sections[clause[1] as usize ^ 1].push(clause[0]);
+            }
+            all.push(words(&sections));
+        }
+    }
+    all.into_iter().map(|lists| Call::SimplifyBinary { lists, outs: ALL, room: ALL }).collect()
 }
 
 /// Every table of capacity 1, sound or not, with words a little past what may stand there; every call is made on each.

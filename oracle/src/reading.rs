@@ -1,6 +1,7 @@
 //! Document 01, read plainly: each call is a pure function from a table, its arguments and the room that it is lent to an outcome.
 //! It shares no code with the crates and mirrors the definitions of crates/scope/specs file by file, so that running it beside
 //! varisat's own functions tests those definitions.
+pub mod binary;
 pub mod drat;
 pub mod model;
 pub mod modes;

@@ -16,9 +16,12 @@ const LONGEST: usize = 1500;
 const MOST_LIST: usize = 4_100;
 const MOST_SLICE: usize = 8_200;
 
-const NAMES: [&str; 15] = [
+/// The line of Binary: `binary FORMAT lits WORD .. room WORDS BYTES gives REFUSAL WORDS HALF BYTES words WORD .. bytes BYTE ..`. Under `lits`
+/// stand the words of the lists given, under `words` those of the lists left, counts and entries as they are lent; under `room` the lengths
+/// of the two slices lent; after the refusal the fields of the C answer, words filled, half count, bytes filled. Empty parts are left out.
+const NAMES: [&str; 16] = [
     "lookup", "map", "newuser", "pose", "grant", "setmode", "observe", "mark", "assign", "remove", "sweep", "simplify", "rename",
-    "write", "model",
+    "write", "model", "binary",
 ];
 
 #[derive(Default)]
@@ -110,13 +113,16 @@ fn arguments(call: &Call, format: Format) -> Vec<u64> {
         Call::Simplify { redundant, .. } => vec![format as u64, (*redundant).into()],
         Call::Rename { step: given, solver_vars, .. } => [step(*given), vec![(*solver_vars).into()]].concat(),
         Call::Write { step: given, solver_vars, .. } => [vec![format as u64], step(*given), vec![(*solver_vars).into()]].concat(),
+        Call::SimplifyBinary { .. } => vec![format as u64],
         Call::NewUser { .. } | Call::Observe { .. } | Call::Sweep { .. } | Call::Model { .. } => vec![],
     }
 }
 
+/// The literals given; of Binary the words of the lists.
 fn literals(call: &Call) -> &[u32] {
     match call {
         Call::Pose { lits, .. } | Call::Simplify { lits, .. } | Call::Rename { lits, .. } | Call::Write { lits, .. } => lits,
+        Call::SimplifyBinary { lists, .. } => lists,
         _ => &[],
     }
 }
@@ -281,7 +287,7 @@ impl Record {
     }
 
     /// What random calls meet rarely: each clause of soundness broken by itself, with every Lookup; every outcome of Simplify, redundant and
-    /// not; every kind of step renamed, with hashes.
+    /// not; every kind of step renamed, with hashes; lists of binary clauses.
     fn pinned(&mut self) -> Verdict<()> {
         for (n, table) in (0..).zip(pinned::broken().into_iter().chain(pinned::deleted())) {
             self.on(Format::Text, &table, &pinned::lookups(n))?;
@@ -289,7 +295,12 @@ impl Record {
         for format in [Format::Text, Format::Binary] {
             self.on(format, &Table::empty(4), &pinned::simplifications())?;
         }
-        self.on(Format::Text, &pinned::base(), &pinned::renamings())
+        self.on(Format::Text, &pinned::base(), &pinned::renamings())?;
+        self.on(Format::Text, &Table::empty(1), &pinned::no_sections())?;
+        for format in [Format::Text, Format::Binary] {
+            self.on(format, &Table::empty(4), &pinned::binaries())?;
+        }
+        Ok(())
     }
 
     /// Clauses of 8,192 literals, which is the most there may be, and of one more.

@@ -31,6 +31,22 @@ pub fn sessions(rng: &mut Rng, calls: u64, tally: &mut Tally) -> Verdict<()> {
     Ok(())
 }
 
+/// Lists of binary clauses, a few on each of many sound tables. How many calls were accepted, and how many varisat answered too.
+pub fn binaries(rng: &mut Rng, calls: u64, tally: &mut Tally) -> Verdict<[u64; 2]> {
+    let (before, compared, until) = (tally.by[15][0], tally.compared, tally.calls + calls);
+    while tally.calls < until {
+        let capacity = capacity(rng);
+        let table = random::sound_table(rng, capacity);
+        let format = if rng.flag() { Format::Text } else { Format::Binary };
+        let mut session = Session::load(format, &table);
+        for _ in 0..(4 + rng.below(12)).min(until - tally.calls) {
+            let call = random::binary(rng, format, &table);
+            session.call(&call, tally).map_err(told)?;
+        }
+    }
+    Ok([tally.by[15][0] - before, tally.compared - compared])
+}
+
 /// Tables with one thing changed, so that most are unsound: a few calls on each.
 pub fn damaged(rng: &mut Rng, tables: u64, tally: &mut Tally) -> Verdict<u64> {
     let mut unsound = 0;

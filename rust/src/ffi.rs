@@ -90,6 +90,14 @@ pub struct Simplified {
 }
 
 #[repr(C)]
+pub struct Thinned {
+    pub refusal: u32,
+    pub words: usize,
+    pub half: usize,
+    pub bytes: usize,
+}
+
+#[repr(C)]
 pub struct Renamed {
     pub refusal: u32,
     pub step: Step,
@@ -185,6 +193,7 @@ exported! {
     fn remove = hz_remove(c: Counts, table, solver: u32, notes: &mut [u32]) -> Noted;
     fn sweep = hz_sweep(c: Counts, table, notes: &mut [u32]) -> Noted;
     fn simplify = hz_simplify(c: Counts, lent, format: u32, lits: &[u32], redundant: bool, out: &mut [u32], proof: &mut [u8]) -> Simplified;
+    fn simplify_binary = hz_simplify_binary(c: Counts, lent, format: u32, lists: &[u32], out: &mut [u32], proof: &mut [u8]) -> Thinned;
     fn rename = hz_rename(c: Counts, lent, step: Step, solver_vars: bool, lits: &[u32], hashes: &[u64], out: &mut [u32], hash_out: &mut [u64]) -> Renamed;
     fn write = hz_write(c: Counts, lent, format: u32, step: Step, solver_vars: bool, lits: &[u32], hashes: &[u64], proof: &mut [u8]) -> Written;
     fn write_clause = hz_write_clause(format: u32, kind: u32, lits: &[u32], a: usize, b: usize, proof: &mut [u8], at: usize) -> Written;

@@ -23,12 +23,14 @@
 //! ```
 #![deny(missing_docs)]
 
+mod binary;
 mod ffi;
 mod names;
 mod proof;
 mod refusal;
 mod table;
 
+pub use binary::Thinned;
 pub use names::{Global, Lit, Name, Note, Notes, Solver, User};
 pub use proof::{first_step, read, write_clause, write_proof, Cause, Format, Lits, Reading, Renamed, Step};
 pub use refusal::Refusal;

@@ -33,6 +33,8 @@ pub enum Refusal {
     BrokenProof(usize),
     /// 14: units and hashes differ in number.
     Unmatched,
+    /// 15: the lists of binary clauses are not one section for each literal code, or an entry has no mirror.
+    BadLists,
     /// A number that this crate does not know.
     Other(u32),
 }
@@ -56,6 +58,7 @@ impl Refusal {
             12 => Refusal::FewUnknown,
             13 => Refusal::BrokenProof(place),
             14 => Refusal::Unmatched,
+            15 => Refusal::BadLists,
             other => Refusal::Other(other),
         })
     }
@@ -77,6 +80,7 @@ impl Refusal {
             Refusal::FewUnknown => 12,
             Refusal::BrokenProof(_) => 13,
             Refusal::Unmatched => 14,
+            Refusal::BadLists => 15,
             Refusal::Other(number) => number,
         }
     }
@@ -98,6 +102,7 @@ impl Refusal {
             Refusal::FewUnknown => "no literal is true, some are false, and fewer than two are unknown",
             Refusal::BrokenProof(_) => "a step of the proof is not whole",
             Refusal::Unmatched => "units and hashes differ in number",
+            Refusal::BadLists => "the lists are not one section for each literal code, or an entry has no mirror",
             Refusal::Other(_) => "a number that this crate does not know",
         }
     }

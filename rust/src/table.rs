@@ -2,7 +2,7 @@
 use crate::{
     ffi,
     names::{codes, codes_mut, indices_mut},
-    Format, Global, Lit, Lits, Notes, Refusal, Renamed, Solver, Step, User,
+    Format, Global, Lit, Lits, Notes, Refusal, Renamed, Solver, Step, Thinned, User,
 };
 
 /// The capacity and the three watermarks.
@@ -429,6 +429,41 @@ impl Table {
         Ok(Simplified { made, redundant: answer.redundant, lits: answer.lits, bytes: answer.bytes })
     }
 
+    /// Takes the binary clauses that have a literal with a value out of their lists; the lists left and the bytes of a delete step for each
+    /// are filled. Refusals: 1, 15, 8, 2.
+    ///
+    /// Lists are words: a section for each literal code below `2 * counts().solver`, ascending, each after the count of its entries. An
+    /// entry `m` in the section of `l` is the clause of `!l` and `m`; it stands as well, equally often, as the entry `!l` in the section of
+    /// `!m`. [`Table::binary_lists`] makes them. The lists that are answered may be given again.
+    ///
+    /// To lend: as many words as `lists` has, and 8 bytes for each of them, 3 in binary. A clause has two entries, and its step takes at most
+    /// 16 bytes, 6 in binary.
+    ///
+    /// Stack: 192 KB beside the caller's own, whatever the lists. A thread of 256 KB is enough.
+    ///
+    /// ```
+    /// use hintzobar::{Format, Lit, Table, User};
+    /// let mut table = Table::open(8)?;
+    /// let mut notes = table.notes();
+    /// let mut posed = [Lit::from_code(0); 3];
+    /// table.pose(&[0, 1, 2].map(|user| Lit::positive(User(user))), false, &mut posed, &mut notes)?;
+    ///
+    /// let [a, b, c] = posed;
+    /// let lists = table.binary_lists(&[[a, b], [!b, c]]).unwrap();
+    /// table.assign(a)?;
+    /// let (mut out, mut proof) = (vec![0; lists.len()], vec![0; 8 * lists.len()]);
+    /// let thinned = table.simplify_binary(Format::Text, &lists, &mut out, &mut proof)?;
+    /// assert_eq!(&proof[..thinned.bytes], b"d 1 2 0\n");
+    /// assert_eq!(thinned.half, 1);
+    /// assert_eq!(out[..thinned.words], table.binary_lists(&[[!b, c]]).unwrap());
+    /// # Ok::<(), hintzobar::Refusal>(())
+    /// ```
+    pub fn simplify_binary(&self, format: Format, lists: &[u32], out: &mut [u32], proof: &mut [u8]) -> Result<Thinned, Refusal> {
+        let answer = ask!(self.simplify_binary(format.number(), lists, out, proof));
+        Refusal::check(answer.refusal, 0)?;
+        Ok(Thinned { words: answer.words, half: answer.half, bytes: answer.bytes })
+    }
+
     /// A step under global names: its literals and hashes are filled; the step comes back as given. Refusals: 1, 14, 3, 8, 2.
     ///
     /// To lend: as many literals and hashes as are given; none for a kind that carries none.
@@ -462,7 +497,8 @@ impl Table {
     ///
     /// To lend: the bytes of the step; what [`Format::room_for`] says for the literals given is enough. None for a kind that writes nothing.
     ///
-    /// Stack: 32 KB beside the caller's own, whatever the clause. A thread of 128 KB is enough for any call of this crate.
+    /// Stack: 32 KB beside the caller's own, whatever the clause. A thread of 128 KB is enough for any call of this crate but
+    /// [`Table::simplify_binary`].
     ///
     /// ```
     /// use hintzobar::{Cause, Format, Global, Lit, Lits, Solver, Step, Table, User};

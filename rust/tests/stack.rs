@@ -1,11 +1,12 @@
-//! The stack that Write and Simplify are said to need is enough, for the longest clauses there may be. A thread with too little is killed with
-//! the whole process, so that only the good case is tested.
+//! The stack that Write, Simplify and simplify_binary are said to need is enough, for the longest clauses and the most sections there may be. A
+//! thread with too little is killed with the whole process, so that only the good case is tested.
 use std::thread::Builder;
 
 use hintzobar::{Format, Lit, Lits, Made, Solver, Step, Table, User};
 
-/// What the documents of both methods say.
+/// What the documents of the methods say.
 const ENOUGH: usize = 128 * 1024;
+const ENOUGH_FOR_LISTS: usize = 256 * 1024;
 
 #[test]
 fn a_thread_of_128_kilobytes() {
@@ -25,4 +26,29 @@ fn a_thread_of_128_kilobytes() {
         }
     };
     Builder::new().stack_size(ENOUGH).spawn(calls).unwrap().join().unwrap();
+}
+
+#[test]
+fn a_thread_of_256_kilobytes() {
+    let mut table = Table::open(4096).unwrap();
+    let mut notes = table.notes();
+    let users: Vec<_> = (0..4096).map(|i| Lit::positive(User(i))).collect();
+    let mut lits = vec![Lit::from_code(0); 4096];
+    table.pose(&users, false, &mut lits, &mut notes).unwrap();
+    table.assign(lits[0]).unwrap();
+    let star: Vec<_> = lits.iter().map(|&lit| [lits[0], lit]).collect();
+    let lists = table.binary_lists(&star).unwrap();
+    // four clauses in an order that no additions make
+    let mut crossed = vec![0; 8200];
+    crossed[2..14].copy_from_slice(&[2, 5, 4, 2, 4, 5, 2, 2, 3, 2, 3, 2]);
+    let calls = move || {
+        let (mut out, mut proof) = (vec![0; lists.len()], vec![0; 8 * lists.len()]);
+        for format in [Format::Text, Format::Binary] {
+            let thinned = table.simplify_binary(format, &lists, &mut out, &mut proof).unwrap();
+            assert_eq!((thinned.words, thinned.half), (8192, 0));
+            let thinned = table.simplify_binary(format, &crossed, &mut out, &mut proof).unwrap();
+            assert_eq!((thinned.words, thinned.half), (8200, 4));
+        }
+    };
+    Builder::new().stack_size(ENOUGH_FOR_LISTS).spawn(calls).unwrap().join().unwrap();
 }

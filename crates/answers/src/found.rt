@@ -8,8 +8,8 @@ ghost use mathlib.Core.List.{[], _∷_};
 ghost use Rattle.scope.specs.declared.Counts.{Counts};
 ghost use Rattle.var_map.specs.Answers.{gotUser, gotGlobal, gotSolver, gotWord};
 ghost use Rattle.scope.specs.Steps.{flag};
-ghost use Rattle.answers.specs.Surface.{optional};
-ghost use Rattle.answers.specs.Flat.{Numbered};
+ghost use Rattle.numbers.specs.Surface.{optional};
+ghost use Rattle.numbers.specs.Flat.{Numbered};
 
 // Whether there is something, and what.
 #[repr(C)]

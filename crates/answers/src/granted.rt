@@ -3,8 +3,8 @@ use granting::Granted;
 use scope::Counts;
 ghost use mathlib.Core.List.{[], _∷_};
 ghost use Rattle.granting.specs.Answers.{granted};
-ghost use Rattle.answers.specs.Surface.{plain};
-ghost use Rattle.answers.specs.Flat.{Numbered};
+ghost use Rattle.numbers.specs.Surface.{plain};
+ghost use Rattle.numbers.specs.Flat.{Numbered};
 
 #[repr(C)]
 pub struct HzGranted {

@@ -4,8 +4,8 @@ use scope::Counts;
 ghost use mathlib.Core.List.{[], _∷_};
 ghost use Rattle.modes.specs.Answers.{modeSet};
 ghost use Rattle.scope.specs.Steps.{flag};
-ghost use Rattle.answers.specs.Surface.{optional};
-ghost use Rattle.answers.specs.Flat.{Numbered};
+ghost use Rattle.numbers.specs.Surface.{optional};
+ghost use Rattle.numbers.specs.Flat.{Numbered};
 
 // Whether a user was granted, and which.
 #[repr(C)]

@@ -3,8 +3,8 @@ use removal::Removed;
 use scope::Counts;
 ghost use mathlib.Core.List.{[], _∷_};
 ghost use Rattle.removal.specs.Answers.{removed};
-ghost use Rattle.answers.specs.Surface.{plain};
-ghost use Rattle.answers.specs.Flat.{Numbered};
+ghost use Rattle.numbers.specs.Surface.{plain};
+ghost use Rattle.numbers.specs.Flat.{Numbered};
 
 #[repr(C)]
 pub struct HzNoted {

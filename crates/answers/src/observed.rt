@@ -4,8 +4,8 @@ use modes::Observed;
 use scope::Counts;
 ghost use mathlib.Core.List.{[], _∷_};
 ghost use Rattle.modes.specs.Answers.{observed};
-ghost use Rattle.answers.specs.Surface.{plain};
-ghost use Rattle.answers.specs.Flat.{Numbered};
+ghost use Rattle.numbers.specs.Surface.{plain};
+ghost use Rattle.numbers.specs.Flat.{Numbered};
 
 pub fn observed_out(r: Observed, c: Counts) -> HzPosed
     ensures { λ o. ⌜ Numbered (observed r c) (plain 2) (o .refusal ∷ o .filled ∷ o .notes ∷ []) (o .counts) ⌝ }

@@ -3,8 +3,8 @@ use posing::PosedLits;
 use scope::Counts;
 ghost use mathlib.Core.List.{[], _∷_};
 ghost use Rattle.posing.specs.Answers.{posed};
-ghost use Rattle.answers.specs.Surface.{plain};
-ghost use Rattle.answers.specs.Flat.{Numbered};
+ghost use Rattle.numbers.specs.Surface.{plain};
+ghost use Rattle.numbers.specs.Flat.{Numbered};
 
 // How many literals, or users, were filled.
 #[repr(C)]

@@ -12,7 +12,7 @@ use Rattle.drat.specs.Listed.{writeAllOf}
 use Rattle.drat.specs.Filled.{refusing, readOf, firstOf, firstBy, first}
 use Rattle.drat.specs.Reading.{One, got, fault, oneStep}
 use Rattle.numbers.specs.Numbers.{known, unknown, formatFor, kindFor}
-use Rattle.answers.specs.Surface.{located, partOf, measured}
+use Rattle.numbers.specs.Surface.{located, partOf, measured}
 use Rattle.capi.specs.Codec.{noWriting, writeClauseAt, writeProofAt, readAt, firstAt}
 use Rattle.numbers.proofs.NumberLaws.{known-is, unknown-is}
 

@@ -1,4 +1,4 @@
--- Rename, Write and Simplify with a format and a step by number.
+-- Rename, Write, Simplify and Simplify binary with a format and a step by number.
 use Prim.Native.Nat.{ℕ, zero, suc}
 use mathlib.Core.Path.{_≡_, refl, ap, sym, _∙_}
 use mathlib.Core.Bool.{Bool}
@@ -11,11 +11,12 @@ use Rattle.scope.specs.Steps.{stepWords}
 use Rattle.scope.specs.Outcome.{Outcome, refusal, unless}
 use Rattle.scope.specs.Write.{renameOf, writeOf}
 use Rattle.scope.specs.Simplify.{simplifyOf}
+use Rattle.scope.specs.Binary.{binaryOf}
 use Rattle.numbers.specs.declared.HzStep.{HzStep}
 use Rattle.numbers.specs.Numbers.{known, unknown, formatFor}
-use Rattle.answers.specs.Surface.{stepped, Given}
-use Rattle.answers.specs.Flat.{stepless}
-use Rattle.capi.specs.Lines.{stepGiven, renameAt, writeAt, simplifyAt}
+use Rattle.numbers.specs.Surface.{stepped, Given}
+use Rattle.numbers.specs.Flat.{stepless}
+use Rattle.capi.specs.Lines.{stepGiven, renameAt, writeAt, simplifyAt, binaryAt}
 use Rattle.numbers.proofs.NumberLaws.{known-is, unknown-is}
 
 module _ (format : ℕ) (step : HzStep) (t : Table) (solverVars : Bool) (lits hashes : List ℕ) (room : ℕ) where
@@ -51,6 +52,15 @@ module _ (format : ℕ) (t : Table) (lits : List ℕ) (redundant : Bool) (outs r
   pub no-simplify-format : formatFor format ≡ unknown → simplifyAt format t lits redundant outs room ≡ refusal 4294967295 t
   unfolding simplifyAt
   no-simplify-format e = unknown-is _ _ e
+
+module _ (format : ℕ) (t : Table) (lists : List ℕ) (outs room : ℕ) where
+  pub binary-is : {f : Format} → formatFor format ≡ known f → binaryAt format t lists outs room ≡ binaryOf f t lists outs room
+  unfolding binaryAt
+  binary-is e = known-is _ _ e
+
+  pub no-binary-format : formatFor format ≡ unknown → binaryAt format t lists outs room ≡ refusal 4294967295 t
+  unfolding binaryAt
+  no-binary-format e = unknown-is _ _ e
 
 -- with the step's words after the two values
 stepped-numbers : (k : ℕ) (t : Table) (o : Outcome) {p n m a b : ℕ} {ws : List ℕ} → o .answer ≡ accepted (a ∷ b ∷ ws)

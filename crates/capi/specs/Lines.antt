@@ -1,4 +1,4 @@
--- Rename, Write and Simplify with a format and a step by number.
+-- Rename, Write, Simplify and Simplify binary with a format and a step by number.
 use Prim.Native.Nat.{ℕ}
 use mathlib.Core.Bool.{Bool}
 use mathlib.Core.List.{List, []}
@@ -8,6 +8,7 @@ use Rattle.scope.specs.Steps.{stepWords}
 use Rattle.scope.specs.Outcome.{Outcome}
 use Rattle.scope.specs.Write.{renameOf, writeOf}
 use Rattle.scope.specs.Simplify.{simplifyOf}
+use Rattle.scope.specs.Binary.{binaryOf}
 use Rattle.numbers.specs.declared.HzStep.{HzStep}
 use Rattle.numbers.specs.Numbers.{Meaning, known, unknown, forKnown, formatFor, stepFor}
 
@@ -29,3 +30,6 @@ writeAt format step t solverVars lits hashes room =
 
 unfoldable pub simplifyAt : ℕ → Table → List ℕ → Bool → ℕ → ℕ → Outcome
 simplifyAt format t lits redundant outs room = forKnown (formatFor format) t (λ f. simplifyOf f t lits redundant outs room)
+
+unfoldable pub binaryAt : ℕ → Table → List ℕ → ℕ → ℕ → Outcome
+binaryAt format t lists outs room = forKnown (formatFor format) t (λ f. binaryOf f t lists outs room)

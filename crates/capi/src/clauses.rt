@@ -1,6 +1,8 @@
-// Simplify.
-use answers::simplified::HzSimplified;
-use answers::simplified::reduced_out;
+// Simplify, and Simplify binary.
+use line_answers::simplified::HzSimplified;
+use line_answers::simplified::reduced_out;
+use line_answers::thinned::HzThinned;
+use line_answers::thinned::thinned_out;
 use numbers::FormatNumber;
 use numbers::format_in;
 use scope::Counts;
@@ -10,8 +12,8 @@ ghost use lib.ListN.{length};
 ghost use Rattle.base.specs.Lent.{old, new, Fills};
 ghost use Rattle.scope.specs.Contract.{before, quiet};
 ghost use Rattle.scope.specs.Steps.{flag};
-ghost use Rattle.answers.specs.Surface.{plain, Gives};
-ghost use Rattle.capi.specs.Lines.{simplifyAt};
+ghost use Rattle.numbers.specs.Surface.{plain, Gives};
+ghost use Rattle.capi.specs.Lines.{simplifyAt, binaryAt};
 
 // Simplify (1, 3, 8, 12, 2): `simplifyOf`.
 #[no_mangle]
@@ -61,4 +63,38 @@ pub extern "C" fn hz_simplify(
         bytes,
     );
     reduced_out(r)
+}
+
+// Simplify binary (1, 15, 8, 2): `binaryOf`.
+#[no_mangle]
+pub extern "C" fn hz_simplify_binary(
+    c: Counts,
+    gu: &[u32],
+    ug: &[u32],
+    sg: &[u32],
+    gs: &[u32],
+    assignment: &[u32],
+    records: &[u32],
+    format: u32,
+    lists: &[u32],
+    out: &mut [u32],
+    bytes: &mut [u8],
+) -> HzThinned
+    ensures { λ r. ⌜ Gives (λ t room. binaryAt format t (old lists) (length (old out)) (length (old bytes)))
+        (plain 3) (r .refusal ∷ r .words ∷ r .half ∷ r .bytes ∷ []) c (quiet c gu ug sg gs assignment records) ⌝ }
+    ensures out { λ _. ⌜ Fills out 0
+        (binaryAt format (before c gu ug sg gs assignment records) (old lists) (length (old out)) (length (old bytes)) .words) ⌝ }
+    ensures bytes { λ _. ⌜ Fills bytes 0
+        (binaryAt format (before c gu ug sg gs assignment records) (old lists) (length (old out)) (length (old bytes)) .bytes) ⌝ }
+{
+    let FormatNumber::Known(f) = format_in(format) else {
+        return HzThinned {
+            refusal: 0xffffffff,
+            words: 0,
+            half: 0,
+            bytes: 0,
+        };
+    };
+    let r = binary::simplify_binary(c, gu, ug, sg, gs, assignment, records, f, lists, out, bytes);
+    thinned_out(r)
 }

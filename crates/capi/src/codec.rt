@@ -1,10 +1,10 @@
 // The writer of one clause, and the reader.
-use answers::first::HzFirst;
-use answers::first::first_out;
-use answers::reading::HzReading;
-use answers::reading::read_out;
-use answers::written::HzWritten;
-use answers::wrote::wrote_out;
+use line_answers::first::HzFirst;
+use line_answers::first::first_out;
+use line_answers::reading::HzReading;
+use line_answers::reading::read_out;
+use line_answers::written::HzWritten;
+use line_answers::wrote::wrote_out;
 use numbers::FormatNumber;
 use numbers::KindNumber;
 use numbers::format_in;
@@ -13,7 +13,7 @@ ghost use mathlib.Core.Path.{_≡_};
 ghost use mathlib.Core.List.{[], _∷_};
 ghost use lib.ListN.{length, take};
 ghost use Rattle.base.specs.Lent.{old, new, Fills};
-ghost use Rattle.answers.specs.Surface.{plain, located, partOf, measured};
+ghost use Rattle.numbers.specs.Surface.{plain, located, partOf, measured};
 ghost use Rattle.capi.specs.Codec.{writeClauseAt, writeProofAt, readAt, firstAt};
 
 // The clause buf[a..b] as one step from out[at] on (3, 2): `writeOf` of the writer.

@@ -6,7 +6,7 @@ use scope::Global;
 ghost use mathlib.Core.List.{[], _∷_};
 ghost use Rattle.scope.specs.Contract.{lent};
 ghost use Rattle.scope.specs.Grant.{grantOf};
-ghost use Rattle.answers.specs.Surface.{plain, Gives};
+ghost use Rattle.numbers.specs.Surface.{plain, Gives};
 
 // Grant (1, 3, 6, 2): `grantOf`.
 #[no_mangle]

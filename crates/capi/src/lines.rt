@@ -1,8 +1,8 @@
 // Rename and Write.
-use answers::renamed::HzRenamed;
-use answers::renamed::renamed_out;
-use answers::written::HzWritten;
-use answers::written::recorded_out;
+use line_answers::renamed::HzRenamed;
+use line_answers::renamed::renamed_out;
+use line_answers::written::HzWritten;
+use line_answers::written::recorded_out;
 use numbers::FormatNumber;
 use numbers::HzStep;
 use numbers::StepNumber;
@@ -14,7 +14,7 @@ ghost use mathlib.Core.List.{[], _∷_};
 ghost use lib.ListN.{length};
 ghost use Rattle.base.specs.Lent.{old, new, Fills};
 ghost use Rattle.scope.specs.Contract.{before, quiet};
-ghost use Rattle.answers.specs.Surface.{plain, stepped, Gives};
+ghost use Rattle.numbers.specs.Surface.{plain, stepped, Gives};
 ghost use Rattle.capi.specs.Lines.{stepGiven, wordsAt, renameAt, writeAt};
 
 // Rename (1, 14, 3, 8, 2): `renameOf`.

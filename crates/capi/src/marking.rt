@@ -9,7 +9,7 @@ ghost use mathlib.Core.List.{[], _∷_};
 ghost use Rattle.scope.specs.Contract.{quiet};
 ghost use Rattle.scope.specs.Marks.{markOf, assignOf};
 ghost use Rattle.numbers.specs.Numbers.{forKnown, markFor};
-ghost use Rattle.answers.specs.Surface.{plain, Gives};
+ghost use Rattle.numbers.specs.Surface.{plain, Gives};
 
 // Marks (1, 8): `markOf`.
 #[no_mangle]

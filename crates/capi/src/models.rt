@@ -1,6 +1,6 @@
 // Model.
-use answers::modelled::HzModelled;
-use answers::modelled::modelled_out;
+use line_answers::modelled::HzModelled;
+use line_answers::modelled::modelled_out;
 use scope::Counts;
 ghost use mathlib.Core.Path.{_≡_};
 ghost use mathlib.Core.List.{[], _∷_};
@@ -8,7 +8,7 @@ ghost use lib.ListN.{length};
 ghost use Rattle.base.specs.Lent.{old, new, Fills};
 ghost use Rattle.scope.specs.Contract.{before, quiet};
 ghost use Rattle.scope.specs.Models.{modelOf};
-ghost use Rattle.answers.specs.Surface.{plain, Gives};
+ghost use Rattle.numbers.specs.Surface.{plain, Gives};
 
 // Model (1, 2): `modelOf`.
 #[no_mangle]

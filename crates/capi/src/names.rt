@@ -8,7 +8,7 @@ use scope::User;
 ghost use mathlib.Core.List.{[], _∷_};
 ghost use Rattle.scope.specs.Contract.{lent};
 ghost use Rattle.scope.specs.Map.{mapOf, newUserOf};
-ghost use Rattle.answers.specs.Surface.{plain, Gives};
+ghost use Rattle.numbers.specs.Surface.{plain, Gives};
 
 // Map (1, 3, 4, 5, 2): `mapOf`.
 #[no_mangle]

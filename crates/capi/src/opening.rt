@@ -15,7 +15,7 @@ ghost use Rattle.scope.specs.Contract.{quiet};
 ghost use Rattle.scope.specs.Open.{openCounts, openOf};
 ghost use Rattle.scope.specs.Lookup.{globalFromUserOf, userFromGlobalOf, solverFromGlobalOf, globalFromSolverOf, recordWordOf, assignmentWordOf};
 ghost use Rattle.scope.specs.Steps.{flag};
-ghost use Rattle.answers.specs.Surface.{plain, optional, Gives};
+ghost use Rattle.numbers.specs.Surface.{plain, optional, Gives};
 
 // Open (10): `openOf`.
 #[no_mangle]

@@ -6,7 +6,7 @@ use scope::Solver;
 ghost use mathlib.Core.List.{[], _∷_};
 ghost use Rattle.scope.specs.Contract.{lent};
 ghost use Rattle.scope.specs.Remove.{removeOf, sweepOf};
-ghost use Rattle.answers.specs.Surface.{plain, Gives};
+ghost use Rattle.numbers.specs.Surface.{plain, Gives};
 
 // Remove (1, 8, 2): `removeOf`.
 #[no_mangle]

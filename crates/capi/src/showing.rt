@@ -14,7 +14,7 @@ ghost use Rattle.scope.specs.Contract.{before, lent};
 ghost use Rattle.scope.specs.Modes.{setModeOf, observeOf};
 ghost use Rattle.numbers.specs.Numbers.{forKnown, modeFor};
 ghost use Rattle.scope.specs.Steps.{flag};
-ghost use Rattle.answers.specs.Surface.{plain, optional, Gives};
+ghost use Rattle.numbers.specs.Surface.{plain, optional, Gives};
 
 // Set mode (1, 3, 6, 7, 2): `setModeOf`.
 #[no_mangle]

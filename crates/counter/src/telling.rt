@@ -184,7 +184,8 @@ fn meaning(n: u32) {
         11 => text(b", a step kind that DRAT lacks"),
         12 => text(b", fewer than two literals are unknown"),
         13 => text(b", a step is not whole"),
-        _ => text(b", units and hashes differ in number"),
+        14 => text(b", units and hashes differ in number"),
+        _ => text(b", the lists are no sections, or an entry has no mirror"),
     }
 }
 

@@ -1,2 +1,4 @@
 pub mod Numbers
 pub mod Meant
+pub mod Surface
+pub mod Flat

@@ -8,6 +8,7 @@ mod holds;
 mod judge;
 mod memory;
 mod names;
+mod pairs;
 mod parts;
 mod quiet;
 mod say;

@@ -1,8 +1,9 @@
-// The calls that change no table: soundness, Lookup, Simplify, Rename, Write and Model.
+// The calls that change no table: soundness, Lookup, Simplify, Rename, Write and Model; Simplify binary is in pairs.rt.
 use crate::answer::Answer;
 use crate::answer::first;
 use crate::answer::one;
 use crate::answer::three;
+use crate::pairs;
 use crate::parts::BLANK8;
 use crate::parts::BLANK32;
 use crate::parts::BLANK64;
@@ -21,10 +22,6 @@ use crate::parts::given;
 use crate::parts::room;
 use crate::parts::wide;
 use answers::found::HzFound;
-use answers::modelled::HzModelled;
-use answers::renamed::HzRenamed;
-use answers::simplified::HzSimplified;
-use answers::written::HzWritten;
 use capi::clauses::hz_simplify;
 use capi::counts::hz_is_sound;
 use capi::lines::hz_rename;
@@ -36,6 +33,10 @@ use capi::opening::hz_global_from_user;
 use capi::opening::hz_record;
 use capi::opening::hz_solver_from_global;
 use capi::opening::hz_user_from_global;
+use line_answers::modelled::HzModelled;
+use line_answers::renamed::HzRenamed;
+use line_answers::simplified::HzSimplified;
+use line_answers::written::HzWritten;
 use numbers::HzStep;
 use scope::Counts;
 
@@ -248,7 +249,7 @@ fn step(kind: u32, a: u32, b: u32) -> HzStep {
     HzStep { kind, a, b }
 }
 
-// Simplify, Rename or Write.
+// Simplify, Rename, Write or Simplify binary.
 fn proof_line(
     c: Counts,
     gu: &[u32],
@@ -268,6 +269,7 @@ fn proof_line(
             let s = step(arg(line, 0), x, y);
             rename(c, gu, ug, sg, gs, assignment, records, s, line)
         }
+        19 => pairs::simplify_binary(c, gu, ug, sg, gs, assignment, records, line),
         _ => {
             let s = step(x, y, arg(line, 3));
             write(c, gu, ug, sg, gs, assignment, records, s, line)

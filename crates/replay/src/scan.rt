@@ -56,7 +56,8 @@ fn call_of(name: u64) -> u32 {
         0x72656164 => 16, // read
         0x6669727374 => 17, // first
         0x736f756e64 => 18, // sound
-        0x6c6f6164 => 19, // load
+        0x62696e617279 => 19, // binary
+        0x6c6f6164 => 20, // load
         _ => NONE,
     }
 }

@@ -12,7 +12,7 @@ use crate::parts::count;
 use crate::parts::small;
 
 // The line that loads a table.
-pub const LOAD: u32 = 19;
+pub const LOAD: u32 = 20;
 
 fn args_of(call: u32) -> usize {
     match call {
@@ -28,7 +28,7 @@ fn args_of(call: u32) -> usize {
 fn rooms_of(call: u32) -> usize {
     match call {
         1 | 2 | 4 | 5 | 9 | 10 | 13 => 1,
-        3 | 6 | 11 | 12 | 14 => 2,
+        3 | 6 | 11 | 12 | 14 | 19 => 2,
         16 => 3,
         _ => 0,
     }

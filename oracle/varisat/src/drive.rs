@@ -22,6 +22,7 @@ use crate::{
 };
 
 pub mod measure;
+pub mod pairs;
 
 /// The state, coded as document 01 codes it, each list up to its watermark.
 #[derive(Clone, PartialEq, Eq, Debug)]

@@ -10,6 +10,7 @@ pub use super::lit;
 pub use super::Format;
 use super::{forget, var, word_mode, Oracle, State};
 use crate::{
+    binary::simplify_binary,
     clause::{self, ClauseHeader, Tier},
     context::Context,
     drat::{write_binary_step, write_step},
@@ -219,6 +220,17 @@ impl Bare {
             header.set_tier(Tier::Local);
             clause::db::add_clause(self.0.ctx.into_partial_ref_mut(), header, clause);
         }
+    }
+
+    /// Binary clauses, added in turn, in place of those that there were.
+    pub fn set_binary(&mut self, clauses: &[[Lit; 2]]) {
+        self.0.set_binary(clauses);
+    }
+
+    /// `simplify_binary`.
+    #[inline(never)]
+    pub fn simplify_binary(&mut self) {
+        simplify_binary(self.0.ctx.into_partial_ref_mut())
     }
 
     /// `add_step` for an add of solver literals: renamed and written.

@@ -1,7 +1,7 @@
 use mathlib.Core.Path.{refl, ap}
 use Rattle.marks.specs.declared.Changed.{Changed}
 use Rattle.marks.specs.Answers.{changed}
-use Rattle.answers.proofs.SurfaceLaws.{numbered-by}
+use Rattle.numbers.proofs.SurfaceLaws.{numbered-by}
 use borrow.Author.Needs.{needs}
 use Rattle.answers.proofs.changed.changed_out.Statement.{statement}
 use Rattle.answers.proofs.changed.changed_out.Tie as tie

@@ -1,7 +1,7 @@
 use mathlib.Core.Path.{refl, ap}
 use Rattle.var_map.specs.declared.GotSolver.{GotSolver}
 use Rattle.var_map.specs.Answers.{gotSolver}
-use Rattle.answers.proofs.SurfaceLaws.{numbered-by}
+use Rattle.numbers.proofs.SurfaceLaws.{numbered-by}
 use borrow.Author.Needs.{needs}
 use Rattle.answers.proofs.found.solver_out.Statement.{statement}
 use Rattle.answers.proofs.found.solver_out.Tie as tie

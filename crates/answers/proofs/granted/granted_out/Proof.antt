@@ -1,7 +1,7 @@
 use mathlib.Core.Path.{refl, ap}
 use Rattle.granting.specs.declared.Granted.{Granted}
 use Rattle.granting.specs.Answers.{granted}
-use Rattle.answers.proofs.SurfaceLaws.{numbered-by}
+use Rattle.numbers.proofs.SurfaceLaws.{numbered-by}
 use borrow.Author.Needs.{needs}
 use Rattle.answers.proofs.granted.granted_out.Statement.{statement}
 use Rattle.answers.proofs.granted.granted_out.Tie as tie

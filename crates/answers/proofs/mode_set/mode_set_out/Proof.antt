@@ -1,7 +1,7 @@
 use mathlib.Core.Path.{refl, ap}
 use Rattle.modes.specs.declared.ModeSet.{ModeSet}
 use Rattle.modes.specs.Answers.{modeSet}
-use Rattle.answers.proofs.SurfaceLaws.{numbered-by}
+use Rattle.numbers.proofs.SurfaceLaws.{numbered-by}
 use borrow.Author.Needs.{needs}
 use Rattle.answers.proofs.mode_set.mode_set_out.Statement.{statement}
 use Rattle.answers.proofs.mode_set.mode_set_out.Tie as tie

@@ -1,7 +1,7 @@
 use mathlib.Core.Path.{refl, ap}
 use Rattle.naming.specs.declared.NewUser.{NewUser}
 use Rattle.naming.specs.Answers.{newUserMapped}
-use Rattle.answers.proofs.SurfaceLaws.{numbered-by}
+use Rattle.numbers.proofs.SurfaceLaws.{numbered-by}
 use borrow.Author.Needs.{needs}
 use Rattle.answers.proofs.new_mapped.new_mapped_out.Statement.{statement}
 use Rattle.answers.proofs.new_mapped.new_mapped_out.Tie as tie

@@ -1,7 +1,7 @@
 use mathlib.Core.Path.{refl, ap}
 use Rattle.removal.specs.declared.Removed.{Removed}
 use Rattle.removal.specs.Answers.{removed}
-use Rattle.answers.proofs.SurfaceLaws.{numbered-by}
+use Rattle.numbers.proofs.SurfaceLaws.{numbered-by}
 use borrow.Author.Needs.{needs}
 use Rattle.answers.proofs.noted.removed_out.Statement.{statement}
 use Rattle.answers.proofs.noted.removed_out.Tie as tie

@@ -1,7 +1,7 @@
 use mathlib.Core.Path.{refl, ap}
 use Rattle.modes.specs.declared.Observed.{Observed}
 use Rattle.modes.specs.Answers.{observed}
-use Rattle.answers.proofs.SurfaceLaws.{numbered-by}
+use Rattle.numbers.proofs.SurfaceLaws.{numbered-by}
 use borrow.Author.Needs.{needs}
 use Rattle.answers.proofs.observed.observed_out.Statement.{statement}
 use Rattle.answers.proofs.observed.observed_out.Tie as tie

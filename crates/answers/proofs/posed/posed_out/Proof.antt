@@ -1,7 +1,7 @@
 use mathlib.Core.Path.{refl, ap}
 use Rattle.posing.specs.declared.PosedLits.{PosedLits}
 use Rattle.posing.specs.Answers.{posed}
-use Rattle.answers.proofs.SurfaceLaws.{numbered-by}
+use Rattle.numbers.proofs.SurfaceLaws.{numbered-by}
 use borrow.Author.Needs.{needs}
 use Rattle.answers.proofs.posed.posed_out.Statement.{statement}
 use Rattle.answers.proofs.posed.posed_out.Tie as tie

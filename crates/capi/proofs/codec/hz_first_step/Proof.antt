@@ -1,7 +1,7 @@
 use mathlib.Core.Path.{refl, sym, ap, _∙_}
 use Rattle.base.specs.Answer.{Answer}
 use Rattle.numbers.specs.Meant.{meantFormat}
-use Rattle.answers.specs.Surface.{located, partOf, measured}
+use Rattle.numbers.specs.Surface.{located, partOf, measured}
 use Rattle.capi.proofs.CodecLaws.{first-is, no-first-format, first-taken, same-numbers}
 use borrow.Author.Needs.{needs}
 use Rattle.capi.proofs.codec.hz_first_step.Statement.{statement}

@@ -1,7 +1,7 @@
 use mathlib.Core.Path.{refl, sym, ap, _∙_}
 use lib.ListN.{length}
 use Rattle.drat.specs.Writing.{Writing}
-use Rattle.answers.specs.Surface.{plain}
+use Rattle.numbers.specs.Surface.{plain}
 use Rattle.capi.proofs.CodecLaws.{write-clause-is, no-clause-format, no-clause-kind, filled-same, same-numbers}
 use Rattle.numbers.specs.Meant.{meantFormat, meantKind}
 use borrow.Author.Needs.{needs}

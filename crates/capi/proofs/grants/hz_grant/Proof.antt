@@ -1,4 +1,4 @@
-use Rattle.answers.proofs.SurfaceLaws.{numbered-given}
+use Rattle.numbers.proofs.SurfaceLaws.{numbered-given}
 use borrow.Author.Needs.{needs}
 use Rattle.capi.proofs.grants.hz_grant.Statement.{statement}
 use Rattle.capi.proofs.grants.hz_grant.Tie as tie

@@ -6,7 +6,7 @@ use Rattle.numbers.specs.declared.HzStep.{HzStep}
 use Rattle.numbers.specs.Numbers.{known}
 use Rattle.numbers.specs.Meant.{meantStep}
 use Rattle.capi.specs.Lines.{stepGiven, wordsAt}
-use Rattle.answers.proofs.SurfaceLaws.{same-given, quiet-refused, numbered-given}
+use Rattle.numbers.proofs.SurfaceLaws.{same-given, quiet-refused, numbered-given}
 use Rattle.capi.proofs.CodecLaws.{filled-same}
 use Rattle.capi.proofs.LineLaws.{rename-is, no-rename-step, stepped-given}
 use borrow.Author.Needs.{needs}

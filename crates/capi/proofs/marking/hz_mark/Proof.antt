@@ -1,7 +1,7 @@
 use mathlib.Core.Path.{refl, sym, ap, _∙_}
 use Rattle.numbers.specs.Meant.{meantMark}
 use Rattle.numbers.proofs.NumberLaws.{known-is, unknown-is}
-use Rattle.answers.proofs.SurfaceLaws.{same-given, quiet-refused, numbered-given}
+use Rattle.numbers.proofs.SurfaceLaws.{same-given, quiet-refused, numbered-given}
 use borrow.Author.Needs.{needs}
 use Rattle.capi.proofs.marking.hz_mark.Statement.{statement}
 use Rattle.capi.proofs.marking.hz_mark.Tie as tie

@@ -1,4 +1,4 @@
-use Rattle.answers.proofs.SurfaceLaws.{numbered-given}
+use Rattle.numbers.proofs.SurfaceLaws.{numbered-given}
 use borrow.Author.Needs.{needs}
 use Rattle.capi.proofs.opening.hz_global_from_solver.Statement.{statement}
 use Rattle.capi.proofs.opening.hz_global_from_solver.Tie as tie

@@ -1,4 +1,4 @@
-use Rattle.answers.proofs.SurfaceLaws.{numbered-given}
+use Rattle.numbers.proofs.SurfaceLaws.{numbered-given}
 use borrow.Author.Needs.{needs}
 use Rattle.capi.proofs.removing.hz_remove.Statement.{statement}
 use Rattle.capi.proofs.removing.hz_remove.Tie as tie

@@ -1,7 +1,7 @@
 use mathlib.Core.Path.{refl, sym, ap, _∙_}
 use Rattle.numbers.specs.Meant.{meantMode}
 use Rattle.numbers.proofs.NumberLaws.{known-is, unknown-is}
-use Rattle.answers.proofs.SurfaceLaws.{same-given, refused-given, numbered-given}
+use Rattle.numbers.proofs.SurfaceLaws.{same-given, refused-given, numbered-given}
 use borrow.Author.Needs.{needs}
 use Rattle.capi.proofs.showing.hz_set_mode.Statement.{statement}
 use Rattle.capi.proofs.showing.hz_set_mode.Tie as tie

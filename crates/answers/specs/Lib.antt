@@ -1,2 +1,0 @@
-pub mod Surface
-pub mod Flat

@@ -1,0 +1,5 @@
+pub mod RowLaws
+pub mod EachLaws
+pub mod AnswerLaws
+pub mod ThinLaws
+pub mod NamedLaws

@@ -1,0 +1,9 @@
+// The answers of the C surface on clauses, proofs and models: flat structs. How their contracts read: crates/numbers/specs/Flat.antt and Surface.antt.
+pub mod first;
+pub mod modelled;
+pub mod reading;
+pub mod renamed;
+pub mod simplified;
+pub mod thinned;
+pub mod written;
+pub mod wrote;
