@@ -189,7 +189,7 @@ binaries-hold : AnchorsAgree binaries
 unfolding allBelow everyOf anyOf keepOf word isShown soundb sizesb marksb atMostb tailb backb namedb deletedb tailsb pairsb notesWords unless notHeld
     unheld litsHeldElse spell further bytesOf number numbers encodeStep encode renameLits cutsb sectionsOf eachSection times hasMirror mirrored keptAt
     deletesAt sectionsFor filledCodes keptWords keptCount deleteBytes binaryRefusal binaryOf
-binaries-hold = (refl, (refl, (refl, (refl, (refl, (refl, (refl, (refl, (refl, (refl, (refl, (refl, (refl, (refl, (refl, (refl, (refl, (refl, (refl, (refl, (refl, (refl, (refl, (refl, (refl, (refl, (refl, (refl, (refl, (refl, (refl, (refl, tt))))))))))))))))))))))))))))))))
+binaries-hold = (refl, (refl, (refl, (refl, (refl, (refl, (refl, (refl, (refl, (refl, (refl, (refl, (refl, (refl, (refl, (refl, (refl, (refl, (refl, (refl, (refl, (refl, (refl, (refl, (refl, (refl, (refl, (refl, (refl, (refl, (refl, (refl, (refl, (refl, tt))))))))))))))))))))))))))))))))))
 
 pub anchored : AnchorsAgree literalAnchors × AnchorsAgree recordParts × AnchorsAgree everyPart × AnchorsAgree noteRows × AnchorsAgree heldRows
     × AnchorsAgree sounds × AnchorsAgree openAnchors × AnchorsAgree lookups × AnchorsAgree mapAnswers × AnchorsAgree maps

@@ -31,8 +31,9 @@ binaries =
     ∷ does (binaryOf Text held4 (empties 9) 9 99) is turns 15 held4
     ∷ does (binaryOf Text held4 (empties 7 ++ w1 1) 9 99) is turns 15 held4
     ∷ does (binaryOf Text held4 (empties 7 ++ w2 4294967295 0) 9 99) is turns 15 held4
-    -- an entry without its mirror; with it, but not as often; at the number of sections
+    -- an entry without its mirror, in a lower section or the last; with it, but not as often; at the number of sections
     ∷ does (binaryOf Text held4 (w3 0 1 6 ++ empties 6) 99 99) is turns 15 held4
+    ∷ does (binaryOf Text held4 (empties 7 ++ w2 1 0) 99 99) is turns 15 held4
     ∷ does (binaryOf Text held4 (w4 0 2 6 6 ++ (empties 5 ++ w2 1 0)) 99 99) is turns 15 held4
     ∷ does (binaryOf Text held4 (w2 1 8 ++ empties 7) 99 99) is turns 15 held4
     -- 15 before 8; 8 before 2; 8 for the first index of a clause, for the second, also where the clause stays; an empty section of an index that is not held
@@ -41,8 +42,9 @@ binaries =
     ∷ does (binaryOf Text holed (w3 0 1 2 ++ w3 0 1 0) 99 99) is turns 8 holed
     ∷ does (binaryOf Text holed1 (w3 0 1 2 ++ w3 0 1 0) 9 99) is turns 8 holed1
     ∷ does (binaryOf Text holed (w2 0 0 ++ w3 1 3 0) 5 0) is writes (w3 5 0 0) holed (w2 0 0 ++ w3 1 3 0) [] []
-    -- 2 for the words, and for the bytes
+    -- 2 for the words, the counts alone or an entry more, and for the bytes
     ∷ does (binaryOf Text held4 (empties 8) 7 0) is turns 2 held4
+    ∷ does (binaryOf Text held4 (w3 0 1 6 ++ (empties 5 ++ w2 1 0)) 9 0) is turns 2 held4
     ∷ does (binaryOf Text held4 (w3 0 1 2 ++ w3 0 1 0 ++ empties 4) 8 7) is turns 2 held4
     ∷ does (binaryOf Binary held4 (w3 0 1 2 ++ w3 0 1 0 ++ empties 4) 8 3) is turns 2 held4
     -- no section; no entry
