@@ -100,6 +100,27 @@ static void thinning(void) {
     expect(cut.refusal == HZ_BAD_LISTS && cut.words == 0 && cut.half == 0 && cut.bytes == 0);
 }
 
+/* An assumption names the index of box 3: it may not be removed, and a line about it is still written. Then the assumption is taken back. */
+static void assuming(void) {
+    hz_changed assumed = hz_mark(c, TABLE, HZ_ASSUME, 2);
+    expect(assumed.refusal == HZ_ACCEPTED);
+    c = assumed.counts;
+
+    hz_noted kept = hz_remove(c, TABLE, 2, NOTES);
+    expect(kept.refusal == HZ_STILL_ASSUMED && kept.notes == 0 && kept.counts.solver == c.solver && gs[2] == 4);
+    expect(hz_remove(c, TABLE, 2, notes, 0).refusal == HZ_STILL_ASSUMED);
+    const hz_step step = {HZ_AT_CLAUSE, 0, 0};
+    const uint32_t unit[1] = {NEG(2)};
+    const uint64_t no_hashes[1] = {0};
+    uint8_t line[8];
+    hz_written text = hz_write(c, TABLE, HZ_TEXT, step, true, unit, 1, no_hashes, 0, line, sizeof line);
+    expect(text.refusal == HZ_ACCEPTED && text.bytes == 5 && memcmp(line, "-4 0\n", 5) == 0);
+
+    hz_changed released = hz_mark(c, TABLE, HZ_RELEASE, 2);
+    expect(released.refusal == HZ_ACCEPTED);
+    c = released.counts;
+}
+
 /* Box 1 is hidden; box 3 is in use and stays through the sweep. A line about the index that box 2 has given back is then refused. */
 static void sweeping(uint8_t *proof, size_t room) {
     hz_mode_set hidden = hz_set_mode(c, TABLE, 1, HZ_HIDE, NOTES);
@@ -167,6 +188,7 @@ int main(void) {
     naming(clause);
     size_t length = proving(clause, proof, sizeof proof);
     thinning();
+    assuming();
     sweeping(proof, sizeof proof);
     reading(proof, length);
     modelling();

@@ -46,7 +46,8 @@ enum hz_refusal {
     HZ_FEW_UNKNOWN = 12,     /* no literal is true, some are false, and fewer than two are unknown */
     HZ_BROKEN_PROOF = 13,    /* a step is not whole */
     HZ_UNMATCHED = 14,       /* units and hashes differ in number */
-    HZ_BAD_LISTS = 15        /* the lists are not one section for each literal code, or an entry has no mirror */
+    HZ_BAD_LISTS = 15,       /* the lists are not one section for each literal code, or an entry has no mirror */
+    HZ_STILL_ASSUMED = 16    /* the global that holds the solver index is assumed */
 };
 
 /* A number for a mode, a mark, a format, a step kind, a cause or the kind of one clause that stands for none. Nothing is done. */
@@ -236,7 +237,7 @@ hz_posed hz_observe(hz_counts c, HZ_TABLE, uint32_t *out, size_t out_len, HZ_NOT
 hz_changed hz_mark(hz_counts c, HZ_TABLE, uint32_t mark, uint32_t solver);
 hz_changed hz_assign(hz_counts c, HZ_TABLE, uint32_t lit);
 
-/* Remove a solver index: 1, 8, 2. Sweep: 1, 2. */
+/* Remove a solver index, unless its global is assumed: 1, 8, 16, 2. Sweep: 1, 2. */
 hz_noted hz_remove(hz_counts c, HZ_TABLE, uint32_t solver, HZ_NOTES);
 hz_noted hz_sweep(hz_counts c, HZ_TABLE, HZ_NOTES);
 

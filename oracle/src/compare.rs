@@ -9,10 +9,16 @@ use crate::random::{self, Rng, Style};
 use crate::reading::{Outcome, Table};
 use varisat_unchanged::drive::{self, pairs::additions, Oracle};
 
+/// Refusals are numbered up to 16; 0 is none.
+const REFUSALS: usize = 17;
+
+/// The place of Remove among the kinds of calls.
+const REMOVE: usize = 9;
+
 /// How many calls of each kind were answered with each refusal, 0 being accepted.
 #[derive(Default)]
 pub struct Tally {
-    pub by: [[u64; 16]; 16],
+    pub by: [[u64; REFUSALS]; 16],
     pub sessions: u64,
     pub calls: u64,
     /// Accepted calls that varisat's functions answered too.
@@ -27,7 +33,7 @@ impl Tally {
         println!(
             "{:<10}{}",
             "",
-            (0..16).map(|n| format!("{:>9}", if n == 0 { "accepted".into() } else { n.to_string() })).collect::<String>()
+            (0..REFUSALS).map(|n| format!("{:>9}", if n == 0 { "accepted".into() } else { n.to_string() })).collect::<String>()
         );
         for (kind, row) in KINDS.iter().zip(&self.by) {
             let cells: String = row.iter().map(|&n| if n == 0 { format!("{:>9}", "") } else { format!("{:>9}", n) }).collect();
@@ -35,7 +41,12 @@ impl Tally {
         }
     }
 
-    /// Refusals that document 01 lists for a call of which there was none.
+    /// Removals refused since the index belongs to an assumed global.
+    pub fn kept_assumed(&self) -> u64 {
+        self.by[REMOVE][16]
+    }
+
+    /// Refusals that documents 01 and 02 list for a call of which there was none.
     pub fn missing(&self) -> Vec<String> {
         const LISTED: [&[usize]; 16] = [
             &[1],
@@ -47,7 +58,7 @@ impl Tally {
             &[1, 2, 7],
             &[1, 8],
             &[1, 8, 9],
-            &[1, 2, 8],
+            &[1, 2, 8, 16],
             &[1, 2],
             &[1, 2, 3, 8, 12],
             &[1, 2, 3, 8, 14],
@@ -62,7 +73,7 @@ impl Tally {
                     missing.push(format!("{} {}", KINDS[kind], n));
                 }
             }
-            for n in 1..16 {
+            for n in 1..REFUSALS {
                 if self.by[kind][n] != 0 && !listed.contains(&n) {
                     missing.push(format!("{} answered {}", KINDS[kind], n));
                 }
@@ -124,6 +135,8 @@ impl Session {
         Ok(want)
     }
 
+    /// Varisat's own functions answer accepted calls here, and by `panics` some refused ones. A removal refused with 16 is among neither: varisat
+    /// would make it.
     fn accepted(&mut self, call: &Call, want: &Outcome, tally: &mut Tally) -> Result<(), String> {
         let Some(rust) = &mut self.rust else {
             return Ok(());
@@ -255,7 +268,8 @@ pub fn random_session(
     Ok(())
 }
 
-/// Refused calls on which varisat's own functions panic, with its debug assertions on; on others it goes on (docs/DIFFERENCES.md).
+/// Refused calls on which varisat's own functions panic, with its debug assertions on; on others it goes on (docs/DIFFERENCES.md), as on a removal
+/// refused with 16.
 fn must_panic(call: &Call, refusal: u32) -> bool {
     match (call, refusal) {
         (Call::Map { .. } | Call::Pose { .. }, 4) => true,

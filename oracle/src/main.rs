@@ -97,6 +97,10 @@ fn main() {
         "{} calls, {} of them answered by varisat too, {} panics of varisat on refused calls",
         tally.calls, tally.compared, tally.panics
     );
+    println!(
+        "{} removals of assumed indices, all refused (16): varisat would make them and is not run on them",
+        tally.kept_assumed()
+    );
     let sides = if cfg!(feature = "library") { "document 01, varisat and the library" } else { "document 01 and varisat" };
     match verdict {
         Ok(()) => println!("{} agree: 0 disagreements ({:.0} s)", sides, began.elapsed().as_secs_f64()),

@@ -1,5 +1,5 @@
-//! Calls that stand in every recorded list, whatever the seed: each sees a departure from document 01 that random calls meet rarely or not.
-use crate::call::{Call, Cause, ProofStep, ASKED};
+//! Calls that stand in every recorded list, whatever the seed: each sees a departure from documents 01 and 02 that random calls meet rarely or not.
+use crate::call::{Call, Cause, Mark, ProofStep, ASKED};
 use crate::reading::{binary::words, Table};
 
 /// A sound table of capacity 4: user 0 and solver index 1 at global 0; solver index 0, which is true, at global 1, which is hidden; global 2
@@ -119,6 +119,33 @@ pub fn renamings() -> Vec<Call> {
     calls.extend(hashed.map(|step| rename(step, &lits, &hashes, 1)));
     calls.push(rename(ProofStep::FailedAssumptions, &lits[..1], &[7, 8, 9], 3));
     calls.push(rename(ProofStep::FailedAssumptions, &[], &[7], 1));
+    calls
+}
+
+/// On the base table: calls that change names with a word or a user too few, and then with just enough.
+pub fn rooms() -> Vec<Call> {
+    let map = |room| Call::Map { user: 1, sampling: false, room };
+    let observe = |outs, room| Call::Observe { outs, room };
+    let grant = |room| Call::Grant { global: 2, room };
+    let mut calls = vec![map(2), map(3), observe(0, 6), observe(1, 5), observe(1, 6), grant(2), grant(3)];
+    calls.extend([2, 3].map(|room| Call::NewUser { room }));
+    calls
+}
+
+/// On the base table solver index 0 is held by global 1, which is hidden, and 1 by global 0. With mode Hide index 0 is assumed, with the other modes
+/// index 1, its global set to the mode first. The assumed index stays, with room or without, before a sweep and after it, and goes once it is
+/// released; the other goes meanwhile.
+pub fn removals(mode: u32) -> Vec<Call> {
+    let (assumed, other) = if mode == 2 { (0, 1) } else { (1, 0) };
+    let remove = |solver, room| Call::Remove { solver, room };
+    let mark = |mark| Call::Mark { mark, solver: assumed };
+    let mut calls = vec![];
+    if mode != 2 {
+        calls.push(Call::SetMode { global: 0, mode, room: 3 });
+    }
+    calls.extend([mark(Mark::Assumed), remove(assumed, 6), remove(assumed, 0), remove(other, 2), remove(2, 6), remove(4, 6)]);
+    calls.extend([remove(other, 3), remove(other, 6), Call::Sweep { room: 6 }, remove(assumed, 6), mark(Mark::Released)]);
+    calls.extend([remove(assumed, 2), remove(assumed, 6), remove(assumed, 6)]);
     calls
 }
 

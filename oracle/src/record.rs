@@ -287,7 +287,8 @@ impl Record {
     }
 
     /// What random calls meet rarely: each clause of soundness broken by itself, with every Lookup; every outcome of Simplify, redundant and
-    /// not; every kind of step renamed, with hashes; lists of binary clauses.
+    /// not; every kind of step renamed, with hashes; names with too little room; removals of an assumed index and of others; lists of binary
+    /// clauses.
     fn pinned(&mut self) -> Verdict<()> {
         for (n, table) in (0..).zip(pinned::broken().into_iter().chain(pinned::deleted())) {
             self.on(Format::Text, &table, &pinned::lookups(n))?;
@@ -296,6 +297,10 @@ impl Record {
             self.on(format, &Table::empty(4), &pinned::simplifications())?;
         }
         self.on(Format::Text, &pinned::base(), &pinned::renamings())?;
+        self.on(Format::Text, &pinned::base(), &pinned::rooms())?;
+        for mode in 0..3 {
+            self.on(Format::Text, &pinned::base(), &pinned::removals(mode))?;
+        }
         self.on(Format::Text, &Table::empty(1), &pinned::no_sections())?;
         for format in [Format::Text, Format::Binary] {
             self.on(format, &Table::empty(4), &pinned::binaries())?;
@@ -347,7 +352,7 @@ impl Record {
         self.text.push_str(&line.put([format as u32]).some("proof", bytes).part("gives", [refusal, 0, length]).end());
     }
 
-    /// What document 01 names and the list lacks.
+    /// What documents 01 and 02 name and the list lacks.
     fn missing(&self) -> Vec<String> {
         let mut missing = self.tally.missing();
         for (name, by, listed) in
@@ -372,7 +377,7 @@ fn memory(rng: &mut Rng, capacity: u32) -> Table {
     t
 }
 
-/// The list, from a seed. It fails where two sides disagree or where a call or a refusal of document 01 does not occur.
+/// The list, from a seed. It fails where two sides disagree or where a call or a refusal of documents 01 and 02 does not occur.
 pub fn list(seed: u64) -> Verdict<Record> {
     let mut rng = Rng::new(seed);
     let mut record = Record::default();

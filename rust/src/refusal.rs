@@ -35,6 +35,8 @@ pub enum Refusal {
     Unmatched,
     /// 15: the lists of binary clauses are not one section for each literal code, or an entry has no mirror.
     BadLists,
+    /// 16: the global that holds the solver index is assumed.
+    StillAssumed,
     /// A number that this crate does not know.
     Other(u32),
 }
@@ -59,6 +61,7 @@ impl Refusal {
             13 => Refusal::BrokenProof(place),
             14 => Refusal::Unmatched,
             15 => Refusal::BadLists,
+            16 => Refusal::StillAssumed,
             other => Refusal::Other(other),
         })
     }
@@ -81,6 +84,7 @@ impl Refusal {
             Refusal::BrokenProof(_) => 13,
             Refusal::Unmatched => 14,
             Refusal::BadLists => 15,
+            Refusal::StillAssumed => 16,
             Refusal::Other(number) => number,
         }
     }
@@ -103,6 +107,7 @@ impl Refusal {
             Refusal::BrokenProof(_) => "a step of the proof is not whole",
             Refusal::Unmatched => "units and hashes differ in number",
             Refusal::BadLists => "the lists are not one section for each literal code, or an entry has no mirror",
+            Refusal::StillAssumed => "the global that holds the solver index is assumed",
             Refusal::Other(_) => "a number that this crate does not know",
         }
     }

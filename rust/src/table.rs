@@ -376,7 +376,7 @@ impl Table {
         self.took(answer.refusal, answer.counts)
     }
 
-    /// Takes a solver index from its global. Refusals: 1, 8, 2.
+    /// Takes a solver index from its global, which may not be assumed: [`Mark::Released`] comes first. Refusals: 1, 8, 16, 2.
     ///
     /// To lend: one note, two if the global is then deleted.
     pub fn remove(&mut self, solver: Solver, notes: &mut Notes) -> Result<(), Refusal> {

@@ -53,6 +53,35 @@ fn indices() {
     assert!(notes.is_empty());
 }
 
+/// An assumed global keeps its solver index, whatever its mode, whatever is lent; a line about it is still written. Released, the index goes.
+#[test]
+fn assumed_indices() {
+    for mode in [Mode::Sample, Mode::Witness, Mode::Hide] {
+        let mut table = table();
+        let mut notes = table.notes();
+        table.set_mode(Global(2), mode, &mut notes).unwrap();
+        table.mark(Mark::Assumed, Solver(0)).unwrap();
+        let before = table.clone();
+        notes = table.notes();
+        assert_eq!(table.remove(Solver(0), &mut notes), Err(Refusal::StillAssumed));
+        assert_eq!(table.remove(Solver(0), &mut Notes::with_words(0)), Err(Refusal::StillAssumed));
+        assert_eq!(table.remove(Solver(1), &mut notes), Err(Refusal::NotHeld));
+        assert_eq!(table.set_mode(Global(2), Mode::Hide, &mut notes), Err(Refusal::Assumed));
+        table.sweep(&mut notes).unwrap();
+        assert!(notes.is_empty());
+        assert_eq!(table, before);
+        let lits = [Lit::negative(Solver(0))];
+        let mut line = [0; 5];
+        assert_eq!(table.write(Format::Text, Step::AtClause(false), Lits::Solver(&lits), &[], &mut line), Ok(5));
+        assert_eq!(&line, b"-3 0\n");
+        table.mark(Mark::Released, Solver(0)).unwrap();
+        table.remove(Solver(0), &mut notes).unwrap();
+        assert_eq!(table.global_from_solver(Solver(0)), Ok(None));
+    }
+    let said = Refusal::StillAssumed.to_string();
+    assert_eq!(said, "refusal 16: the global that holds the solver index is assumed");
+}
+
 #[test]
 fn many_literals() {
     let mut table = table();

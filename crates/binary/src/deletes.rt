@@ -30,7 +30,8 @@ pub(crate) fn any_unheld(gs: &[u32], place: &[usize], n: usize) -> bool
     let mut l: usize = 0;
     while l < n {
         if place[l] + 1 < place[l + 1] {
-            let FoundGlobal::At(_) = holder(gs, Solver(l as u32 / 2)) else {
+            let index = l as u32 / 2;
+            let FoundGlobal::At(_) = holder(gs, Solver(index)) else {
                 return true;
             };
         }

@@ -8,7 +8,7 @@ ghost use Rattle.scope.specs.Contract.{lent};
 ghost use Rattle.scope.specs.Remove.{removeOf, sweepOf};
 ghost use Rattle.numbers.specs.Surface.{plain, Gives};
 
-// Remove (1, 8, 2): `removeOf`.
+// Remove (1, 8, 16, 2): `removeOf`.
 #[no_mangle]
 pub extern "C" fn hz_remove(
     c: Counts,

@@ -361,7 +361,7 @@ fn whole_day() {
         &mut records,
         &mut proof,
         0,
-        39,
+        40,
     );
     finish(d, &gu, &ug, &sg, &gs, &assignment, &records, &proof);
 }

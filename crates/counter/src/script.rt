@@ -97,7 +97,7 @@ fn morning(n: u32) -> Call {
     }
 }
 
-// Three boxes are posed and in use; case 12; one is hidden, one is settled, and its clause becomes shorter.
+// Three boxes are posed and in use; case 12; the assumed one may not be removed; one is hidden, one is settled, and its clause becomes shorter.
 fn noon(n: u32) -> Call {
     match n {
         13 => Call::Pose(three(P0, P1, N2)),
@@ -107,10 +107,11 @@ fn noon(n: u32) -> Call {
         17 => sample(0),
         18 => marked(Mark::Assumed, 1),
         19 => sample(0),
-        20 => marked(Mark::Released, 1),
-        21 => hide(1),
-        22 => Call::Hold(Holding::Assign(P3)),
-        23 => Call::Hold(Holding::Assign(N3)),
+        20 => Call::Hold(Holding::Remove(Solver(1))),
+        21 => marked(Mark::Released, 1),
+        22 => hide(1),
+        23 => Call::Hold(Holding::Assign(P3)),
+        24 => Call::Hold(Holding::Assign(N3)),
         _ => Call::Write(Writing::Simplify, three(P1, P2, N3)),
     }
 }
@@ -118,19 +119,19 @@ fn noon(n: u32) -> Call {
 // The settled box is swept, its solver index and its user's name go to others, and steps are written under the new names.
 fn evening(n: u32) -> Call {
     match n {
-        25 => Call::Hold(Holding::Sweep),
-        26 => Call::Write(Writing::Add, pair(P3, P1)),
-        27 => Call::Name(Naming::New),
-        28 => Call::Hold(Holding::Grant(Global(4))),
-        29 => Call::Write(Writing::Rename, pair(N0, P2)),
-        30 => Call::Write(Writing::Add, pair(N0, P2)),
-        31 => Call::Hold(Holding::Assign(P1)),
-        32 => Call::Write(Writing::Simplify, pair(P1, P2)),
-        33 => Call::Hold(Holding::Assign(N0)),
-        34 => Call::Write(Writing::Simplify, pair(N0, P2)),
-        35 => Call::Hold(Holding::Remove(Solver(2))),
-        36 => Call::Hold(Holding::Sweep),
-        37 => Call::Name(Naming::Observe),
+        26 => Call::Hold(Holding::Sweep),
+        27 => Call::Write(Writing::Add, pair(P3, P1)),
+        28 => Call::Name(Naming::New),
+        29 => Call::Hold(Holding::Grant(Global(4))),
+        30 => Call::Write(Writing::Rename, pair(N0, P2)),
+        31 => Call::Write(Writing::Add, pair(N0, P2)),
+        32 => Call::Hold(Holding::Assign(P1)),
+        33 => Call::Write(Writing::Simplify, pair(P1, P2)),
+        34 => Call::Hold(Holding::Assign(N0)),
+        35 => Call::Write(Writing::Simplify, pair(N0, P2)),
+        36 => Call::Hold(Holding::Remove(Solver(2))),
+        37 => Call::Hold(Holding::Sweep),
+        38 => Call::Name(Naming::Observe),
         _ => Call::Pose(unit(P3)),
     }
 }
@@ -145,12 +146,12 @@ fn small(n: u32) -> Call {
     }
 }
 
-// Calls 0 to 38 are the day's, 40 to 43 those at capacity 2.
+// Calls 0 to 39 are the day's, 40 to 43 those at capacity 2.
 pub fn call_at(n: u32) -> Call {
     if n < 13 {
         return morning(n);
     }
-    if n < 25 {
+    if n < 26 {
         return noon(n);
     }
     if n < 40 {

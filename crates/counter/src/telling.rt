@@ -185,7 +185,8 @@ fn meaning(n: u32) {
         12 => text(b", fewer than two literals are unknown"),
         13 => text(b", a step is not whole"),
         14 => text(b", units and hashes differ in number"),
-        _ => text(b", the lists are no sections, or an entry has no mirror"),
+        15 => text(b", the lists are no sections, or an entry has no mirror"),
+        _ => text(b", the global that holds the solver index is assumed"),
     }
 }
 

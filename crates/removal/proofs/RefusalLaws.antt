@@ -8,7 +8,7 @@ use lib.Dec.{eqb}
 use lib.ListN.{length, getD}
 use borrow.Author.Tests.{eq-eqb, ne-eqb, lt-ltb, le-ltb}
 use Rattle.scope.specs.declared.Global.{Global}
-use Rattle.scope.specs.Table.{Table}
+use Rattle.scope.specs.Table.{Table, assumedOf, recordOf}
 use Rattle.scope.specs.Sound.{soundb}
 use Rattle.scope.specs.Outcome.{Result}
 use Rattle.scope.specs.Marks.{notHeld, heldElse, holderOf}
@@ -35,6 +35,15 @@ module _ (t : Table) (s : ℕ) (g : Global) (e : At g ≡ foundGlobal (getD (t .
       → Holding (t .userFromGlobal) (t .solverFromGlobal) (t .globalFromSolver) (t .assignment) (t .records) (g .0) s
   remove-holding y = holding-of t (sound-of t y) s (g .0) (global-word _ (At g) e)
 
+  -- the words of the global are there; so is the record of the index's own number, so that a program that reads this one is refused for its answer
+  pub remove-reads : soundb t ≡ true → (g .0 < length (t .userFromGlobal)) × (g .0 < length (t .records)) × (s < length (t .records))
+  remove-reads y =
+      let h = remove-holding y in
+      let l = h .live in
+      let k = h .solver in
+      let z = sound-of t y .sizes in
+      (l .user, l .words, omega arith)
+
 module _ (t : Table) (s room : ℕ) where
   pub remove-1 : soundb t ≡ false → 1 ≡ removeRefusal t s room
   unfolding removeRefusal
@@ -55,10 +64,26 @@ module _ (t : Table) (s room : ℕ) where
       held : eqb (getD (t .globalFromSolver) s 0) 0 ≡ false
       held = let q = global-word _ (At g) e in ne-eqb (getD (t .globalFromSolver) s 0) 0 (λ z. omega arith)
 
-      pub remove-2 : (n : ℕ) → n ≡ removalNotes (getD (t .userFromGlobal) (g .0) 0) (getD (t .records) (g .0) 0) → room < 3 * n → 2 ≡ removeRefusal t s room
-      unfolding removeRefusal notHeld
-      remove-2 n q l = let k = count in rw y (sym (held-else t s _ held ∙ rw (lt-ltb room (3 * length (remove s t .notes)) (omega arith))))
+      -- the record that the code reads is that of the holder
+      read : getD (t .records) (g .0) 0 ≡ recordOf t (holderOf t s)
+      read =
+          let q = global-word _ (At g) e in
+          let z : g .0 ≡ holderOf t s = omega arith in
+          record-read t (g .0) (remove-holding t s g e y .live .words) ∙ ap (recordOf t) z
 
-      pub remove-0 : (n : ℕ) → n ≡ removalNotes (getD (t .userFromGlobal) (g .0) 0) (getD (t .records) (g .0) 0) → 3 * n ≤ room → 0 ≡ removeRefusal t s room
+      pub remove-16 : eqb (assumedOf (getD (t .records) (g .0) 0)) 1 ≡ true → 16 ≡ removeRefusal t s room
       unfolding removeRefusal notHeld
-      remove-0 n q l = let k = count in rw y (sym (held-else t s _ held ∙ rw (le-ltb room (3 * length (remove s t .notes)) (omega arith))))
+      remove-16 a = rw y (sym (held-else t s _ held ∙ rw (← read, a)))
+
+      module _ (a : eqb (assumedOf (getD (t .records) (g .0) 0)) 1 ≡ false) (n : ℕ)
+          (q : n ≡ removalNotes (getD (t .userFromGlobal) (g .0) 0) (getD (t .records) (g .0) 0)) where
+        unassumed : eqb (assumedOf (recordOf t (holderOf t s))) 1 ≡ false
+        unassumed = rw (← read) a
+
+        pub remove-2 : room < 3 * n → 2 ≡ removeRefusal t s room
+        unfolding removeRefusal notHeld
+        remove-2 l = let k = count in rw y (sym (held-else t s _ held ∙ rw (unassumed, lt-ltb room (3 * length (remove s t .notes)) (omega arith))))
+
+        pub remove-0 : 3 * n ≤ room → 0 ≡ removeRefusal t s room
+        unfolding removeRefusal notHeld
+        remove-0 l = let k = count in rw y (sym (held-else t s _ held ∙ rw (unassumed, le-ltb room (3 * length (remove s t .notes)) (omega arith))))

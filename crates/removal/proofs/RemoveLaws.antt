@@ -4,18 +4,18 @@ use mathlib.Core.Path.{_≡_, refl, sym, ap, _∙_, subst}
 use mathlib.Core.Bool.{true, not}
 use mathlib.Core.List.{List, [], _∷_}
 use native.Mathlib.Omega.{arith}
-use lib.Dec.{ltb}
+use lib.Dec.{eqb, ltb}
 use lib.ListN.{length, getD, set, length-set}
 use lib.Seq.{sets}
 use borrow.Author.Tests.{eqb-false, ltb-false, not-false}
 use Rattle.scope.specs.declared.Counts.{Counts}
 use Rattle.scope.specs.declared.Global.{Global}
-use Rattle.scope.specs.Table.{Table, tableOf, recordOf, freshRecord, takeSolver}
+use Rattle.scope.specs.Table.{Table, tableOf, recordOf, assumedOf, freshRecord, takeSolver}
 use Rattle.scope.specs.Sound.{soundb}
 use Rattle.scope.specs.Notes.{solver-, notesWords}
 use Rattle.scope.specs.Outcome.{Result}
 use Rattle.scope.specs.Modes.{deleteIfUnused}
-use Rattle.scope.specs.Marks.{notHeld}
+use Rattle.scope.specs.Marks.{notHeld, holderOf}
 use Rattle.scope.specs.Remove.{removeHeld, remove, removeRefusal, removeOf}
 use Rattle.scope.specs.Contract.{Does}
 use Rattle.table.specs.Found.{foundGlobal}
@@ -92,7 +92,8 @@ unfolding removeRefusal notHeld
 removable t s room n e z =
     let a = past (not (soundb t)) 1 _ (omega arith) (sym e ∙ z) in
     let b = held-past t s _ (a .1) in
-    let k = past (ltb room (3 * length (remove s t .notes))) 2 0 (omega arith) (b .1) in
+    let c = past (eqb (assumedOf (recordOf t (holderOf t s))) 1) 16 _ (omega arith) (b .1) in
+    let k = past (ltb room (3 * length (remove s t .notes))) 2 0 (omega arith) (c .1) in
     record { sound = not-false (soundb t) (a .0); held = eqb-false _ _ (b .0); words = ltb-false _ _ (k .0) }
 
 module _ (t : Table) (s room : ℕ) (h : Removable t s room) where

@@ -80,15 +80,20 @@ fn remove_refusal(
     let FoundGlobal::At(global) = holder(gs, solver) else {
         return held_refusal(gs, solver);
     };
-    let g = global.0 as usize;
-    let n = removal_notes(ug[g], records[g]) as usize;
-    if room < 3 * n {
+    let user = ug[global.0 as usize];
+    let w = records[global.0 as usize];
+    let words = 3 * removal_notes(user, w) as usize;
+    let assumed = w / 18 % 2 == 1;
+    if assumed {
+        return 16;
+    }
+    if room < words {
         return 2;
     }
     0
 }
 
-// Remove (01, `remove_solver_var`; refusals 1, 8, 2): the solver index is withdrawn, and its global deleted if unused.
+// Remove (01, `remove_solver_var`; refusals 1, 8, 16, 2): the solver index is withdrawn, and its global deleted if unused.
 // Definition: crates/scope/specs/Remove.antt, `removeOf`; its answer: `removed`.
 pub fn remove_solver_var(
     c: Counts,

@@ -20,45 +20,45 @@ pub struct Lengths {
 }
 
 // Where the line's number, the count of calls and the table's ten numbers stand; the tally stands before.
-const LINE: usize = 320;
+const LINE: usize = 1024;
 
-const CALLS: usize = 321;
+const CALLS: usize = 1025;
 
-const TABLE: usize = 322;
+const TABLE: usize = 1026;
 
-pub fn empty() -> [u64; 352] {
-    let mut book = [0u64; 352];
+pub fn empty() -> [u64; 1056] {
+    let mut book = [0u64; 1056];
     book[LINE] = 1;
     book
 }
 
-pub fn line_number(book: &[u64; 352]) -> u64 {
+pub fn line_number(book: &[u64; 1056]) -> u64 {
     book[LINE]
 }
 
-pub fn calls(book: &[u64; 352]) -> u64 {
+pub fn calls(book: &[u64; 1056]) -> u64 {
     book[CALLS]
 }
 
 // How often the call met the refusal.
-pub fn tally(book: &[u64; 352], call: u32, refusal: u32) -> u64 {
-    if 20 <= call {
+pub fn tally(book: &[u64; 1056], call: u32, refusal: u32) -> u64 {
+    if 32 <= call {
         return 0;
     }
-    if 16 <= refusal {
+    if 32 <= refusal {
         return 0;
     }
-    book[16 * call as usize + refusal as usize]
+    book[32 * call as usize + refusal as usize]
 }
 
-fn number(book: &[u64; 352], i: usize) -> u32 {
+fn number(book: &[u64; 1056], i: usize) -> u32 {
     if 10 <= i {
         return 0;
     }
     (book[TABLE + i] % 4294967296) as u32
 }
 
-pub fn counts(book: &[u64; 352]) -> Counts {
+pub fn counts(book: &[u64; 1056]) -> Counts {
     Counts {
         capacity: number(book, 0),
         user: number(book, 1),
@@ -67,11 +67,11 @@ pub fn counts(book: &[u64; 352]) -> Counts {
     }
 }
 
-fn length_of(book: &[u64; 352], i: usize) -> usize {
+fn length_of(book: &[u64; 1056], i: usize) -> usize {
     number(book, i) as usize
 }
 
-pub fn lengths_in(book: &[u64; 352]) -> Lengths {
+pub fn lengths_in(book: &[u64; 1056]) -> Lengths {
     Lengths {
         gu: length_of(book, 4),
         ug: length_of(book, 5),
@@ -83,7 +83,7 @@ pub fn lengths_in(book: &[u64; 352]) -> Lengths {
 }
 
 // The ten numbers of a line that loads a table.
-fn load(book: &mut [u64; 352], line: &[u64; 16524]) {
+fn load(book: &mut [u64; 1056], line: &[u64; 16524]) {
     let mut i: usize = 0;
     while i < 10 {
         book[TABLE + i] = wide(arg(line, i));
@@ -91,14 +91,14 @@ fn load(book: &mut [u64; 352], line: &[u64; 16524]) {
     }
 }
 
-fn up(book: &mut [u64; 352], i: usize) {
-    if i < 352 {
+fn up(book: &mut [u64; 1056], i: usize) {
+    if i < 1056 {
         book[i] = wrapping_add_u64(book[i], 1);
     }
 }
 
 // A call that agreed.
-fn agreed(book: &mut [u64; 352], line: &[u64; 16524], call: u32) {
+fn agreed(book: &mut [u64; 1056], line: &[u64; 16524], call: u32) {
     let after = counts_after(line, counts(book));
     book[TABLE] = wide(after.capacity);
     book[TABLE + 1] = wide(after.user);
@@ -106,13 +106,13 @@ fn agreed(book: &mut [u64; 352], line: &[u64; 16524], call: u32) {
     book[TABLE + 3] = wide(after.solver);
     up(book, CALLS);
     let refusal = small(line, GIVES, 0);
-    if (call < 20) & (refusal < 16) {
-        up(book, 16 * call as usize + refusal as usize);
+    if (call < 32) & (refusal < 32) {
+        up(book, 32 * call as usize + refusal as usize);
     }
 }
 
 // A line that is done with.
-pub fn enter(book: &mut [u64; 352], line: &[u64; 16524], call: u32) {
+pub fn enter(book: &mut [u64; 1056], line: &[u64; 16524], call: u32) {
     up(book, LINE);
     if call == LOAD {
         load(book, line);

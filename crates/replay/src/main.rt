@@ -31,7 +31,7 @@ use scope::Counts;
 use shape::LOAD;
 
 // The fault is told, and nothing more is read.
-fn stop(mut s: Scan, fault: u32, book: &[u64; 352]) -> Scan {
+fn stop(mut s: Scan, fault: u32, book: &[u64; 1056]) -> Scan {
     say::fault(book::line_number(book), s.call, fault);
     s.fault = fault;
     s.over = true;
@@ -146,7 +146,7 @@ fn replay(
     line: &[u64; 16524],
     memory: &mut [u32; 24600],
     expected: &mut [u32; 24600],
-    book: &[u64; 352],
+    book: &[u64; 1056],
     call: u32,
 ) -> u32 {
     let c = book::counts(book);
@@ -176,7 +176,7 @@ fn judged(
     line: &[u64; 16524],
     memory: &mut [u32; 24600],
     expected: &mut [u32; 24600],
-    book: &[u64; 352],
+    book: &[u64; 1056],
     call: u32,
 ) -> u32 {
     if !shape::fits(line, call) {
@@ -195,7 +195,7 @@ fn take(
     line: &mut [u64; 16524],
     memory: &mut [u32; 24600],
     expected: &mut [u32; 24600],
-    book: &mut [u64; 352],
+    book: &mut [u64; 1056],
 ) -> Scan {
     if s.over {
         return s;
@@ -225,7 +225,7 @@ fn feed(
     line: &mut [u64; 16524],
     memory: &mut [u32; 24600],
     expected: &mut [u32; 24600],
-    book: &mut [u64; 352],
+    book: &mut [u64; 1056],
 ) -> Scan {
     let mut t = s;
     let mut i: usize = 0;
@@ -245,7 +245,7 @@ fn more(
     line: &mut [u64; 16524],
     memory: &mut [u32; 24600],
     expected: &mut [u32; 24600],
-    book: &mut [u64; 352],
+    book: &mut [u64; 1056],
 ) -> Scan {
     let mut buf = [0u8; 4096];
     let got = libc::read(0, &mut buf);
@@ -261,7 +261,7 @@ fn run(
     line: &mut [u64; 16524],
     memory: &mut [u32; 24600],
     expected: &mut [u32; 24600],
-    book: &mut [u64; 352],
+    book: &mut [u64; 1056],
 ) -> Scan {
     let mut s = scan::fresh();
     let mut left = u64::MAX;

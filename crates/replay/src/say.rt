@@ -106,7 +106,7 @@ pub fn fault(line: u64, n: u32, fault: u32) {
     text(b"\n");
 }
 
-fn cell(book: &[u64; 352], n: u32, r: u32) {
+fn cell(book: &[u64; 1056], n: u32, r: u32) {
     let k = tally(book, n, r);
     if k == 0 {
         return;
@@ -124,18 +124,18 @@ fn cell(book: &[u64; 352], n: u32, r: u32) {
 }
 
 // How many calls of one kind were accepted, and how many were refused with each number.
-fn row(book: &[u64; 352], n: u32) {
+fn row(book: &[u64; 1056], n: u32) {
     call(n);
     text(b":");
     let mut r: u32 = 0;
-    while r < 16 {
+    while r < 32 {
         cell(book, n, r);
         r += 1;
     }
     text(b"\n");
 }
 
-pub fn all(book: &[u64; 352]) {
+pub fn all(book: &[u64; 1056]) {
     let mut n: u32 = 0;
     while n < 20 {
         row(book, n);

@@ -127,7 +127,7 @@ unfolding allBelow least count anyOf keepOf word isShown giveUser takeUser giveS
     markOf assignRefusal assignOf leastFree globalFor mapOne fillGap mapUser nextUser newUser undeleted toMap unsampled mapRefusal mapOf
     newUserRefusal newUserOf isUnused deleteIfUnused show hide change setMode setModeRefusal setModeOf isHidden observeOne observe observeRefusal
     observeOf removeHeld remove removeRefusal removeOf learn sweepHeld sweepOne sweep sweepRefusal sweepOf
-removes-hold = (refl, (refl, (refl, (refl, (refl, (refl, (refl, (refl, (refl, (refl, (refl, tt)))))))))))
+removes-hold = (refl, (refl, (refl, (refl, (refl, (refl, (refl, (refl, (refl, (refl, (refl, (refl, (refl, (refl, (refl, (refl, (refl, (refl, (refl, (refl, (refl, (refl, (refl, (refl, (refl, tt)))))))))))))))))))))))))
 
 sweeps-hold : AnchorsAgree sweeps
 unfolding allBelow least count anyOf keepOf word isShown giveUser takeUser giveSolver takeSolver putRecord putValue dropGlobal soundb sizesb marksb

@@ -1,6 +1,7 @@
 -- Laws of Grant: the index that is taken, that a grant keeps a table sound, and what it leaves alone.
 use Prim.Native.Nat.{ℕ, zero, suc, _+_, _<_, _≤_}
 use mathlib.Core.Path.{_≡_, refl, sym, subst}
+use mathlib.Core.Bool.{false}
 use mathlib.Core.Logic.{_≢_}
 use native.Mathlib.Omega.{arith}
 use lib.ListN.{length, getD}
@@ -71,7 +72,9 @@ grant-one-granted t g p h e =
     let gg = undeleted-below t g p h in
     let m = next-solver-below t g p gg e in
     let z = p .sizes in
-    let r = reach-one {t = t} (gives-solver g (nextSolver t)) (record { noSolver = e; noGlobal = next-solver-free t p; undeleted = h; mark = m }) in
+    let r =
+    reach-one {b = false} {t = t} (gives-solver g (nextSolver t)) (record { noSolver = e; noGlobal = next-solver-free t p; undeleted = h; mark = m })
+    tt (λ q. tt) in
     record {
       good = r;
       sound = reach-sound r p;

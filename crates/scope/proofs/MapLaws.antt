@@ -101,6 +101,7 @@ map-one-reach t u m =
       mark = f .mark;
       shown = (omega arith, omega arith);
     })
+    (omega arith) (λ e n. absurd (n (m .sound .rows .row (globalFor t u) .gone (f .gone) .2)))
 
 pub map-one-sound : (t : Table) (u : ℕ) → Mappable t u → Sound (mapOne u t .table)
 map-one-sound t u m = reach-sound (map-one-reach t u m) (m .sound)

@@ -1,8 +1,8 @@
 -- Laws of refusal 8, and of the marks and of Assign: that each keeps a table sound.
-use Prim.Native.Nat.{ℕ, _<_}
-use mathlib.Core.Path.{_≡_, refl, sym, _∙_}
+use Prim.Native.Nat.{ℕ, _<_, _≤_}
+use mathlib.Core.Path.{_≡_, refl, sym, ap, _∙_}
 use mathlib.Core.Logic.{_≢_}
-use mathlib.Core.Bool.{Bool, true, false}
+use mathlib.Core.Bool.{Bool, true, false, true≢false}
 use mathlib.Core.List.{List, []}
 use native.Mathlib.Omega.{arith}
 use lib.ListN.{getD}
@@ -10,11 +10,11 @@ use Rattle.base.specs.Choice.{pick}
 use Rattle.scope.specs.declared.Mark.{Mark}
 use Rattle.scope.specs.declared.Mark.the-variants.{Used, Assumed, Released}
 use Rattle.scope.specs.Literals.{indexOf}
-use Rattle.scope.specs.Table.{Table, recordOf, modeOf, putValue}
+use Rattle.scope.specs.Table.{Table, recordOf, modeOf, assumedOf, putRecord, putValue}
 use Rattle.scope.specs.Sound.{Sound}
 use Rattle.scope.specs.Marks.{notHeld, unheld, heldElse, litsHeldElse, holderOf, marked, mark, trueValue}
 use Rattle.scope.proofs.PairLaws.{below-mark}
-use Rattle.scope.proofs.MoveLaws.{Reach, reach-one, reach-sound, puts-record, puts-value}
+use Rattle.scope.proofs.MoveLaws.{undeleted-below, HoldsAssumed, put-assumed, Path, Reach, reach-one, reach-sound, puts-record, puts-value}
 use Rattle.scope.proofs.ResultLaws.{past}
 use Rattle.scope.proofs.RemoveLaws.{held-undeleted, holder-holds}
 
@@ -69,12 +69,24 @@ marked-mode Used r = omega arith
 marked-mode Assumed r = omega arith
 marked-mode Released r = omega arith
 
-pub mark-reach : (t : Table) (m : Mark) (s : ℕ) → Sound t → getD (t .globalFromSolver) s 0 ≢ 0 → Reach t [] (mark m s t)
+-- only a release makes a global no longer assumed
+abbrev pub isRelease : Mark → Bool
+isRelease Used = false
+isRelease Assumed = false
+isRelease Released = true
+
+marked-assumed : (m : Mark) (r : ℕ) → isRelease m ≡ false → assumedOf r ≤ assumedOf (marked m r)
+marked-assumed Used r e = omega arith
+marked-assumed Assumed r e = omega arith
+marked-assumed Released r e = absurd (true≢false e)
+
+pub mark-reach : (t : Table) (m : Mark) (s : ℕ) → Sound t → getD (t .globalFromSolver) s 0 ≢ 0 → Path (isRelease m) t [] (mark m s t)
 unfolding mark
 mark-reach t m s p n =
     let g = holderOf t s in
     let h = held-undeleted t g s p (holder-holds t s n) in
     let e = marked-mode m (recordOf t g) in
+    let w = p .solver .inverse s g .0 (holder-holds t s n) in
     reach-one (puts-record g (marked m (recordOf t g))) (record {
       old = h;
       new = marked-small m (recordOf t g) h;
@@ -82,6 +94,23 @@ mark-reach t m s p n =
       from =
           λ k q. k (sym e ∙ q);
     })
+    (λ z. absurd (omega arith)) (marked-assumed m (recordOf t g))
+
+-- a mark of another index leaves an index with its assumed global
+pub mark-assumes : (t : Table) (m : Mark) (k g s : ℕ) → Sound t → getD (t .globalFromSolver) k 0 ≢ 0 → k ≢ s → HoldsAssumed t g s → HoldsAssumed (mark m k t) g s
+unfolding mark putRecord
+mark-assumes t m k g s p n q a =
+    let h = holderOf t k in
+    let e = holder-holds t k n in
+    let b = undeleted-below t h p (held-undeleted t h k p e) in
+    let z = p .sizes in
+    let v = p .solver .inverse k h .0 e in
+    let w = p .solver .inverse s g .0 (a .held) in
+    record {
+      held = a .held;
+      assumed = put-assumed t h (marked m (recordOf t h)) g p (omega arith) (a .assumed)
+          (λ y. let x = ap (λ (i : ℕ). getD (t .solverFromGlobal) i 0) y in absurd (q (omega arith)));
+    }
 
 pub mark-sound : (t : Table) (m : Mark) (s : ℕ) → Sound t → getD (t .globalFromSolver) s 0 ≢ 0 → Sound (mark m s t)
 mark-sound t m s p n = reach-sound (mark-reach t m s p n) p
@@ -89,6 +118,7 @@ mark-sound t m s p n = reach-sound (mark-reach t m s p n) p
 pub assign-reach : (t : Table) (c : ℕ) → Sound t → getD (t .globalFromSolver) (indexOf c) 0 ≢ 0 → Reach t [] (putValue (indexOf c) (trueValue c) t)
 assign-reach t c p n =
     reach-one (puts-value (indexOf c) (trueValue c)) (below-mark (indexOf c) (holderOf t (indexOf c)) (p .solver) (holder-holds t (indexOf c) n), omega arith)
+    tt (λ e. tt)
 
 pub assign-sound : (t : Table) (c : ℕ) → Sound t → getD (t .globalFromSolver) (indexOf c) 0 ≢ 0 → Sound (putValue (indexOf c) (trueValue c) t)
 assign-sound t c p n = reach-sound (assign-reach t c p n) p

@@ -1,7 +1,7 @@
 -- Laws of Set mode and Observe: that each keeps a table sound, and what it leaves alone.
 use Prim.Native.Nat.{ℕ, _+_, _-_, _<_, _≤_}
 use mathlib.Core.Path.{_≡_, refl, _∙_}
-use mathlib.Core.Bool.{true}
+use mathlib.Core.Bool.{true, false}
 use mathlib.Core.Logic.{_≢_}
 use mathlib.Core.List.{List, [], _∷_, _++_}
 use native.Mathlib.Omega.{arith}
@@ -20,8 +20,8 @@ use Rattle.scope.specs.Map.{nextUser}
 use Rattle.scope.specs.Modes.{isUnused, deleteIfUnused, show, hide, change, setMode, isHidden, observeOne, observe}
 use Rattle.scope.specs.Entries.{Entry, hides}
 use Rattle.scope.proofs.PairLaws.{free-below}
-use Rattle.scope.proofs.MoveLaws.{Reach, stop, reach-one, reach-then, reach-sound, deletes-global, gives-user, takes-user, puts-record, tells-mode}
-use Rattle.scope.proofs.MoveLaws.{hides-again, undeleted-below}
+use Rattle.scope.proofs.MoveLaws.{deletes-global, gives-user, takes-user, puts-record, tells-mode, hides-again, undeleted-below}
+use Rattle.scope.proofs.MoveLaws.{move-sound, Reach, stop, reach-one, reach-then, reach-sound}
 use Rattle.scope.proofs.ResultLaws.{Good, entered, by-choose, safe-each, each-keeps}
 use Rattle.scope.proofs.MapLaws.{SameSolvers, same-solvers, next-user-free}
 
@@ -41,7 +41,8 @@ delete-reach t g p h = by-choose (Good t) _
       hidden = nobody (eqb-true (getD (t .userFromGlobal) g 0) 0 a) (ℕ-discrete (modeOf (recordOf t g)) 2);
       isolated = eqb-true (isolatedOf (recordOf t g)) 1 c;
       noSolver = eqb-true (getD (t .solverFromGlobal) g 0) 0 b;
-    }))
+    })
+    tt (λ q. tt))
     (λ e. stop)
   where
     nobody : getD (t .userFromGlobal) g 0 ≡ 0 → Dec (modeOf (recordOf t g) ≡ 2) → modeOf (recordOf t g) ≡ 2
@@ -130,7 +131,7 @@ show-reach t g m p h q k =
     let b = next-user-below t g p h q in
     let gg = undeleted-below t g p h in
     let z = p .sizes in
-    reach-then (reach-one {t = t} (tells-mode g (eqb m 0)) tt)
+    reach-then (reach-one {t = t} (tells-mode g (eqb m 0)) tt tt (λ e. tt))
     (reach-one (gives-user g (nextUser t) (withMode (recordOf t g) m))
     (record {
       noGlobal = next-user-free t p;
@@ -139,7 +140,8 @@ show-reach t g m p h q k =
       global = omega arith;
       mark = omega arith;
       shown = (omega arith, omega arith);
-    }))
+    })
+    (omega arith) (λ e n. omega arith))
 
 pub show-sound : (t : Table) (g m : ℕ) → Sound t → recordOf t g < 36 → modeOf (recordOf t g) ≡ 2 → m < 2 → Sound (show g m t .table)
 show-sound t g m p h q k = reach-sound (show-reach t g m p h q k) p
@@ -147,8 +149,9 @@ show-sound t g m p h q k = reach-sound (show-reach t g m p h q k) p
 pub change-reach : (t : Table) (g m : ℕ) → Sound t → recordOf t g < 36 → modeOf (recordOf t g) ≢ 2 → m < 2 → Good t (change g m t)
 unfolding change
 change-reach t g m p h q k =
-    reach-then (reach-one {t = t} (tells-mode g (eqb m 0)) tt)
-    (reach-one (puts-record g (withMode (recordOf t g) m)) (record { old = h; new = omega arith; to = λ n. q; from = λ n. omega arith }))
+    reach-then (reach-one {t = t} (tells-mode g (eqb m 0)) tt tt (λ e. tt))
+    (reach-one (puts-record g (withMode (recordOf t g) m)) (record { old = h; new = omega arith; to = λ n. q; from = λ n. omega arith })
+    (λ z. omega arith) (λ e. omega arith))
 
 pub change-sound : (t : Table) (g m : ℕ) → Sound t → recordOf t g < 36 → modeOf (recordOf t g) ≢ 2 → m < 2 → Sound (change g m t .table)
 change-sound t g m p h q k = reach-sound (change-reach t g m p h q k) p
@@ -162,7 +165,9 @@ hide-reach t g p h n =
     let z = p .sizes in
     let gg = undeleted-below t g p h in
     let u = getD (t .userFromGlobal) g 0 - 1 in
-    let r = reach-one {t = t} (takes-user g u (withMode (recordOf t g) 2)) (record { has = omega arith; undeleted = omega arith; hidden = omega arith }) in
+    let r =
+    reach-one {b = false} {t = t} (takes-user g u (withMode (recordOf t g) 2)) (record { has = omega arith; undeleted = omega arith; hidden = omega arith })
+    (omega arith) (λ e. omega arith) in
     reach-then r
     (delete-reach (takeUser g u (withMode (recordOf t g) 2) t) g (reach-sound r p)
     (rw (getD-set-same (t .records) g (withMode (recordOf t g) 2) 47 (omega arith)) (omega arith)))
@@ -175,8 +180,8 @@ pub hide-take-sound : (t : Table) (g : ℕ) → Sound t → recordOf t g < 36 �
     → Sound (takeUser g (getD (t .userFromGlobal) g 0 - 1) (withMode (recordOf t g) 2) t)
 hide-take-sound t g p h n =
     let m = p .rows .row g .seen (h, n) in
-    reach-sound (reach-one {t = t} (takes-user g (getD (t .userFromGlobal) g 0 - 1) (withMode (recordOf t g) 2))
-    (record { has = omega arith; undeleted = omega arith; hidden = omega arith })) p
+    move-sound (takes-user g (getD (t .userFromGlobal) g 0 - 1) (withMode (recordOf t g) 2)) t p
+    (record { has = omega arith; undeleted = omega arith; hidden = omega arith })
 
 -- ---- Set mode
 
@@ -191,7 +196,7 @@ set-mode-reach t g m p h k = go (ℕ-discrete (modeOf (recordOf t g)) m) (ℕ-di
   where
     go : Dec (modeOf (recordOf t g) ≡ m) → Dec (m ≡ 2) → Dec (modeOf (recordOf t g) ≡ 2)
         → Reach t (hiding g m ++ entered (setMode g m t .notes)) (setMode g m t .table)
-    go (yes e) (yes q) d = rw (eq-eqb (modeOf (recordOf t g)) m e, eq-eqb m 2 q) (reach-one (hides-again g) (λ z. z .1 (e ∙ q)))
+    go (yes e) (yes q) d = rw (eq-eqb (modeOf (recordOf t g)) m e, eq-eqb m 2 q) (reach-one (hides-again g) (λ z. z .1 (e ∙ q)) tt (λ z. tt))
     go (yes e) (no q) d = rw (eq-eqb (modeOf (recordOf t g)) m e, ne-eqb m 2 q) stop
     go (no e) (yes q) d = rw (ne-eqb (modeOf (recordOf t g)) m e, eq-eqb m 2 q) (hide-reach t g p h (λ z. e (omega arith)))
     go (no e) (no q) (yes d) =

@@ -1,15 +1,17 @@
 -- Moves, a device of the proofs: the single changes of a table of which every operation is made, each with what a ledger enters of it and
--- when it is allowed. An allowed move keeps a table sound; so an operation that is a path of allowed moves does.
+-- when it is allowed. An allowed move keeps a table sound; so an operation that is a path of allowed moves does. A path also leaves no assumed global
+-- without a solver index; and unless it is one of Released, it leaves a solver index with its assumed global.
 use Prim.Native.Nat.{ℕ, _+_, _<_, _≤_, max}
-use mathlib.Core.Path.{_≡_, refl, subst}
-use mathlib.Core.Bool.{Bool}
+use mathlib.Core.Path.{_≡_, refl, sym, ap, _∙_, subst}
+use mathlib.Core.Bool.{Bool, false}
 use mathlib.Core.Logic.{_≢_}
 use mathlib.Core.List.{List, [], _∷_, _++_, append-assoc, append-nil}
 use native.Mathlib.Omega.{arith}
-use native.Mathlib.Decide.{decLt}
+use native.Mathlib.Decide.{decLt, ℕ-discrete}
 use lib.ListN.{getD, length, length-set, set}
-use lib.Seq.{getD-set-same}
-use Rattle.scope.specs.Table.{Table, recordOf, modeOf, unitOf, isolatedOf, giveUser, takeUser, giveSolver, takeSolver, putRecord, putValue, dropGlobal}
+use lib.Seq.{getD-set-same, getD-set-other}
+use Rattle.scope.specs.Table.{Table, recordOf, modeOf, unitOf, isolatedOf, assumedOf}
+use Rattle.scope.specs.Table.{giveUser, takeUser, giveSolver, takeSolver, putRecord, putValue, dropGlobal}
 use Rattle.scope.specs.Sound.{Shown, Row, Sound}
 use Rattle.scope.specs.Notes.{user+, user-, solver+, solver-, deletes, changes}
 use Rattle.scope.specs.Entries.{Entry, noted, hides}
@@ -93,6 +95,30 @@ Legal (deletes-global g) t = DeletesGlobal t g
 Legal (puts-value s v) t = (s < t .counts .solver) × (v ≤ 2)
 Legal (tells-mode g sample) t = Unit {0}
 Legal (hides-again g) t = ¬ (Shown (recordOf t g))
+
+-- No solver index is taken from an assumed global, and no global becomes assumed without holding one.
+abbrev pub KeepsIndex : Move → Table → Type 0
+KeepsIndex (gives-user g u r) t = assumedOf r ≤ assumedOf (recordOf t g)
+KeepsIndex (takes-user g u r) t = assumedOf r ≤ assumedOf (recordOf t g)
+KeepsIndex (gives-solver g s) t = Unit {0}
+KeepsIndex (takes-solver g s) t = assumedOf (recordOf t g) ≡ 0
+KeepsIndex (puts-record g r) t = getD (t .solverFromGlobal) g 0 ≡ 0 → assumedOf r ≤ assumedOf (recordOf t g)
+KeepsIndex (deletes-global g) t = Unit {0}
+KeepsIndex (puts-value s v) t = Unit {0}
+KeepsIndex (tells-mode g sample) t = Unit {0}
+KeepsIndex (hides-again g) t = Unit {0}
+
+-- No global that holds a solver index ceases to be assumed; of a record that is put, or a user that is taken, it is asked whether one is held or not.
+abbrev pub KeepsAssumed : Move → Table → Type 0
+KeepsAssumed (gives-user g u r) t = getD (t .solverFromGlobal) g 0 ≢ 0 → assumedOf (recordOf t g) ≤ assumedOf r
+KeepsAssumed (takes-user g u r) t = assumedOf (recordOf t g) ≤ assumedOf r
+KeepsAssumed (gives-solver g s) t = Unit {0}
+KeepsAssumed (takes-solver g s) t = Unit {0}
+KeepsAssumed (puts-record g r) t = assumedOf (recordOf t g) ≤ assumedOf r
+KeepsAssumed (deletes-global g) t = Unit {0}
+KeepsAssumed (puts-value s v) t = Unit {0}
+KeepsAssumed (tells-mode g sample) t = Unit {0}
+KeepsAssumed (hides-again g) t = Unit {0}
 
 -- an undeleted global is below the watermark
 pub undeleted-below : (t : Table) (g : ℕ) → Sound t → recordOf t g < 36 → g < t .counts .global
@@ -270,20 +296,170 @@ move-sound (puts-value s v) t p l = put-value-sound t s v p (l .0) (l .1)
 move-sound (tells-mode g sample) t p l = p
 move-sound (hides-again g) t p l = p
 
--- ---- a path of allowed moves, with what a ledger enters of it
+-- ---- an allowed move that keeps both leaves an index with its assumed global
 
-pub data Reach : Table → List Entry → Table → Type 0 where
-  stop : {t : Table} → Reach t [] t
-  move : {t t′ : Table} {es : List Entry} (m : Move) → Legal m t → Reach (apply m t) es t′ → Reach t (entries m ++ es) t′
+-- solver index s is held by g, which is assumed
+pub record HoldsAssumed (t : Table) (g s : ℕ) : Type 0 where
+  pub held : getD (t .globalFromSolver) s 0 ≡ g + 1
+  pub assumed : assumedOf (recordOf t g) ≡ 1
 
-pub reach-sound : {t t′ : Table} {es : List Entry} → Reach t es t′ → Sound t → Sound t′
+-- a record put at h
+pub put-assumed : (t : Table) (h r g : ℕ) → Sound t → h < t .counts .capacity → assumedOf (recordOf t g) ≡ 1 → (h ≡ g → assumedOf (recordOf t g) ≤ assumedOf r)
+    → assumedOf (getD (set (t .records) h r) g 47) ≡ 1
+put-assumed t h r g p l a k = go (ℕ-discrete g h)
+  where
+    go : Dec (g ≡ h) → assumedOf (getD (set (t .records) h r) g 47) ≡ 1
+    go (yes e) = let m = k (sym e) in rw (e, getD-set-same (t .records) h r 47 (rw (p .sizes .records) l)) (omega arith)
+    go (no n) = rw (getD-set-other (t .records) h g r 47 n) a
+
+take-assumes : (t : Table) (h i g s : ℕ) → Sound t → getD (t .solverFromGlobal) h 0 ≡ i + 1 → assumedOf (recordOf t h) ≡ 0 → HoldsAssumed t g s
+    → HoldsAssumed (takeSolver h i t) g s
+unfolding takeSolver
+take-assumes t h i g s p l f a =
+    let v = p .solver .inverse i h .1 l in
+    let c = a .held in
+    let other : s ≢ i = λ e.
+    let q = ap (λ (j : ℕ). getD (t .globalFromSolver) j 0) e in
+    let z : h ≡ g = omega arith in
+    let y : assumedOf (recordOf t g) ≡ 0 = rw z at f in
+    let x = a .assumed in
+    omega arith in
+    record { held = getD-set-other (t .globalFromSolver) i s 0 0 other ∙ c; assumed = a .assumed }
+
+give-assumes : (t : Table) (h i g s : ℕ) → GivesSolver t h i → HoldsAssumed t g s → HoldsAssumed (giveSolver h i t) g s
+unfolding giveSolver
+give-assumes t h i g s l a =
+    let n = l .noGlobal in
+    let c = a .held in
+    let other : s ≢ i = λ e. let q = ap (λ (j : ℕ). getD (t .globalFromSolver) j 0) e in omega arith in
+    record { held = getD-set-other (t .globalFromSolver) i s (h + 1) 0 other ∙ c; assumed = a .assumed }
+
+drop-assumes : (t : Table) (h g s : ℕ) → Sound t → DeletesGlobal t h → HoldsAssumed t g s → HoldsAssumed (dropGlobal h t) g s
+unfolding dropGlobal putRecord
+drop-assumes t h g s p l a =
+    let b = undeleted-below t h p (l .undeleted) in
+    let z = p .sizes in
+    let w = p .solver .inverse s g .0 (a .held) in
+    let n = l .noSolver in
+    record {
+      held = a .held;
+      assumed = put-assumed t h (recordOf t h + 36) g p (omega arith) (a .assumed)
+          (λ e. let q = ap (λ (i : ℕ). getD (t .solverFromGlobal) i 0) e in absurd (omega arith));
+    }
+
+pub move-assumes : (m : Move) (t : Table) → Sound t → Legal m t → KeepsIndex m t → KeepsAssumed m t → (g s : ℕ) → HoldsAssumed t g s
+    → HoldsAssumed (apply m t) g s
+unfolding giveUser takeUser putRecord putValue
+move-assumes (gives-user h u r) t p l f k g s a =
+    let w = p .solver .inverse s g .0 (a .held) in
+    record {
+      held = a .held;
+      assumed = put-assumed t h r g p (l .global) (a .assumed)
+          (λ e. rw e at (k (λ z. let q = ap (λ (i : ℕ). getD (t .solverFromGlobal) i 0) e in omega arith)));
+    }
+move-assumes (takes-user h u r) t p l f k g s a =
+    let b = below-mark h u (pair-flip (p .user)) (l .has) in
+    let z = p .sizes in
+    record { held = a .held; assumed = put-assumed t h r g p (omega arith) (a .assumed) (λ e. rw e at k) }
+move-assumes (gives-solver h i) t p l f k g s a = give-assumes t h i g s l a
+move-assumes (takes-solver h i) t p l f k g s a = take-assumes t h i g s p l f a
+move-assumes (puts-record h r) t p l f k g s a =
+    let b = undeleted-below t h p (l .old) in
+    let z = p .sizes in
+    record { held = a .held; assumed = put-assumed t h r g p (omega arith) (a .assumed) (λ e. rw e at k) }
+move-assumes (deletes-global h) t p l f k g s a = drop-assumes t h g s p l a
+move-assumes (puts-value i v) t p l f k g s a = record { held = a .held; assumed = a .assumed }
+move-assumes (tells-mode h sample) t p l f k g s a = a
+move-assumes (hides-again h) t p l f k g s a = a
+
+-- ---- and no assumed global is without a solver index
+
+pub record Indexed (t : Table) : Type 0 where
+  pub index : (g : ℕ) → assumedOf (recordOf t g) ≡ 1 → getD (t .solverFromGlobal) g 0 ≢ 0
+
+-- a record put at h
+put-indexed : (t : Table) (h r : ℕ) → Sound t → Indexed t → h < t .counts .capacity
+    → (getD (t .solverFromGlobal) h 0 ≡ 0 → assumedOf r ≤ assumedOf (recordOf t h))
+    → (g : ℕ) → assumedOf (getD (set (t .records) h r) g 47) ≡ 1 → getD (t .solverFromGlobal) g 0 ≢ 0
+put-indexed t h r p w l k g a = go (ℕ-discrete g h)
+  where
+    go : Dec (g ≡ h) → getD (t .solverFromGlobal) g 0 ≢ 0
+    go (yes e) z =
+        let y : getD (t .solverFromGlobal) h 0 ≡ 0 = rw e at z in
+        let b : assumedOf (getD (set (t .records) h r) h 47) ≡ 1 = rw e at a in
+        let c : assumedOf r ≡ 1 = rw (getD-set-same (t .records) h r 47 (rw (p .sizes .records) l)) at b in
+        let d = k y in
+        w .index h (omega arith) y
+    go (no n) z = w .index g (rw (getD-set-other (t .records) h g r 47 n) at a) z
+
+-- an index given, and one taken from a global that is not assumed
+give-indexed : (t : Table) (h i : ℕ) → Sound t → GivesSolver t h i → Indexed t → Indexed (giveSolver h i t)
+unfolding giveSolver
+give-indexed t h i p l w = record { index = λ g a. go g a (ℕ-discrete g h) }
+  where
+    inside : h < length (t .solverFromGlobal)
+    inside = let b = undeleted-below t h p (l .undeleted) in let z = p .sizes in omega arith
+
+    go : (g : ℕ) → assumedOf (recordOf t g) ≡ 1 → Dec (g ≡ h) → getD (set (t .solverFromGlobal) h (i + 1)) g 0 ≢ 0
+    go g a (yes e) = rw (e, getD-set-same (t .solverFromGlobal) h (i + 1) 0 inside) (λ z. omega arith)
+    go g a (no n) = rw (getD-set-other (t .solverFromGlobal) h g (i + 1) 0 n) (w .index g a)
+
+take-indexed : (t : Table) (h i : ℕ) → assumedOf (recordOf t h) ≡ 0 → Indexed t → Indexed (takeSolver h i t)
+unfolding takeSolver
+take-indexed t h i f w = record { index = λ g a. go g a (ℕ-discrete g h) }
+  where
+    go : (g : ℕ) → assumedOf (recordOf t g) ≡ 1 → Dec (g ≡ h) → getD (set (t .solverFromGlobal) h 0) g 0 ≢ 0
+    go g a (yes e) = let b : assumedOf (recordOf t h) ≡ 1 = rw e at a in absurd (omega arith)
+    go g a (no n) = rw (getD-set-other (t .solverFromGlobal) h g 0 0 n) (w .index g a)
+
+pub move-indexed : (m : Move) (t : Table) → Sound t → Legal m t → KeepsIndex m t → Indexed t → Indexed (apply m t)
+unfolding giveUser takeUser putRecord putValue dropGlobal
+move-indexed (gives-user h u r) t p l f w = record { index = put-indexed t h r p w (l .global) (λ z. f) }
+move-indexed (takes-user h u r) t p l f w =
+    let b = below-mark h u (pair-flip (p .user)) (l .has) in
+    let z = p .sizes in
+    record { index = put-indexed t h r p w (omega arith) (λ z. f) }
+move-indexed (gives-solver h i) t p l f w = give-indexed t h i p l w
+move-indexed (takes-solver h i) t p l f w = take-indexed t h i f w
+move-indexed (puts-record h r) t p l f w =
+    let b = undeleted-below t h p (l .old) in
+    let z = p .sizes in
+    record { index = put-indexed t h r p w (omega arith) f }
+move-indexed (deletes-global h) t p l f w =
+    let b = undeleted-below t h p (l .undeleted) in
+    let z = p .sizes in
+    record { index = put-indexed t h (recordOf t h + 36) p w (omega arith) (λ z. omega arith) }
+move-indexed (puts-value i v) t p l f w = record { index = w .index }
+move-indexed (tells-mode h sample) t p l f w = w
+move-indexed (hides-again h) t p l f w = w
+
+-- ---- a path of allowed moves, with what a ledger enters of it; what is assumed is kept, unless it is a path of Released
+
+pub data Path (release : Bool) : Table → List Entry → Table → Type 0 where
+  stop : {t : Table} → Path release t [] t
+  move : {t t′ : Table} {es : List Entry} (m : Move) → Legal m t → KeepsIndex m t → (release ≡ false → KeepsAssumed m t) → Path release (apply m t) es t′
+      → Path release t (entries m ++ es) t′
+
+-- a path of any other call
+abbrev pub Reach : Table → List Entry → Table → Type 0
+Reach t es t′ = Path false t es t′
+
+pub reach-sound : {b : Bool} {t t′ : Table} {es : List Entry} → Path b t es t′ → Sound t → Sound t′
 reach-sound stop p = p
-reach-sound (move {t = t} m l r) p = reach-sound r (move-sound m t p l)
+reach-sound (move {t = t} m l f k r) p = reach-sound r (move-sound m t p l)
+
+pub reach-indexed : {b : Bool} {t t′ : Table} {es : List Entry} → Path b t es t′ → Sound t → Indexed t → Indexed t′
+reach-indexed stop p w = w
+reach-indexed (move {t = t} m l f k r) p w = reach-indexed r (move-sound m t p l) (move-indexed m t p l f w)
+
+pub reach-assumes : {t t′ : Table} {es : List Entry} → Reach t es t′ → Sound t → (g s : ℕ) → HoldsAssumed t g s → HoldsAssumed t′ g s
+reach-assumes stop p g s a = a
+reach-assumes (move {t = t} m l f k r) p g s a = reach-assumes r (move-sound m t p l) g s (move-assumes m t p l f (k refl) g s a)
 
 -- one path after another
-pub reach-then : {t t′ t″ : Table} {es fs : List Entry} → Reach t es t′ → Reach t′ fs t″ → Reach t (es ++ fs) t″
+pub reach-then : {b : Bool} {t t′ t″ : Table} {es fs : List Entry} → Path b t es t′ → Path b t′ fs t″ → Path b t (es ++ fs) t″
 reach-then stop q = q
-reach-then {fs = fs} (move {es = es} m l r) q = rw (append-assoc (entries m) es fs) (move m l (reach-then r q))
+reach-then {fs = fs} (move {es = es} m l f k r) q = rw (append-assoc (entries m) es fs) (move m l f k (reach-then r q))
 
-pub reach-one : {t : Table} (m : Move) → Legal m t → Reach t (entries m) (apply m t)
-reach-one {t} m l = subst (λ es. Reach t es (apply m t)) (append-nil (entries m)) (move m l stop)
+pub reach-one : {b : Bool} {t : Table} (m : Move) → Legal m t → KeepsIndex m t → (b ≡ false → KeepsAssumed m t) → Path b t (entries m) (apply m t)
+reach-one {b} {t} m l f k = subst (λ es. Path b t es (apply m t)) (append-nil (entries m)) (move m l f k stop)

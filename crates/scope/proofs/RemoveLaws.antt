@@ -9,13 +9,15 @@ use native.Mathlib.Decide.{decLt, ℕ-discrete}
 use lib.Dec.{eqb}
 use lib.ListN.{getD}
 use lib.Seq.{getD-set-same, getD-set-other}
+use borrow.Author.Tests.{eqb-true}
+use Rattle.base.proofs.BelowLaws.{and-right}
 use Rattle.scope.specs.Table.{Table, recordOf, modeOf, isolatedOf, assumedOf, withUnit, takeSolver}
 use Rattle.scope.specs.Sound.{Sound}
 use Rattle.scope.specs.Outcome.{Result, each}
 use Rattle.scope.specs.Marks.{holderOf}
 use Rattle.scope.specs.Remove.{removeHeld, remove, learn, sweepHeld, sweepOne, sweep}
 use Rattle.scope.proofs.PairLaws.{below-mark}
-use Rattle.scope.proofs.MoveLaws.{Reach, stop, reach-one, reach-then, reach-sound, takes-solver, puts-record}
+use Rattle.scope.proofs.MoveLaws.{move-sound, Reach, stop, reach-one, reach-then, reach-sound, takes-solver, puts-record}
 use Rattle.scope.proofs.ResultLaws.{Good, by-choose, by-word, safe-each, each-keeps}
 use Rattle.scope.proofs.ModeLaws.{delete-reach, delete-same, put-record-same, stay-same, SameButRecord, SameMarks, marks-stay, marks-then}
 
@@ -33,31 +35,28 @@ held-undeleted t g s p e = go (decLt (recordOf t g) 36)
 -- ---- Remove
 
 pub take-held-sound : (t : Table) (g s : ℕ) → Sound t → getD (t .globalFromSolver) s 0 ≡ g + 1 → Sound (takeSolver g s t)
-take-held-sound t g s p e = reach-sound (reach-one {t = t} (takes-solver g s) (p .solver .inverse s g .0 e)) p
+take-held-sound t g s p e = move-sound (takes-solver g s) t p (p .solver .inverse s g .0 e)
 
 pub take-held-undeleted : (t : Table) (g s : ℕ) → Sound t → getD (t .globalFromSolver) s 0 ≡ g + 1 → recordOf (takeSolver g s t) g < 36
 unfolding takeSolver
 take-held-undeleted t g s p e = held-undeleted t g s p e
 
-pub remove-held-reach : (t : Table) (g s : ℕ) → Sound t → getD (t .globalFromSolver) s 0 ≡ g + 1 → Good t (removeHeld g s t)
+pub remove-held-reach : (t : Table) (g s : ℕ) → Sound t → getD (t .globalFromSolver) s 0 ≡ g + 1 → assumedOf (recordOf t g) ≡ 0 → Good t (removeHeld g s t)
 unfolding removeHeld
-remove-held-reach t g s p e =
-    reach-then (reach-one {t = t} (takes-solver g s) (p .solver .inverse s g .0 e))
+remove-held-reach t g s p e a =
+    reach-then (reach-one {t = t} (takes-solver g s) (p .solver .inverse s g .0 e) a (λ q. tt))
     (delete-reach (takeSolver g s t) g (take-held-sound t g s p e) (take-held-undeleted t g s p e))
-
-pub remove-held-sound : (t : Table) (g s : ℕ) → Sound t → getD (t .globalFromSolver) s 0 ≡ g + 1 → Sound (removeHeld g s t .table)
-remove-held-sound t g s p e = reach-sound (remove-held-reach t g s p e) p
 
 -- the holder of a held index
 pub holder-holds : (t : Table) (s : ℕ) → getD (t .globalFromSolver) s 0 ≢ 0 → getD (t .globalFromSolver) s 0 ≡ holderOf t s + 1
 holder-holds t s n = omega arith
 
-pub remove-reach : (t : Table) (s : ℕ) → Sound t → getD (t .globalFromSolver) s 0 ≢ 0 → Good t (remove s t)
+pub remove-reach : (t : Table) (s : ℕ) → Sound t → getD (t .globalFromSolver) s 0 ≢ 0 → assumedOf (recordOf t (holderOf t s)) ≢ 1 → Good t (remove s t)
 unfolding remove
-remove-reach t s p n = remove-held-reach t (holderOf t s) s p (holder-holds t s n)
+remove-reach t s p n a = remove-held-reach t (holderOf t s) s p (holder-holds t s n) (omega arith)
 
-pub remove-sound : (t : Table) (s : ℕ) → Sound t → getD (t .globalFromSolver) s 0 ≢ 0 → Sound (remove s t .table)
-remove-sound t s p n = reach-sound (remove-reach t s p n) p
+pub remove-sound : (t : Table) (s : ℕ) → Sound t → getD (t .globalFromSolver) s 0 ≢ 0 → assumedOf (recordOf t (holderOf t s)) ≢ 1 → Sound (remove s t .table)
+remove-sound t s p n a = reach-sound (remove-reach t s p n a) p
 
 -- ---- Sweep
 
@@ -67,6 +66,9 @@ unit-mode r v = omega arith
 unit-small : (r v : ℕ) → r < 36 → v ≤ 2 → withUnit r v < 36
 unit-small r v h k = omega arith
 
+unit-assumed : (r v : ℕ) → v ≤ 2 → (assumedOf (withUnit r v) ≤ assumedOf r) × (assumedOf r ≤ assumedOf (withUnit r v))
+unit-assumed r v k = (omega arith, omega arith)
+
 pub learn-reach : (t : Table) (g s : ℕ) → Sound t → getD (t .globalFromSolver) s 0 ≡ g + 1 → Reach t [] (learn g s t)
 unfolding learn
 learn-reach t g s p e = by-word (Reach t []) _ (λ z. stop)
@@ -75,7 +77,8 @@ learn-reach t g s p e = by-word (Reach t []) _ (λ z. stop)
     let k = p .values .small s in
     let m = unit-mode (recordOf t g) (getD (t .assignment) s 0) in
     reach-one (puts-record g (withUnit (recordOf t g) (getD (t .assignment) s 0)))
-    (record { old = h; new = unit-small (recordOf t g) (getD (t .assignment) s 0) h k; to = λ n q. n (m ∙ q); from = λ n q. n (sym m ∙ q) }))
+    (record { old = h; new = unit-small (recordOf t g) (getD (t .assignment) s 0) h k; to = λ n q. n (m ∙ q); from = λ n q. n (sym m ∙ q) })
+    (λ q. unit-assumed (recordOf t g) (getD (t .assignment) s 0) k .0) (λ q. unit-assumed (recordOf t g) (getD (t .assignment) s 0) k .1))
 
 pub learn-sound : (t : Table) (g s : ℕ) → Sound t → getD (t .globalFromSolver) s 0 ≡ g + 1 → Sound (learn g s t)
 learn-sound t g s p e = reach-sound (learn-reach t g s p e) p
@@ -92,7 +95,10 @@ learn-holds t g s e = ap (λ (l : List ℕ). getD l s 0) (learn-same t g s .glob
 
 pub sweep-held-reach : (t : Table) (g s : ℕ) → Sound t → getD (t .globalFromSolver) s 0 ≡ g + 1 → Good t (sweepHeld g s t)
 unfolding sweepHeld
-sweep-held-reach t g s p e = by-choose (Good t) _ (λ z. remove-held-reach t g s p e) (λ z. stop)
+sweep-held-reach t g s p e =
+    by-choose (Good t) _
+    (λ z. remove-held-reach t g s p e (eqb-true (assumedOf (recordOf t g)) 0 (and-right (eqb (isolatedOf (recordOf t g)) 1) _ z)))
+    (λ z. stop)
 
 pub sweep-one-reach : (t : Table) (s : ℕ) → Sound t → Good t (sweepOne s t)
 unfolding sweepOne

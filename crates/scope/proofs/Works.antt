@@ -16,7 +16,7 @@ use Rattle.scope.specs.declared.Mark.{Mark}
 use Rattle.scope.specs.Literals.{indexOf}
 use Rattle.scope.specs.Table.{Table, recordOf, modeOf, assumedOf, withMode, giveUser, takeUser, takeSolver, putRecord, putValue, undeleted, dropGlobal}
 use Rattle.scope.specs.Sound.{Sound, sizesb}
-use Rattle.scope.specs.Outcome.{Result, Outcome, each, unless, noting, changing, telling}
+use Rattle.scope.specs.Outcome.{Result, Outcome, each, unless, noting, changing, telling, refusal}
 use Rattle.scope.specs.Open.{emptyTable, openOf}
 use Rattle.scope.specs.Lookup.{lookupOf}
 use Rattle.scope.specs.Map.{toMap, unsampled, mapUser, newUser, nextUser, mapRefusal, mapOf, newUserRefusal, newUserOf}
@@ -27,7 +27,7 @@ use Rattle.scope.specs.Remove.{removeHeld, remove, removeRefusal, remove
 use Rattle.scope.proofs.SoundLaws.{sound-to}
 use Rattle.scope.proofs.PairLaws.{below-mark}
 use Rattle.scope.proofs.MoveLaws.{undeleted-below}
-use Rattle.scope.proofs.ResultLaws.{by-choose, by-word, unless-none}
+use Rattle.scope.proofs.ResultLaws.{by-choose, by-word, unless-some, unless-none}
 use Rattle.scope.proofs.MapLaws.{MapRoom, map-user-mapped, new-user-room, next-user-to-map}
 use Rattle.scope.proofs.GrantLaws.{toGrant, grant-granted}
 use Rattle.scope.proofs.RemoveLaws.{holder-holds, held-undeleted, removed-free, isDue, sweep-complete}
@@ -160,16 +160,30 @@ unfolding removeHeld
 remove-notes g s t = let d = delete-notes g (takeSolver g s t) in omega arith
 
 -- the index is held no more
-pub remove-works : (t : Table) (s room : ℕ) → Sound t → getD (t .globalFromSolver) s 0 ≢ 0 → 6 ≤ room
+pub remove-works : (t : Table) (s room : ℕ) → Sound t → getD (t .globalFromSolver) s 0 ≢ 0 → assumedOf (recordOf t (holderOf t s)) ≡ 0 → 6 ≤ room
     → (removeOf t s room .answer ≡ accepted (length (remove s t .notes) ∷ [])) × (getD (removeOf t s room .table .globalFromSolver) s 0 ≡ 0)
 unfolding removeOf removeRefusal remove notHeld
-remove-works t s room p n k =
+remove-works t s room p n a k =
     let c = remove-notes (holderOf t s) s t in
     let r : removeRefusal t s room ≡ 0 =
     rw (sound-to t p)
-    (held-else t s _ (ne-eqb (getD (t .globalFromSolver) s 0) 0 n) ∙ rw (le-ltb room (3 * length (removeHeld (holderOf t s) s t .notes)) (omega arith))) in
+    (held-else t s _ (ne-eqb (getD (t .globalFromSolver) s 0) 0 n)
+    ∙ rw (
+      ne-eqb (assumedOf (recordOf t (holderOf t s))) 1 (omega arith),
+      le-ltb room (3 * length (removeHeld (holderOf t s) s t .notes)) (omega arith),
+    )) in
     let e = unless-none (removeRefusal t s room) t (noting (λ us. []) (remove s t)) r in
     (ap (λ (o : Outcome). o .answer) e, ap (λ (o : Outcome). getD (o .table .globalFromSolver) s 0) e ∙ removed-free t (holderOf t s) s p (holder-holds t s n))
+
+-- An index whose global is assumed: 16, whatever room there is.
+pub remove-assumed : (t : Table) (s room : ℕ) → Sound t → getD (t .globalFromSolver) s 0 ≢ 0 → assumedOf (recordOf t (holderOf t s)) ≡ 1
+    → removeOf t s room ≡ refusal 16 t
+unfolding removeOf removeRefusal notHeld
+remove-assumed t s room p n a =
+    unless-some 16 (removeRefusal t s room) t _
+    (rw (sound-to t p)
+    (sym (held-else t s _ (ne-eqb (getD (t .globalFromSolver) s 0) 0 n) ∙ rw (eq-eqb (assumedOf (recordOf t (holderOf t s))) 1 a))))
+    (λ z. omega arith)
 
 sweep-one-notes : (s : ℕ) (t : Table) → length (sweepOne s t .notes) ≤ 2
 unfolding sweepOne sweepHeld

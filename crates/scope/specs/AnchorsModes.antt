@@ -2,10 +2,12 @@
 use Prim.Native.Nat.{ℕ}
 use mathlib.Core.Bool.{false, true}
 use mathlib.Core.List.{List, [], _∷_}
+use Rattle.scope.specs.declared.Mark.the-variants.{Released}
 use Rattle.scope.specs.declared.SamplingMode.the-variants.{Sample, Witness, Hide}
 use Rattle.scope.specs.Table.{Table}
 use Rattle.scope.specs.Notes.{user+, user-, solver-, deletes, changes}
 use Rattle.scope.specs.Modes.{setModeOf, observeOf}
+use Rattle.scope.specs.Marks.{markOf}
 use Rattle.scope.specs.Remove.{removeOf, sweepOf}
 use Rattle.scope.specs.Models.{modelOf}
 use Rattle.scope.specs.Anchors.{Anchor, _is_, does, w1, w2, w3, w4, w6, tab, turns, says, notes, fills, writes}
@@ -93,9 +95,9 @@ observes =
     (w2 0 2)
     ∷ []
 
--- ---- Remove: 1, 8, 2
+-- ---- Remove: 1, 8, 16, 2
 
--- a hidden global that holds solver index 0, assigned false, with this record
+-- a hidden global that holds solver index 0, assigned false, with this record; unsound where the record is not Hide
 abbrev pub held1 : ℕ → Table
 held1 r = tab 2 0 1 1 (w2 0 0) (w2 0 0) (w2 1 0) (w2 1 0) (w2 1 0) (w2 r 47)
 
@@ -103,23 +105,47 @@ held1 r = tab 2 0 1 1 (w2 0 0) (w2 0 0) (w2 1 0) (w2 1 0) (w2 1 0) (w2 r 47)
 abbrev pub removed1 : ℕ → Table
 removed1 r = tab 2 0 1 1 (w2 0 0) (w2 0 0) (w2 0 0) (w2 0 0) (w2 1 0) (w2 r 47)
 
+-- hidden globals 0 and 1 with these records, which hold solver indices 1 and 0
+abbrev pub crossed : ℕ → ℕ → Table
+crossed r q = tab 2 0 2 2 (w2 0 0) (w2 0 0) (w2 2 1) (w2 2 1) (w2 0 0) (w2 r q)
+
+-- user 0 and solver index 0 with these values of the index and of the record
+abbrev pub lone : ℕ → ℕ → Table
+lone v r = tab 1 1 1 1 (w1 1) (w1 1) (w1 1) (w1 1) (w1 v) (w1 r)
+
 abbrev pub removes : List Anchor
 removes =
-    -- 1 before 8; 8 before 2: withdrawn, at the watermark, beyond the capacity; 2 for one note and for two
+    -- 1 before 8, and before 16; 8 before 2: withdrawn, at the watermark, beyond the capacity; 8 before 16
     does (removeOf unsound 0 0) is turns 1 unsound
+    ∷ does (removeOf (held1 18) 0 9) is turns 1 (held1 18)
     ∷ does (removeOf holed 0 0) is turns 8 holed
     ∷ does (removeOf mixed 2 9) is turns 8 mixed
     ∷ does (removeOf mixed 9 9) is turns 8 mixed
-    ∷ does (removeOf mixed 0 2) is turns 2 mixed
+    ∷ does (removeOf (held1 20) 1 9) is turns 8 (held1 20)
+    -- 16 before 2; used and Sample, Witness or Hide; isolated, with a unit or without; where the record of the index's own number is not assumed
+    ∷ does (removeOf mixed 0 0) is turns 16 mixed
+    ∷ does (removeOf mixed 0 9) is turns 16 mixed
+    ∷ does (removeOf (lone 0 19) 0 9) is turns 16 (lone 0 19)
+    ∷ does (removeOf (held1 20) 0 2) is turns 16 (held1 20)
+    ∷ does (removeOf (held1 32) 0 5) is turns 16 (held1 32)
+    ∷ does (removeOf (held1 32) 0 6) is turns 16 (held1 32)
+    ∷ does (removeOf (lone 0 27) 0 2) is turns 16 (lone 0 27)
+    ∷ does (removeOf (lone 0 28) 0 3) is turns 16 (lone 0 28)
+    ∷ does (removeOf (lone 1 34) 0 0) is turns 16 (lone 1 34)
+    ∷ does (removeOf (lone 2 33) 0 9) is turns 16 (lone 2 33)
+    ∷ does (removeOf (crossed 2 20) 0 9) is turns 16 (crossed 2 20)
+    ∷ does (removeOf (crossed 20 2) 1 9) is turns 16 (crossed 20 2)
+    -- 2 for one note and for two
+    ∷ does (removeOf mixed 1 2) is turns 2 mixed
     ∷ does (removeOf (held1 11) 0 5) is turns 2 (held1 11)
-    -- S(g,-); D if it is hidden and isolated, whether assumed or not
-    ∷ does (removeOf mixed 0 3)
-    is notes (w1 1) (tab 4 3 3 2 (w4 2 3 1 0) (w4 3 1 2 0) (w4 2 0 0 0) (w4 0 1 0 0) (w4 2 0 0 0) (w4 9 13 18 47)) (solver- 2 ∷ []) (w3 1 2 0)
+    -- S(g,-), also where the record of the index's own number is assumed; D if it is hidden and isolated, as after Released
     ∷ does (removeOf mixed 1 3)
     is notes (w1 1) (tab 4 3 3 2 (w4 2 3 1 0) (w4 3 1 2 0) (w4 0 0 1 0) (w4 3 0 0 0) (w4 2 0 0 0) (w4 9 13 18 47)) (solver- 0 ∷ []) (w3 1 0 0)
+    ∷ does (removeOf (crossed 20 2) 0 3)
+    is notes (w1 1) (tab 2 0 2 2 (w2 0 0) (w2 0 0) (w2 2 0) (w2 0 1) (w2 0 0) (w2 20 2)) (solver- 1 ∷ []) (w3 1 1 0)
     ∷ does (removeOf (held1 2) 0 3) is notes (w1 1) (removed1 2) (solver- 0 ∷ []) (w3 1 0 0)
     ∷ does (removeOf (held1 11) 0 6) is notes (w1 2) (removed1 47) (solver- 0 ∷ deletes 0 ∷ []) (w6 1 0 0 2 0 0)
-    ∷ does (removeOf (held1 32) 0 6) is notes (w1 2) (removed1 68) (solver- 0 ∷ deletes 0 ∷ []) (w6 1 0 0 2 0 0)
+    ∷ does (removeOf (markOf (held1 32) Released 0 .table) 0 6) is notes (w1 2) (removed1 50) (solver- 0 ∷ deletes 0 ∷ []) (w6 1 0 0 2 0 0)
     ∷ []
 
 -- ---- Sweep: 1, 2
@@ -128,10 +154,6 @@ removes =
 -- assumed; 3 has no value, its global 2 hidden and isolated.
 abbrev pub swept4 : Table
 swept4 = tab 4 2 4 4 (w4 4 1 0 0) (w4 2 0 0 1) (w4 2 3 4 1) (w4 4 1 2 3) (w4 2 0 1 0) (w4 0 20 11 1)
-
--- user 0 and solver index 0 with these values of the index and of the record
-abbrev pub lone : ℕ → ℕ → Table
-lone v r = tab 1 1 1 1 (w1 1) (w1 1) (w1 1) (w1 1) (w1 v) (w1 r)
 
 -- a held index in a table whose user maps do not agree
 abbrev pub unsoundHeld : Table

@@ -1,4 +1,4 @@
--- Remove and Sweep (document 01, `remove_solver_var`, last loop of `unit_simplify`).
+-- Remove and Sweep (document 01, `remove_solver_var`, last loop of `unit_simplify`; document 02, order 2).
 use Prim.Native.Nat.{ℕ}
 use mathlib.Core.Bool.{Bool, _&&_, not}
 use mathlib.Core.List.{List, [], _∷_}
@@ -19,12 +19,13 @@ removeHeld g s t = joined (record { value = []; table = takeSolver g s t; notes 
 unfoldable pub remove : ℕ → Table → Result (List ℕ)
 remove s t = removeHeld (holderOf t s) s t
 
--- 1; 8, solver index not held; 2.
+-- 1; 8, solver index not held; 16, the global that holds it is assumed; 2.
 unfoldable pub removeRefusal : Table → ℕ → ℕ → ℕ
 removeRefusal t s room =
     pick (not (soundb t)) 1
     (heldElse t s
-    (pick (short room (remove s t .notes)) 2 0))
+    (pick (eqb (assumedOf (recordOf t (holderOf t s))) 1) 16
+    (pick (short room (remove s t .notes)) 2 0)))
 
 -- The answer is the count of notes.
 unfoldable pub removeOf : Table → ℕ → ℕ → Outcome

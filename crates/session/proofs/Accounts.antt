@@ -11,6 +11,7 @@ use Rattle.drat.specs.Grammar.{Step, stepOf, number, numbers, encodeStep, encod
 use Rattle.drat.specs.declared.Format.the-variants.{Text}
 use Rattle.drat.specs.declared.Kind.the-variants.{Add, Delete}
 use Rattle.scope.specs.declared.Counts.{Counts}
+use Rattle.scope.specs.declared.Mark.the-variants.{Assumed, Released}
 use Rattle.scope.specs.declared.SamplingMode.the-variants.{Hide}
 use Rattle.scope.specs.declared.SolverName.the-variants.{Granted}
 use Rattle.scope.specs.declared.ProofStep.the-variants.{AddClause, AtClause, UnitClauses, DeleteClause, Model, SolverVarName}
@@ -28,15 +29,18 @@ use Rattle.scope.specs.Grant as G
 use Rattle.scope.specs.Pose as P
 use Rattle.scope.specs.Modes as D
 use Rattle.scope.specs.Remove as R
+use Rattle.scope.specs.Marks as K
+use Rattle.scope.specs.Lookup.{found, lookupOf, globalFromSolverOf, recordWordOf}
 use Rattle.scope.specs.Marks.{notHeld, assignRefusal, assignOf, unheld, heldElse, litsHeldElse}
 use Rattle.scope.specs.Write.{renameLits, unmatched, outside, stepRefusal, stepBytes, writeRefusal, writeOf}
 use Rattle.scope.specs.Simplify.{unfalse, simplified, simplifyBytes, simplifyRefusal, simplifyOf}
 use Rattle.scope.specs.Binary.{cutsb, sectionsOf, eachSection, times, hasMirror, mirrored, keptAt, deletesAt, sectionsFor, filledCodes, keptWords, keptCount}
 use Rattle.scope.specs.Binary.{deleteBytes, binaryRefusal, binaryOf}
-use Rattle.scope.specs.Calls.{mapUser, pose, grant, setMode, observe, assign, sweep, simplify, simplifyBinary, write, lending, perform}
+use Rattle.scope.specs.Calls.{mapUser, pose, grant, setMode, observe, mark, assign, remove, sweep, simplify, simplifyBinary, write, lending, perform}
 use Rattle.session.specs.Ledger.{notesOf, shownBy, Line, line, plus, minus, given, nil, cons, Enters}
 use Rattle.session.specs.Entered.{entriesOf, sectionsIn, goneLines, binaryLines, linesOf}
 use Rattle.session.specs.Session.{Turn, turn, turnDoes, State, start, enter, afterTurn, run}
+use Rattle.session.specs.Assumed.{AssumedBy}
 use Rattle.session.specs.Made.{notesIn, Fillable, noneLent, Made, made, Program, ends, calls, seen, ledger}
 
 -- the answers, call by call
@@ -286,7 +290,8 @@ all-enter =
 -- ---- binary clauses
 
 -- The same four indices, 0 false. The clauses of 1 and 6, of 0 and 2, and of 2 and 4: the first two go, each with one delete. The lists answered are
--- given again, and nothing goes. Then 15, since 6 under 0 has no mirror.
+-- given again, and nothing goes. Then 15, since 6 under 0 has no mirror. Then code 6 is true, and of the section of code 3 one entry goes, with a
+-- delete, and one stays; entries that are their own mirrors go from the section of 0, with no delete, and stay in that of 2.
 abbrev pairs : List Turn
 pairs =
     turn (pose (6 ∷ 0 ∷ 2 ∷ 4 ∷ []) false) (lending 24 4 0 0)
@@ -294,18 +299,24 @@ pairs =
     ∷ turn (simplifyBinary (1 ∷ 6 ∷ 1 ∷ 2 ∷ 0 ∷ 2 ∷ 0 ∷ 4 ∷ 0 ∷ 1 ∷ 2 ∷ 0 ∷ 1 ∷ 1 ∷ [])) (lending 0 10 0 17)
     ∷ turn (simplifyBinary (0 ∷ 0 ∷ 0 ∷ 1 ∷ 4 ∷ 0 ∷ 1 ∷ 2 ∷ 0 ∷ 0 ∷ [])) (lending 0 10 0 0)
     ∷ turn (simplifyBinary (1 ∷ 6 ∷ 0 ∷ 0 ∷ 0 ∷ 0 ∷ 0 ∷ 0 ∷ 0 ∷ [])) (lending 0 99 0 99)
+    ∷ turn (assign 6) (lending 0 0 0 0)
+    ∷ turn (simplifyBinary (2 ∷ 1 ∷ 1 ∷ 0 ∷ 2 ∷ 3 ∷ 3 ∷ 2 ∷ 6 ∷ 4 ∷ 0 ∷ 1 ∷ 2 ∷ 0 ∷ 1 ∷ 2 ∷ [])) (lending 0 12 0 8)
     ∷ []
 
 abbrev pairLines : List Line
-pairLines = line Delete true (1 ∷ 6 ∷ []) posed ∷ line Delete true (0 ∷ 2 ∷ []) posed ∷ []
+pairLines = line Delete true (1 ∷ 6 ∷ []) posed ∷ line Delete true (0 ∷ 2 ∷ []) posed ∷ line Delete true (2 ∷ 6 ∷ []) posed ∷ []
 
--- `d -4 3 0`, `d 4 1 0`; words, half the number of entries, bytes
+-- `d -4 3 0`, `d 4 1 0`, `d 1 3 0`; words, half the number of entries, bytes
 pub all-pairs :
     (answers (start (emptyTable 8)) pairs
-    ≡ accepted (4 ∷ 8 ∷ []) ∷ accepted [] ∷ accepted (10 ∷ 1 ∷ 17 ∷ []) ∷ accepted (10 ∷ 1 ∷ 0 ∷ []) ∷ refused 15 [] ∷ [])
+    ≡ accepted (4 ∷ 8 ∷ []) ∷ accepted [] ∷ accepted (10 ∷ 1 ∷ 17 ∷ []) ∷ accepted (10 ∷ 1 ∷ 0 ∷ []) ∷ refused 15 [] ∷ accepted []
+    ∷ accepted (12 ∷ 2 ∷ 8 ∷ []) ∷ [])
     × (run Text (start (emptyTable 8)) pairs .lines ≡ pairLines)
     × (run Text (start (emptyTable 8)) pairs .bytes
-    ≡ 100 ∷ 32 ∷ 45 ∷ 52 ∷ 32 ∷ 51 ∷ 32 ∷ 48 ∷ 10 ∷ 100 ∷ 32 ∷ 52 ∷ 32 ∷ 49 ∷ 32 ∷ 48 ∷ 10 ∷ [])
+    ≡ 100 ∷ 32 ∷ 45 ∷ 52 ∷ 32 ∷ 51 ∷ 32 ∷ 48 ∷ 10
+    ∷ 100 ∷ 32 ∷ 52 ∷ 32 ∷ 49 ∷ 32 ∷ 48 ∷ 10
+    ∷ 100 ∷ 32 ∷ 49 ∷ 32 ∷ 51 ∷ 32 ∷ 48 ∷ 10
+    ∷ [])
 unfolding allBelow least count everyOf anyOf keepOf spell further bytesOf number numbers encodeStep encode word isShown giveUser giveSolver putValue
     soundb sizesb marksb atMostb tailb backb namedb deletedb tailsb pairsb choose each unless emptyTable leastFree M.globalFor M.mapOne M.fillGap
     M.mapUser undeleted M.unsampled nextSolver G.grantOne G.grant P.poseOne P.pose P.wanted P.usersToMap P.poseRefusal P.poseOf notHeld heldElse
@@ -314,10 +325,55 @@ unfolding allBelow least count everyOf anyOf keepOf spell further bytesOf number
     afterTurn run
 all-pairs = (refl, refl, refl)
 
-pub pairs-enter : Enters pairLines (stepOf Delete (7 ∷ 4 ∷ []) ∷ stepOf Delete (6 ∷ 0 ∷ []) ∷ [])
+pub pairs-enter : Enters pairLines (stepOf Delete (7 ∷ 4 ∷ []) ∷ stepOf Delete (6 ∷ 0 ∷ []) ∷ stepOf Delete (0 ∷ 4 ∷ []) ∷ [])
 pairs-enter =
     cons (record { kind = refl; lits = cons (minus held0) (cons (plus held3) nil) })
-    (cons (record { kind = refl; lits = cons (plus held0) (cons (plus held1) nil) }) nil)
+    (cons (record { kind = refl; lits = cons (plus held0) (cons (plus held1) nil) })
+    (cons (record { kind = refl; lits = cons (plus held1) (cons (plus held3) nil) }) nil))
+
+-- ---- an index that an assumption names
+
+-- Capacity 1: global 0 is granted solver index 0, which is assumed.
+abbrev assuming : List Turn
+assuming =
+    turn (mapUser 0 false) (lending 3 0 0 0) ∷ turn (grant 0) (lending 3 0 0 0) ∷ turn (mark Assumed 0) (lending 0 0 0 0) ∷ []
+
+-- It is not removed and not swept, and a clause with it is written. Released, it is removed, and the clause is refused.
+abbrev heldOn : List Turn
+heldOn =
+    assuming
+    ++ turn (remove 0) (lending 3 0 0 0)
+    ∷ turn sweep (lending 6 0 0 0)
+    ∷ turn (write (AtClause false) true (1 ∷ []) []) (lending 0 0 0 5)
+    ∷ turn (mark Released 0) (lending 0 0 0 0)
+    ∷ turn (remove 0) (lending 3 0 0 0)
+    ∷ turn (write (AtClause false) true (1 ∷ []) []) (lending 0 0 0 5)
+    ∷ []
+
+abbrev heldAnswers : List Answer
+heldAnswers =
+    accepted (0 ∷ 1 ∷ []) ∷ accepted (0 ∷ 1 ∷ []) ∷ accepted []
+    ∷ refused 16 []
+    ∷ accepted (0 ∷ [])
+    ∷ accepted (5 ∷ [])
+    ∷ accepted []
+    ∷ accepted (1 ∷ [])
+    ∷ refused 8 []
+    ∷ []
+
+-- `-1 0`; and before it Lookup says that global 0 holds the index, and that its record is 27, which is assumed
+pub held-on :
+    (answers (start (emptyTable 1)) heldOn ≡ heldAnswers)
+    × (run Text (start (emptyTable 1)) heldOn .lines ≡ line Add true (1 ∷ []) (user+ 0 0 ∷ solver+ 0 0 ∷ []) ∷ [])
+    × (run Text (start (emptyTable 1)) heldOn .bytes ≡ 45 ∷ 49 ∷ 32 ∷ 48 ∷ 10 ∷ [])
+    × AssumedBy (run Text (start (emptyTable 1)) assuming .table) 0 0
+unfolding allBelow least count anyOf spell further bytesOf number numbers encodeStep encode word isShown giveUser giveSolver takeSolver
+    putRecord dropGlobal soundb sizesb marksb atMostb tailb backb namedb deletedb tailsb pairsb choose each unless emptyTable leastFree M.globalFor M.mapOne
+    M.fillGap M.mapUser undeleted M.toMap M.unsampled M.mapRefusal M.mapOf nextSolver G.grantOne G.grant G.grantRefusal G.grantOf D.isUnused
+    D.deleteIfUnused K.mark K.markRefusal K.markOf R.removeHeld R.remove R.removeRefusal R.removeOf R.learn R.sweepHeld R.sweepOne R.sweep R.sweepRefusal
+    R.sweepOf notHeld heldElse renameLits unmatched outside unheld litsHeldElse stepRefusal stepBytes writeRefusal writeOf found lookupOf globalFromSolverOf
+    recordWordOf notesOf perform turnDoes entriesOf linesOf enter afterTurn run
+held-on = (refl, refl, refl, record { held = refl; word = 27; recorded = refl; assumed = refl })
 
 -- ---- a program, as it stands in memory
 

@@ -20,7 +20,7 @@ use Rattle.scope.specs.Open.{emptyTable}
 use Rattle.scope.proofs.SoundLaws.{shown-to, hidden-to}
 use Rattle.scope.proofs.PairLaws.{below-mark, pair-flip}
 use Rattle.scope.proofs.MoveLaws.{Move, apply, entries, Legal, gives-user, takes-user, gives-solver, takes-solver, puts-record}
-use Rattle.scope.proofs.MoveLaws.{deletes-global, puts-value, tells-mode, hides-again, undeleted-below, move-sound, Reach, stop, move}
+use Rattle.scope.proofs.MoveLaws.{deletes-global, puts-value, tells-mode, hides-again, undeleted-below, move-sound, Path, stop, move}
 use Rattle.scope.proofs.OpenLaws.{blank-at}
 use Rattle.session.specs.Ledger.{notesOf, shownBy}
 use Rattle.session.proofs.LedgerLaws.{lost, holdAll, showAll, held-append, shown-append, notes-append, hold-append, show-append}
@@ -136,19 +136,20 @@ hold-move (hides-again g) t p l k = refl
 
 -- ---- along a path
 
-reach-hold : {t t′ : Table} {es : List Entry} → Reach t es t′ → Sound t → (k : ℕ)
+reach-hold : {b : Bool} {t t′ : Table} {es : List Entry} → Path b t es t′ → Sound t → (k : ℕ)
     → holdAll (notesOf es) k (getD (t .globalFromSolver) k 0) ≡ getD (t′ .globalFromSolver) k 0
 unfolding notesOf
 reach-hold stop p k = refl
-reach-hold (move {t = t} {es = es} m l r) p k =
+reach-hold (move {t = t} {es = es} m l f q r) p k =
     ap (λ (ns : List Note). holdAll ns k (getD (t .globalFromSolver) k 0)) (notes-append (entries m) es)
     ∙ hold-append (notesOf (entries m)) (notesOf es) k (getD (t .globalFromSolver) k 0)
     ∙ ap (λ (w : ℕ). holdAll (notesOf es) k w) (hold-move m t p l k)
     ∙ reach-hold r (move-sound m t p l) k
 
-reach-show : {t t′ : Table} {es : List Entry} → Reach t es t′ → Sound t → (k : ℕ) → showAll es k (isShown (recordOf t k)) ≡ isShown (recordOf t′ k)
+reach-show : {b : Bool} {t t′ : Table} {es : List Entry} → Path b t es t′ → Sound t → (k : ℕ)
+    → showAll es k (isShown (recordOf t k)) ≡ isShown (recordOf t′ k)
 reach-show stop p k = refl
-reach-show (move {t = t} {es = es} m l r) p k =
+reach-show (move {t = t} {es = es} m l f q r) p k =
     show-append (entries m) es k (isShown (recordOf t k)) ∙ ap (λ (b : Bool). showAll es k b) (show-move m t p l k) ∙ reach-show r (move-sound m t p l) k
 
 -- The entries so far tell the holders and what is shown.
@@ -156,8 +157,8 @@ pub record Agrees (log : List Entry) (t : Table) : Type 0 where
   pub held : (s : ℕ) → heldBy (notesOf log) s ≡ getD (t .globalFromSolver) s 0
   pub seen : (g : ℕ) → shownBy log g ≡ isShown (recordOf t g)
 
-pub reach-agrees : {t t′ : Table} {es : List Entry} (log : List Entry) → Reach t es t′ → Sound t → Agrees log t → Agrees (log ++ es) t′
-reach-agrees {t} {t′} {es} log r p a =
+pub reach-agrees : {b : Bool} {t t′ : Table} {es : List Entry} (log : List Entry) → Path b t es t′ → Sound t → Agrees log t → Agrees (log ++ es) t′
+reach-agrees {b} {t} {t′} {es} log r p a =
     record {
       held = λ s.
           ap (λ (ns : List Note). heldBy ns s) (notes-append log es)

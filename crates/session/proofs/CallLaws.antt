@@ -1,5 +1,5 @@
 -- What every call owes a session: if it is refused, the table as it was; if it is accepted, a path of allowed moves of which the ledger
--- enters what it does, and the bytes of the ledger's clause steps.
+-- enters what it does, and the bytes of the ledger's clause steps. The path keeps what is assumed, unless the call is Released.
 use Prim.Native.Nat.{ℕ, zero, suc, _+_, _*_, _<_, _≤_}
 use mathlib.Core.Path.{_≡_, refl, sym, ap, _∙_, subst}
 use mathlib.Core.Bool.{Bool, true, false, _&&_, _||_, not}
@@ -37,7 +37,7 @@ use Rattle.scope.specs.Grant.{grantRefusal, grantOf}
 use Rattle.scope.specs.Pose.{usersToMap, poseRefusal, poseOf}
 use Rattle.scope.specs.Modes
 use Rattle.scope.specs.Modes.{modeNumber, setModeRefusal, setModeOf, observeRefusal, observeOf}
-use Rattle.scope.specs.Marks.{notHeld, markRefusal, markOf, assignRefusal, assignOf, unheld}
+use Rattle.scope.specs.Marks.{notHeld, holderOf, markRefusal, markOf, assignRefusal, assignOf, unheld}
 use Rattle.scope.specs.Remove.{removeRefusal, removeOf, sweepRefusal, sweepOf}
 use Rattle.scope.specs.Steps.{ruleOf, literalsOf, clauseSteps}
 use Rattle.scope.specs.Write.{renameLits, holders, unmatched, outside, stepRefusal, renameOf, lacked, stepBytes, writeRefusal, writeOf}
@@ -46,13 +46,13 @@ use Rattle.scope.specs.Binary.{cutsb, mirrored, sectionsFor, sectionCount, each
 use Rattle.scope.specs.Models.{modelOf}
 use Rattle.scope.specs.Calls
 use Rattle.scope.proofs.SoundLaws.{sound-of}
-use Rattle.scope.proofs.MoveLaws.{Reach, stop}
+use Rattle.scope.proofs.MoveLaws.{Path, Reach, stop}
 use Rattle.scope.proofs.ResultLaws.{past}
 use Rattle.scope.proofs.MapLaws.{map-room-of, map-user-reach, new-user-reach}
 use Rattle.scope.proofs.GrantLaws.{grant-reach}
 use Rattle.scope.proofs.PoseLaws.{pose-room-of, pose-reach}
 use Rattle.scope.proofs.ModeLaws.{set-mode-reach, observe-reach}
-use Rattle.scope.proofs.MarkLaws.{held-past, lits-past, mark-reach, assign-reach}
+use Rattle.scope.proofs.MarkLaws.{held-past, lits-past, isRelease, mark-reach, assign-reach}
 use Rattle.scope.proofs.RemoveLaws.{remove-reach, sweep-reach}
 use Rattle.scope.proofs.WriteLaws.{solver-codes, rename-codes, keep-none, written-valid}
 use Rattle.scope.proofs.BinaryLaws.{all-held, deletes-valid}
@@ -66,9 +66,28 @@ use Rattle.session.proofs.BinaryLines.{binary-enters}
 
 -- ---- what is owed
 
+-- a call that takes an assumption back
+abbrev pub releasing : Calls.Call → Bool
+releasing (Calls.lookup asked i) = false
+releasing (Calls.mapUser u sampling) = false
+releasing Calls.newUser = false
+releasing (Calls.pose lits sampling) = false
+releasing (Calls.grant g) = false
+releasing (Calls.setMode g mode) = false
+releasing Calls.observe = false
+releasing (Calls.mark m s) = isRelease m
+releasing (Calls.assign c) = false
+releasing (Calls.remove s) = false
+releasing Calls.sweep = false
+releasing (Calls.simplify lits redundant) = false
+releasing (Calls.simplifyBinary lists) = false
+releasing (Calls.rename step solverVars lits hashes) = false
+releasing (Calls.write step solverVars lits hashes) = false
+releasing Calls.model = false
+
 -- the clause steps written are how the ledger's lines enter, by notes that tell the holders of the table left
 pub record Lawful (f : Format) (x : Turn) (t : Table) (vs : List ℕ) (o : Outcome) : Type 0 where
-  pub path : Reach t (entriesOf (x .call) (o .notes)) (o .table)
+  pub path : Path (releasing (x .call)) t (entriesOf (x .call) (o .notes)) (o .table)
   pub steps : List Step
   pub enters : (notes : List Note) → Tell notes (o .table) → Enters (linesOf (x .call) vs (o .words) notes) steps
   pub bytes : o .bytes ≡ encode f steps
@@ -100,7 +119,8 @@ Quiet call =
     (hiddenBy call ≡ []) × ((vs ws : List ℕ) (notes : List Note) → linesOf call vs ws notes ≡ []) × ((vs : List ℕ) → filledBy call vs .bytes ≡ 0)
 
 quiet-lawful : (f : Format) (x : Turn) (t : Table) (vs : List ℕ) (o : Outcome) → Quiet (x .call) → o .bytes ≡ []
-    → filledBy (x .call) vs .notes ≡ length (o .notes) → 3 * length (o .notes) ≤ x .rooms .notes → Reach t (map noted (o .notes)) (o .table)
+    → filledBy (x .call) vs .notes ≡ length (o .notes) → 3 * length (o .notes) ≤ x .rooms .notes
+    → Path (releasing (x .call)) t (map noted (o .notes)) (o .table)
     → Lawful f x t vs o
 unfolding entriesOf encode Valid
 quiet-lawful f x t vs o (hidden, lines, counted) b n m r =
@@ -201,9 +221,10 @@ unfolding removeOf removeRefusal notHeld linesOf
 remove-owed f t s rooms = owed f _ t _ _ (λ e.
     let (p, e1) = first-sound t _ e in
     let (a, e2) = held-past t s _ e1 in
-    let (z, _) = past (short (rooms .notes) (Removes.remove s t .notes)) 2 _ (omega arith) e2 in
+    let (b, e3) = past (eqb (assumedOf (recordOf t (holderOf t s))) 1) 16 _ (omega arith) e2 in
+    let (z, _) = past (short (rooms .notes) (Removes.remove s t .notes)) 2 _ (omega arith) e3 in
     accepting refl (quiet-lawful f _ t _ _ (refl, λ vs ws notes. refl, λ vs. refl) refl refl (roomy (rooms .notes) (Removes.remove s t .notes) z)
-    (remove-reach t s p (eqb-false (getD (t .globalFromSolver) s 0) 0 a))))
+    (remove-reach t s p (eqb-false (getD (t .globalFromSolver) s 0) 0 a) (eqb-false (assumedOf (recordOf t (holderOf t s))) 1 b))))
 
 sweep-owed : (f : Format) (t : Table) (rooms : Calls.Rooms) → Owed f (turn Calls.sweep rooms) t (sweepOf t (rooms .notes))
 unfolding sweepOf sweepRefusal linesOf

@@ -10,6 +10,8 @@ pub mod BinaryLines
 pub mod CallLaws
 pub mod LookupLaws
 pub mod SessionLaws
+pub mod AssumedLaws
+pub mod AssumedCase
 pub mod MadeLaws
 pub mod MetLaws
 pub mod OneProgram

@@ -1,5 +1,5 @@
 -- What Lookup says of a sound table: the words of its lists, and nothing at or beyond a watermark.
-use Prim.Native.Nat.{ℕ, zero, suc, _+_, _-_, _≤_}
+use Prim.Native.Nat.{ℕ, zero, suc, _+_, _-_, _≤_, _<_}
 use mathlib.Core.Path.{_≡_, refl, sym, ap, _∙_, subst}
 use mathlib.Core.Bool.{Bool, true, false, not}
 use mathlib.Core.Logic.{_↔_, _≢_}
@@ -7,14 +7,15 @@ use mathlib.Core.List.{List, [], _∷_}
 use native.Mathlib.Omega.{arith}
 use lib.Dec.{ltb}
 use lib.ListN.{getD}
-use borrow.Author.Tests.{ltb-false}
+use borrow.Author.Tests.{ltb-true, ltb-false, lt-ltb}
 use Rattle.base.specs.Choice.{pick}
-use Rattle.base.specs.Answer.{accepted, valuesOf}
+use Rattle.base.specs.Answer.{accepted, numberOf, valuesOf}
 use Rattle.scope.specs.Table.{Table, word, recordOf}
-use Rattle.scope.specs.Sound.{Shown, Sound}
-use Rattle.scope.specs.Outcome.{unless}
+use Rattle.scope.specs.Sound.{soundb, Shown, Sound}
+use Rattle.scope.specs.Outcome.{unless, telling}
 use Rattle.scope.specs.Lookup.{found, lookupOf, globalFromUserOf, userFromGlobalOf, solverFromGlobalOf, globalFromSolverOf, recordWordOf}
-use Rattle.scope.proofs.SoundLaws.{sound-to}
+use Rattle.scope.proofs.SoundLaws.{sound-of, sound-to}
+use Rattle.scope.proofs.MoveLaws.{undeleted-below}
 use Rattle.scope.proofs.ResultLaws.{word-some}
 use Rattle.session.specs.Session.{Says, HasUser, IsShown}
 
@@ -76,21 +77,31 @@ has-user t g p = (
   λ n. (getD (t .userFromGlobal) g 0 - 1, says-user t g (getD (t .userFromGlobal) g 0 - 1) p .1 (omega arith)),
 )
 
--- a record from the watermark up is fresh, and not shown
-pub is-shown : (t : Table) (g : ℕ) → Sound t → IsShown t g ↔ Shown (recordOf t g)
+-- a record's word, below the watermark
+pub says-record : (t : Table) (g r : ℕ) → Sound t → Says recordWordOf t g r ↔ ((g < t .counts .global) × (recordOf t g ≡ r))
 unfolding recordWordOf
-is-shown t g p = (
-  λ h. to (ltb g (t .counts .global)) (h .0) (said t _ (h .0 ∷ []) p .0 (h .1)) (h .2),
-  λ h. (recordOf t g, said t _ (recordOf t g ∷ []) p .1 (from h), h),
+says-record t g r p = (
+  λ e. to (ltb g (t .counts .global)) refl (said t _ (r ∷ []) p .0 e),
+  λ h. said t _ (r ∷ []) p .1 (rw (lt-ltb g (t .counts .global) (h .0)) (ap (λ (w : ℕ). w ∷ []) (h .1))),
 )
   where
-    to : (b : Bool) (r : ℕ) → pick b (recordOf t g ∷ []) [] ≡ r ∷ [] → Shown r → Shown (recordOf t g)
-    to true r e h = let x : recordOf t g ≡ r = let y : recordOf t g + 1 ≡ r + 1 = ap head-of e in omega arith in subst Shown (sym x) h
-    to false r e h = absurd (let x : 0 ≡ r + 1 = ap head-of e in omega arith)
+    to : (b : Bool) → ltb g (t .counts .global) ≡ b → pick b (recordOf t g ∷ []) [] ≡ r ∷ [] → (g < t .counts .global) × (recordOf t g ≡ r)
+    to true q e = (ltb-true g (t .counts .global) q, let y : recordOf t g + 1 ≡ r + 1 = ap head-of e in omega arith)
+    to false q e = absurd (let x : 0 ≡ r + 1 = ap head-of e in omega arith)
 
-    below : (b : Bool) → ltb g (t .counts .global) ≡ b → Shown (recordOf t g) → b ≡ true
-    below true q h = refl
-    below false q h = absurd (let z = p .rows .tail g (ltb-false g (t .counts .global) q) in let y = h .0 in omega arith)
+-- what is shown is below it
+pub is-shown : (t : Table) (g : ℕ) → Sound t → IsShown t g ↔ Shown (recordOf t g)
+is-shown t g p = (
+  λ h. subst Shown (sym (says-record t g (h .0) p .0 (h .1) .1)) (h .2),
+  λ h. (recordOf t g, says-record t g (recordOf t g) p .1 (undeleted-below t g p (h .0), refl), h),
+)
 
-    from : Shown (recordOf t g) → pick (ltb g (t .counts .global)) (recordOf t g ∷ []) [] ≡ recordOf t g ∷ []
-    from h = rw (below (ltb g (t .counts .global)) refl h)
+-- a Lookup is answered on a sound table only
+pub says-sound : (t : Table) (s g : ℕ) → Says globalFromSolverOf t s g → Sound t
+unfolding globalFromSolverOf lookupOf unless
+says-sound t s g e = go (soundb t) refl e
+  where
+    go : (b : Bool) → soundb t ≡ b
+        → unless (pick (not b) 1 0) t (telling (found (t .globalFromSolver) (t .counts .solver) s) t) .answer ≡ accepted (g ∷ []) → Sound t
+    go true q h = sound-of t q
+    go false q h = absurd (let x : 1 ≡ 0 = ap numberOf h in omega arith)

@@ -1,5 +1,6 @@
 pub mod Ledger
 pub mod Entered
 pub mod Session
+pub mod Assumed
 pub mod Made
 pub mod Worked

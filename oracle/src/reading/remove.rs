@@ -8,7 +8,7 @@ fn remove_held(work: &mut Work, global: u32, solver: u32) {
     delete_if_unused(work, global);
 }
 
-/// 1; 8, solver index not held; 2.
+/// 1; 8, solver index not held; 16, its global is assumed; 2.
 pub fn remove(t: &Table, solver: u32, room: usize) -> Outcome {
     if !t.is_sound() {
         return refused(1, t);
@@ -16,6 +16,9 @@ pub fn remove(t: &Table, solver: u32, room: usize) -> Outcome {
     let Some(global) = named(get(&t.global_from_solver, solver)) else {
         return refused(8, t);
     };
+    if is_assumed(t.record(global)) {
+        return refused(16, t);
+    }
     let mut work = Work::on(t);
     remove_held(&mut work, global, solver);
     if work.short(room) {

@@ -1,4 +1,6 @@
-use Rattle.removal.proofs.RefusalLaws.{remove-1, remove-unheld, remove-holding, remove-2, remove-0}
+use native.Mathlib.Omega.{arith}
+use Rattle.base.proofs.Truth.{truth, false-of}
+use Rattle.removal.proofs.RefusalLaws.{remove-1, remove-unheld, remove-reads, remove-16, remove-2, remove-0}
 use borrow.Author.Tests.{not-true, not-false}
 use mathlib.Core.Path.{refl, sym, _∙_}
 use borrow.Author.Needs.{needs}
@@ -28,49 +30,67 @@ returns-2 c = remove-unheld _ _ _ (sym (c .before .before .before .before .befor
     ∙ not-false _ (c .before .before .before .before .if1 .left)) (sym (c .before .enum-told .given .1) ∙ (c .before .before .before .holder .ensures)) _
     (c .held-refusal .ensures _ refl)
 
-cast-g : tie.Need-cast-g
-cast-g c = search needs
+cast-user : tie.Need-cast-user
+cast-user c = search needs
 
-mul-removal-notes : tie.Need-mul-removal-notes
-mul-removal-notes c = search needs
+mul-user : tie.Need-mul-user
+mul-user c = search needs
 
-shared-slice-read-removal-notes : tie.Need-shared-slice-read-removal-notes
-shared-slice-read-removal-notes c = remove-holding _ _ _ (sym (c .before .before .before .global .given .1)
-    ∙ (c .before .before .before .before .before .holder .ensures))
-    (sym (c .before .before .before .before .before .before .before .is-sound .ensures)
-    ∙ not-false _ (c .before .before .before .before .before .before .if1 .left)) .live .user
+shared-slice-read-user : tie.Need-shared-slice-read-user
+shared-slice-read-user c =
+    let at-global = c .before .before .before in
+    let at-sound = at-global .before .before .before .before in
+    let h = remove-reads _ _ _ (sym (at-global .global .given .1) ∙ at-global .before .before .holder .ensures)
+    (sym (at-sound .is-sound .ensures) ∙ not-false _ (at-global .before .before .before .if1 .left)) in
+    h .0
 
-mul-removal-notes-2 : tie.Need-mul-removal-notes-2
-mul-removal-notes-2 c = search needs
+cast-w : tie.Need-cast-w
+cast-w c = search needs
 
-shared-slice-read-removal-notes-2 : tie.Need-shared-slice-read-removal-notes-2
-shared-slice-read-removal-notes-2 c = remove-holding _ _ _ (sym (c .before .before .before .before .global .given .1)
-    ∙ (c .before .before .before .before .before .before .holder .ensures))
-    (sym (c .before .before .before .before .before .before .before .before .is-sound .ensures)
-    ∙ not-false _ (c .before .before .before .before .before .before .before .if1 .left)) .live .words
+mul-w : tie.Need-mul-w
+mul-w c = search needs
+
+shared-slice-read-w : tie.Need-shared-slice-read-w
+shared-slice-read-w c =
+    let at-global = c .before .before .before .before .before in
+    let at-sound = at-global .before .before .before .before in
+    let h = remove-reads _ _ _ (sym (at-global .global .given .1) ∙ at-global .before .before .holder .ensures)
+    (sym (at-sound .is-sound .ensures) ∙ not-false _ (at-global .before .before .before .if1 .left)) in
+    omega arith
 
 removal-notes-requires : tie.Need-removal-notes-requires
 removal-notes-requires c κs = search needs
 
-cast-n : tie.Need-cast-n
-cast-n c = search needs
+cast-words : tie.Need-cast-words
+cast-words c = search needs
 
-mul-if2 : tie.Need-mul-if2
-mul-if2 c = search needs
+mul-words : tie.Need-mul-words
+mul-words c = search needs
 
 returns-3 : tie.Need-returns-3
 returns-3 c =
-    let at-is-sound = c .before .before .before .before .before .before .before .before .before .before in
-    remove-2 _ _ _ (sym (at-is-sound .is-sound .ensures) ∙ not-false _ (c .before .before .before .before .before .before .before .before .before .if1 .left)) _
-    (sym (c .before .before .before .before .before .before .global .given .1)
-    ∙ (c .before .before .before .before .before .before .before .before .holder .ensures)) _ (c .before .removal-notes .ensures) (c .if2 .taken)
+    let at-global = c .before .before .before .before .before .before .before in
+    let at-sound = at-global .before .before .before .before in
+    remove-16 _ _ _ (sym (at-sound .is-sound .ensures) ∙ not-false _ (at-global .before .before .before .if1 .left)) _
+    (sym (at-global .global .given .1) ∙ at-global .before .before .holder .ensures) (let k = simp truth at (c .if2 .taken) in simp truth (omega arith))
 
 returns-4 : tie.Need-returns-4
 returns-4 c =
-    let at-is-sound = c .before .before .before .before .before .before .before .before .before .before in
-    remove-0 _ _ _ (sym (at-is-sound .is-sound .ensures) ∙ not-false _ (c .before .before .before .before .before .before .before .before .before .if1 .left)) _
-    (sym (c .before .before .before .before .before .before .global .given .1)
-    ∙ (c .before .before .before .before .before .before .before .before .holder .ensures)) _ (c .before .removal-notes .ensures) (c .if2 .left)
+    let at-global = c .before .before .before .before .before .before .before .before in
+    let at-sound = at-global .before .before .before .before in
+    remove-2 _ _ _ (sym (at-sound .is-sound .ensures) ∙ not-false _ (at-global .before .before .before .if1 .left)) _
+    (sym (at-global .global .given .1) ∙ at-global .before .before .holder .ensures)
+    (false-of _ _ (λ h. let k = simp truth at h in simp truth (omega arith)) (c .before .if2 .left)) _ (c .before .before .removal-notes .ensures)
+    (let k = c .if3 .taken in omega arith)
+
+returns-5 : tie.Need-returns-5
+returns-5 c =
+    let at-global = c .before .before .before .before .before .before .before .before in
+    let at-sound = at-global .before .before .before .before in
+    remove-0 _ _ _ (sym (at-sound .is-sound .ensures) ∙ not-false _ (at-global .before .before .before .if1 .left)) _
+    (sym (at-global .global .given .1) ∙ at-global .before .before .holder .ensures)
+    (false-of _ _ (λ h. let k = simp truth at h in simp truth (omega arith)) (c .before .if2 .left)) _ (c .before .before .removal-notes .ensures)
+    (let k = c .if3 .left in omega arith)
 
 pub remove-refusal-spec : {M : Type 1} → statement M
 remove-refusal-spec =
@@ -83,13 +103,15 @@ remove-refusal-spec =
     enum-told
     held-refusal-requires
     returns-2
-    cast-g
-    mul-removal-notes
-    shared-slice-read-removal-notes
-    mul-removal-notes-2
-    shared-slice-read-removal-notes-2
+    cast-user
+    mul-user
+    shared-slice-read-user
+    cast-w
+    mul-w
+    shared-slice-read-w
     removal-notes-requires
-    cast-n
-    mul-if2
+    cast-words
+    mul-words
     returns-3
-    returns-4)
+    returns-4
+    returns-5)

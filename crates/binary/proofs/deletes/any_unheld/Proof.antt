@@ -50,8 +50,8 @@ shared-slice-read-if1-2 c =
     let entry = c .before .before .before .before .before .before in
     omega (arith, entry .pre .few, entry .pre .size)
 
-cast-t15 : tie.Need-cast-t15 Inv-loop μ-loop
-cast-t15 c =
+cast-index : tie.Need-cast-index Inv-loop μ-loop
+cast-index c =
     let entry = c .before .before .before .before .before .before .before in
     omega (arith, entry .pre .few)
 
@@ -118,7 +118,7 @@ any-unheld-spec =
     add-if1-2
     mul-if1-2
     shared-slice-read-if1-2
-    cast-t15
+    cast-index
     holder-requires
     enum-told
     enum-told-2

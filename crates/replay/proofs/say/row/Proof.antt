@@ -5,11 +5,11 @@ use Rattle.replay.proofs.say.row.Tie as tie
 
 abbrev Inv-loop : tie.InvT-loop
 Inv-loop book n r₀ t5 r =
-    r ≤ 16
+    r ≤ 32
 
 abbrev μ-loop : tie.MeasureT-loop
 μ-loop book n r₀ t5 r =
-    16 - r
+    32 - r
 
 call-requires : tie.Need-call-requires Inv-loop μ-loop
 call-requires c κs = search needs
