@@ -97,7 +97,8 @@ mark-reach t m s p n =
     (λ z. absurd (omega arith)) (marked-assumed m (recordOf t g))
 
 -- a mark of another index leaves an index with its assumed global
-pub mark-assumes : (t : Table) (m : Mark) (k g s : ℕ) → Sound t → getD (t .globalFromSolver) k 0 ≢ 0 → k ≢ s → HoldsAssumed t g s → HoldsAssumed (mark m k t) g s
+pub mark-assumes : (t : Table) (m : Mark) (k g s : ℕ) → Sound t → getD (t .globalFromSolver) k 0 ≢ 0 → k ≢ s → HoldsAssumed t g s
+    → HoldsAssumed (mark m k t) g s
 unfolding mark putRecord
 mark-assumes t m k g s p n q a =
     let h = holderOf t k in

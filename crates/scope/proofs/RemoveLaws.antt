@@ -11,12 +11,13 @@ use lib.ListN.{getD}
 use lib.Seq.{getD-set-same, getD-set-other}
 use borrow.Author.Tests.{eqb-true}
 use Rattle.base.proofs.BelowLaws.{and-right}
-use Rattle.scope.specs.Table.{Table, recordOf, modeOf, isolatedOf, assumedOf, withUnit, takeSolver}
+use Rattle.scope.specs.Table.{Table, recordOf, isolatedOf, assumedOf, withUnit, takeSolver}
 use Rattle.scope.specs.Sound.{Sound}
 use Rattle.scope.specs.Outcome.{Result, each}
 use Rattle.scope.specs.Marks.{holderOf}
 use Rattle.scope.specs.Remove.{removeHeld, remove, learn, sweepHeld, sweepOne, sweep}
 use Rattle.scope.proofs.PairLaws.{below-mark}
+use Rattle.scope.proofs.RecordLaws.{with-unit-parts}
 use Rattle.scope.proofs.MoveLaws.{move-sound, Reach, stop, reach-one, reach-then, reach-sound, takes-solver, puts-record}
 use Rattle.scope.proofs.ResultLaws.{Good, by-choose, by-word, safe-each, each-keeps}
 use Rattle.scope.proofs.ModeLaws.{delete-reach, delete-same, put-record-same, stay-same, SameButRecord, SameMarks, marks-stay, marks-then}
@@ -60,14 +61,8 @@ remove-sound t s p n a = reach-sound (remove-reach t s p n a) p
 
 -- ---- Sweep
 
-unit-mode : (r v : ℕ) → modeOf (withUnit r v) ≡ modeOf r
-unit-mode r v = omega arith
-
 unit-small : (r v : ℕ) → r < 36 → v ≤ 2 → withUnit r v < 36
 unit-small r v h k = omega arith
-
-unit-assumed : (r v : ℕ) → v ≤ 2 → (assumedOf (withUnit r v) ≤ assumedOf r) × (assumedOf r ≤ assumedOf (withUnit r v))
-unit-assumed r v k = (omega arith, omega arith)
 
 pub learn-reach : (t : Table) (g s : ℕ) → Sound t → getD (t .globalFromSolver) s 0 ≡ g + 1 → Reach t [] (learn g s t)
 unfolding learn
@@ -75,10 +70,12 @@ learn-reach t g s p e = by-word (Reach t []) _ (λ z. stop)
     (λ v z.
     let h = held-undeleted t g s p e in
     let k = p .values .small s in
-    let m = unit-mode (recordOf t g) (getD (t .assignment) s 0) in
+    let parts = with-unit-parts (recordOf t g) (getD (t .assignment) s 0) (omega arith) in
+    let m = parts .mode in
+    let a = parts .assumed in
     reach-one (puts-record g (withUnit (recordOf t g) (getD (t .assignment) s 0)))
     (record { old = h; new = unit-small (recordOf t g) (getD (t .assignment) s 0) h k; to = λ n q. n (m ∙ q); from = λ n q. n (sym m ∙ q) })
-    (λ q. unit-assumed (recordOf t g) (getD (t .assignment) s 0) k .0) (λ q. unit-assumed (recordOf t g) (getD (t .assignment) s 0) k .1))
+    (λ q. omega arith) (λ q. omega arith))
 
 pub learn-sound : (t : Table) (g s : ℕ) → Sound t → getD (t .globalFromSolver) s 0 ≡ g + 1 → Sound (learn g s t)
 learn-sound t g s p e = reach-sound (learn-reach t g s p e) p
