@@ -52,7 +52,16 @@ static void naming(uint32_t *clause) {
     expect(granted.refusal == HZ_ACCEPTED && granted.solver == 0 && granted.notes == 1 && note(0, 1, 2, 1));
     c = granted.counts;
 
+    /* Users 1 and 2 are mapped and 2 has a solver index: one is to be mapped, two are to be granted an index. */
     const uint32_t users[3] = {POS(1), NEG(2), POS(3)};
+    hz_users needed = hz_users_to_map(c.user, gu, CAPACITY, sg, CAPACITY, users, 3);
+    hz_users again = hz_users_to_map_plain(c.user, gu, CAPACITY, sg, CAPACITY, users, 3);
+    expect(needed.refusal == HZ_ACCEPTED && needed.users == 1 && needed.grants == 2);
+    expect(again.refusal == HZ_ACCEPTED && again.users == 1 && again.grants == 2);
+    const uint32_t outside[1] = {POS(4096)};
+    needed = hz_users_to_map(c.user, gu, CAPACITY, sg, CAPACITY, outside, 1);
+    expect(needed.refusal == HZ_OUT_OF_RANGE && needed.users == 0 && needed.grants == 0);
+
     hz_posed posed = hz_pose(c, TABLE, users, 3, false, clause, 3, NOTES);
     expect(posed.refusal == HZ_ACCEPTED && posed.filled == 3 && posed.notes == 3);
     expect(clause[0] == POS(1) && clause[1] == NEG(0) && clause[2] == POS(2));

@@ -10,9 +10,9 @@
  * A list is a pointer and its length in elements. A pointer is aligned and not null, also where the length is 0, and a list that a call may
  * change overlaps no other list lent to it.
  * An index, a literal code (twice the index, one more if negated) and a length may be any number, and a list may hold any words.
- * Stack, beside the caller's own: hz_simplify_binary takes 192 KB, hz_simplify 64 KB and hz_write 32 KB, whatever they are given, the
- * others a few. A thread of 256 KB is enough for any call, one of 128 KB for any but hz_simplify_binary; one of 64 KB is too small for
- * hz_simplify.
+ * Stack, beside the caller's own: hz_simplify_binary takes 192 KB, hz_simplify 64 KB, hz_pose 36 KB and hz_write 32 KB, whatever they are
+ * given, the others a few. A thread of 256 KB is enough for any call, one of 128 KB for any but hz_simplify_binary; one of 64 KB is too small
+ * for hz_simplify.
  *
  * Every answer begins with `refusal`: 0 if the call was accepted, else one of the numbers below or HZ_UNKNOWN. A refused call changes no
  * memory, its counts are those given (of hz_open: the capacity given and 0, 0, 0), and its other fields are 0 or false unless said
@@ -146,6 +146,13 @@ typedef struct {
     uint32_t notes;
 } hz_posed;
 
+/* How many users are to be mapped, and how many to be granted a solver index. */
+typedef struct {
+    uint32_t refusal;
+    uint32_t users;
+    uint32_t grants;
+} hz_users;
+
 typedef struct {
     uint32_t refusal;
     uint32_t made; /* enum hz_made */
@@ -225,6 +232,16 @@ hz_new_mapped hz_new_user(hz_counts c, HZ_TABLE, HZ_NOTES);
 /* Pose user literals; their solver literals are filled into `out`: 1, 3, 4, 5, 2. */
 hz_posed hz_pose(hz_counts c, HZ_TABLE, const uint32_t *lits, size_t lits_len, bool sampling, uint32_t *out, size_t out_len,
                  HZ_NOTES);
+
+/* How many distinct users hz_pose would map and grant a solver index; where it is accepted, it fills so many notes together. To be mapped are the users
+ * below the user watermark that `gu` does not map and a literal names, and all from the watermark up to and including the greatest that is
+ * named. The table is not tested: of a sound one, and of users below its capacity, the counts are hz_pose's; of other words they are what the watermark,
+ * `gu` and `sg` give. 3: more than 8,192 literals, or an index of 4,096 or more. hz_users_to_map marks the users seen and counts in one pass;
+ * hz_users_to_map_plain looks for each literal's user among the literals before it. They answer the same. */
+hz_users hz_users_to_map(uint32_t watermark, const uint32_t *gu, size_t gu_len, const uint32_t *sg, size_t sg_len, const uint32_t *lits,
+                         size_t lits_len);
+hz_users hz_users_to_map_plain(uint32_t watermark, const uint32_t *gu, size_t gu_len, const uint32_t *sg, size_t sg_len,
+                               const uint32_t *lits, size_t lits_len);
 
 /* Grant a solver index: 1, 3, 6, 2. */
 hz_granted hz_grant(hz_counts c, HZ_TABLE, uint32_t global, HZ_NOTES);

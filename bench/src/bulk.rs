@@ -190,13 +190,19 @@ type Row = (&'static str, Call, Table, Option<(&'static str, f64)>);
 
 fn rows(n: u32) -> Vec<Row> {
     let random = Random::new(1).shuffled(n);
+    let (mut first, mut last) = (vec![n - 1], Random::new(1).shuffled(n - 1));
+    first.extend(&last);
+    last.push(n - 1);
     let pose = Some(("Pose", 0.7));
+    let granted = Some(("Pose, all but one granted", 1.0));
     let sweep = Some(("Sweep", 0.7));
     vec![
         ("Map with a gap of 4,096", Call::Map(n - 1), tables::open(n), Some(("gap fill", 1.0))),
         ("Pose 8,192, none mapped, in order", both_signs(0..n), tables::open(n), pose),
         ("Pose 8,192, none mapped, random order", both_signs(random.clone()), tables::open(n), pose),
         ("Pose 8,192, all granted, random order", both_signs(random), tables::full(n), pose),
+        ("Pose 8,192, all granted but the last user, random order", both_signs(last), tables::filled(n, n - 1), granted),
+        ("Pose 8,192, all granted but the first user, random order", both_signs(first), tables::filled(n, n - 1), granted),
         ("Observe 2,048 of 4,096", Call::Observe, half_hidden(n), None),
         ("Sweep, all of 4,096 removed", Call::Sweep, idle(n), sweep),
         ("Sweep, two thirds of 4,096 removed", Call::Sweep, half_hidden(n), sweep),

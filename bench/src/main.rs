@@ -15,6 +15,7 @@ mod single;
 mod sound;
 mod tables;
 mod timing;
+mod users;
 
 /// A part of the run, and its name on the command line.
 type Part = (&'static str, fn(&report::Report));
@@ -22,13 +23,14 @@ type Part = (&'static str, fn(&report::Report));
 /// All parts, or those named on the command line.
 fn main() {
     let report = report::Report::default();
-    let parts: [Part; 8] = [
+    let parts: [Part; 9] = [
         ("writers", codec::writers),
         ("readers", codec::readers),
         ("real", real::proofs),
         ("sound", sound::tables),
         ("bulk", bulk::calls),
         ("binary", binary::lists),
+        ("users", users::counts),
         ("single", single::table),
         ("growth", growth::table),
     ];

@@ -81,6 +81,13 @@ pub struct Posed {
 }
 
 #[repr(C)]
+pub struct Users {
+    pub refusal: u32,
+    pub users: u32,
+    pub grants: u32,
+}
+
+#[repr(C)]
 pub struct Simplified {
     pub refusal: u32,
     pub made: u32,
@@ -185,6 +192,8 @@ exported! {
     fn map = hz_map(c: Counts, table, user: u32, sampling: bool, notes: &mut [u32]) -> Mapped;
     fn new_user = hz_new_user(c: Counts, table, notes: &mut [u32]) -> NewMapped;
     fn pose = hz_pose(c: Counts, table, lits: &[u32], sampling: bool, out: &mut [u32], notes: &mut [u32]) -> Posed;
+    fn users_to_map = hz_users_to_map(watermark: u32, gu: &[u32], sg: &[u32], lits: &[u32]) -> Users;
+    fn users_to_map_plain = hz_users_to_map_plain(watermark: u32, gu: &[u32], sg: &[u32], lits: &[u32]) -> Users;
     fn grant = hz_grant(c: Counts, table, global: u32, notes: &mut [u32]) -> Granted;
     fn set_mode = hz_set_mode(c: Counts, table, global: u32, mode: u32, notes: &mut [u32]) -> ModeSet;
     fn observe = hz_observe(c: Counts, table, out: &mut [u32], notes: &mut [u32]) -> Posed;

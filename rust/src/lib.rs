@@ -29,9 +29,11 @@ mod names;
 mod proof;
 mod refusal;
 mod table;
+mod users;
 
 pub use binary::Thinned;
 pub use names::{Global, Lit, Name, Note, Notes, Solver, User};
 pub use proof::{first_step, read, write_clause, write_proof, Cause, Format, Lits, Reading, Renamed, Step};
 pub use refusal::Refusal;
 pub use table::{Counts, Lists, Made, Mark, Mode, Simplified, Table};
+pub use users::UsersToMap;

@@ -299,7 +299,9 @@ impl Table {
     /// Maps and grants for each user literal in turn; the solver literals are filled and their number answered. Refusals: 1, 3, 4, 5, 2.
     ///
     /// To lend: a solver literal for each literal given; one note for each user that is mapped, as in [`Table::map`], and one for each solver
-    /// index that is granted. [`Table::notes`] is enough.
+    /// index that is granted, which [`Table::users_to_map`] counts beforehand. [`Table::notes`] is enough.
+    ///
+    /// Stack: 36 KB beside the caller's own, whatever the clause. A thread of 128 KB is enough.
     pub fn pose(
         &mut self,
         lits: &[Lit<User>],

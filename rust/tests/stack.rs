@@ -1,4 +1,4 @@
-//! The stack that Write, Simplify and simplify_binary are said to need is enough, for the longest clauses and the most sections there may be. A
+//! The stack that Pose, Write, Simplify and simplify_binary are said to need is enough, for the longest clauses and the most sections there may be. A
 //! thread with too little is killed with the whole process, so that only the good case is tested.
 use std::thread::Builder;
 
@@ -17,6 +17,9 @@ fn a_thread_of_128_kilobytes() {
     table.pose(&users, false, &mut clause, &mut notes).unwrap();
     table.assign(Lit::negative(Solver(0))).unwrap();
     let calls = move || {
+        let mut again = vec![Lit::from_code(0); 8192];
+        assert_eq!(table.pose(&users, false, &mut again, &mut notes), Ok(8192));
+        assert_eq!((&again, table.users_to_map(&users).unwrap().users), (&clause, 0));
         let (mut rest, mut proof, hashes) = (vec![Lit::from_code(0); 8192], vec![0; Format::Text.room_for(8192)], vec![0; 8192]);
         for format in [Format::Text, Format::Binary] {
             let made = table.simplify(format, &clause, true, &mut rest, &mut proof).unwrap();

@@ -9,3 +9,4 @@ pub mod noted;
 pub mod observed;
 pub mod opened;
 pub mod posed;
+pub mod users;

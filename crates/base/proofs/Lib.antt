@@ -4,5 +4,6 @@ pub mod LeastLaws
 pub mod Pigeon
 pub mod CountLaws
 pub mod SetsLaws
+pub mod StoreLaws
 pub mod MemberLaws
 pub mod KeepLaws

@@ -11,3 +11,4 @@ pub mod opening;
 pub mod poses;
 pub mod removing;
 pub mod showing;
+pub mod users;

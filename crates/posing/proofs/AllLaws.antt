@@ -1,6 +1,7 @@
 -- Laws of the loop over the literals.
 use Prim.Native.Nat.{ℕ, _+_, _≤_, _<_}
 use mathlib.Core.Path.{_≡_, refl, sym, ap, _∙_, subst}
+use mathlib.Core.Bool.{true}
 use mathlib.Core.List.{List, [], _∷_, _++_}
 use native.Mathlib.Omega.{arith}
 use lib.ListN.{length, getD, set}
@@ -8,6 +9,7 @@ use lib.Seq.{sets, length-sets}
 use Rattle.base.proofs.SetsLaws.{store-next}
 use Rattle.scope.specs.Literals.{codeOf, indexOf, signOf}
 use Rattle.scope.specs.Table.{Table}
+use Rattle.scope.specs.Sound.{soundb}
 use Rattle.scope.specs.Outcome.{each}
 use Rattle.scope.specs.Pose.{poseOne, pose}
 use Rattle.scope.proofs.SoundLaws.{sound-of, sound-to}
@@ -17,6 +19,7 @@ use Rattle.changes.specs.Leaves.{Leaves}
 use Rattle.changes.proofs.CursorLaws.{cursor-start}
 use Rattle.changes.proofs.LeavesLaws.{leaves-giving, leaves-length, SameSizes, same-sizes}
 use Rattle.changes.proofs.TurnLaws.{each-up, each-count, turns-none, turns-more}
+use Rattle.posing.specs.declared.Cursors.{Cursors}
 use Rattle.posing.specs.Asks.{Ahead, poseUser, PlaceAsks, PoseAsks}
 use Rattle.posing.proofs.PlaceLaws.{place-small}
 
@@ -30,8 +33,8 @@ pub lits-start : (t : Table) (lits words out : List ℕ) → LitsDone t lits 0 0
 unfolding each
 lits-start t lits words out = record { most = omega arith; step = turns-none (poseStep lits) t words; filled = refl }
 
-pub ahead-start : (t : Table) → Ahead t (record { solver = 0; global = 0 })
-ahead-start t = record { solver = cursor-start _ _; global = cursor-start _ _ }
+pub ahead-first : (t : Table) (k : Cursors) → k .solver ≡ 0 → k .global ≡ 0 → Ahead t k
+ahead-first t k e q = record { solver = rw e (cursor-start _ _); global = rw q (cursor-start _ _) }
 
 pose-room-asked : (t : Table) (lits : List ℕ) (outs room : ℕ) → PoseAsks t lits outs room → PoseRoom t lits
 pose-room-asked t lits outs room h = record { sound = sound-of t (h .sound); within = h .within .at; room = h .enough }
@@ -94,6 +97,12 @@ lits-end t lits i at s words words' out out' l d =
       subst (λ (n : ℕ). Leaves (each n (poseStep lits) t) 0 at s words words') e (d .step),
       d .filled ∙ ap (λ (n : ℕ). sets out 0 (each n (poseStep lits) t .value)) e,
     )
+
+-- the table is sound
+pub lits-sound : (t : Table) (lits : List ℕ) (outs i at : ℕ) (s : Table) (words words' out out' : List ℕ) → PoseAsks t lits outs (length words)
+    → LitsDone t lits i at s words words' out out' → soundb s ≡ true
+lits-sound t lits outs i at s words words' out out' h d =
+    subst (λ (x : Table). soundb x ≡ true) (sym (d .step .table)) (sound-to _ (pose-posed t lits (pose-room-asked t lits outs _ h) i (d .most) .sound))
 
 -- the slices keep their lengths
 pub lits-sizes : (t : Table) (lits : List ℕ) (outs i at : ℕ) (s : Table) (words words' out out' : List ℕ) → PoseAsks t lits outs (length words)

@@ -1,143 +1,42 @@
--- Laws of the call Pose: the one-pass count is the definition's, refusals, and what an accepted call does.
-use Prim.Native.Nat.{ℕ, zero, suc, _+_, _-_, _*_, _/_, _^_, _≤_, _<_}
+-- Laws of the call Pose: refusals, and what an accepted call does.
+use Prim.Native.Nat.{ℕ, _+_, _-_, _*_, _/_, _^_, _≤_, _<_}
 use mathlib.Core.Path.{_≡_, refl, sym, ap, _∙_}
-use mathlib.Core.Bool.{Bool, true, false, _&&_, _||_, not, true≢false}
+use mathlib.Core.Bool.{Bool, true, false, _&&_, _||_, not}
 use mathlib.Core.List.{List, [], _∷_}
-use mathlib.Core.Logic.{⊎-elim}
-use native.Mathlib.Nat.{eq-or-lt-of-le}
 use native.Mathlib.Omega.{arith}
-use lib.Dec.{eqb, ltb, leb}
+use lib.Dec.{ltb, leb}
 use lib.ListN.{length, getD}
 use lib.Seq.{sets}
-use borrow.Author.Tests.{lt-ltb, le-ltb, le-leb, lt-leb, leb-false, ltb-false, eqb-false, ne-eqb, eq-eqb, not-false}
-use Rattle.base.specs.Answer.{accepted, refused, numberOf, valuesOf}
-use Rattle.base.specs.Bounded.{count, anyOf}
-use Rattle.base.proofs.Truth.{split}
-use Rattle.base.proofs.BelowLaws.{and-not-left, and-not-right}
-use Rattle.base.proofs.MemberLaws.{any-none, any-intro, or-left, or-right, or-neither}
+use borrow.Author.Tests.{lt-ltb, le-ltb, ltb-false, not-false}
+use Rattle.base.specs.Answer.{accepted, numberOf, valuesOf}
+use Rattle.base.specs.Bounded.{anyOf}
+use Rattle.base.proofs.CountLaws.{count-most}
+use Rattle.base.proofs.MemberLaws.{or-left, or-right}
 use Rattle.scope.specs.declared.Counts.{Counts}
 use Rattle.scope.specs.Literals.{indexOf}
-use Rattle.scope.specs.Table.{Table, word, undeleted}
-use Rattle.scope.specs.Sound.{Sizes, soundb}
+use Rattle.scope.specs.Table.{Table, undeleted}
+use Rattle.scope.specs.Sound.{soundb}
 use Rattle.scope.specs.Outcome.{short}
 use Rattle.scope.specs.Map.{unsampled}
-use Rattle.scope.specs.Pose.{pose, wanted, usersToMap, poseRefusal, poseOf}
+use Rattle.scope.specs.Pose.{pose, usersToMap, poseRefusal, poseOf}
 use Rattle.scope.specs.Contract.{Said, Does}
 use Rattle.scope.proofs.SoundLaws.{sound-of}
-use Rattle.scope.proofs.MapLaws.{isUngranted}
-use Rattle.scope.proofs.PoseLaws.{isNamed, isPassed, usersToGrant, pose-room-of, pose-count}
-use Rattle.scope.proofs.WantedLaws.{count-either, count-range}
+use Rattle.scope.proofs.PoseLaws.{usersToGrant, pose-room-of, pose-count}
 use Rattle.scope.proofs.ResultLaws.{past}
 use Rattle.changes.specs.Leaves.{Leaves}
 use Rattle.changes.proofs.LeavesLaws.{notes-told}
 use Rattle.changes.proofs.CallLaws.{call-refused, call-accepted, refused-words, accepted-words}
-use Rattle.naming.specs.Parts.{alive, isUnsampled}
-use Rattle.naming.proofs.CallLaws.{undeleted-is, used-small}
+use Rattle.naming.specs.Parts.{isUnsampled}
+use Rattle.naming.proofs.CallLaws.{undeleted-most}
+use Rattle.distinct.specs.declared.Needs.{Needs}
+use Rattle.scope.specs.Distinct.{countNamed, isLow, needsGrant, Within}
+use Rattle.distinct.specs.Users.{needsBy}
+use Rattle.scope.proofs.DistinctLaws.{named-most, top-low}
+use Rattle.scope.proofs.DistinctUsers.{within-of, users-are, grants-are, after-most}
 use Rattle.posing.specs.declared.PosedLits.{PosedLits}
 use Rattle.posing.specs.declared.PosedLits.the-variants.{Done, Refused}
 use Rattle.posing.specs.Answers.{posed}
-use Rattle.posing.specs.Parts.{named, isLow, needsGrant, countNamed, Covers, Within}
 use Rattle.posing.specs.Asks.{PoseAsks}
-use Rattle.posing.proofs.CountLaws.{named-most}
-use Rattle.base.proofs.CountLaws.{count-most}
-
--- ---- the count of users
-
--- a test that fails from n up counts the same below any m above it
-count-up-to : (p : ℕ → Bool) (n m : ℕ) → n ≤ m → ((v : ℕ) → n ≤ v → p v ≡ false) → count m p ≡ count n p
-unfolding count
-count-up-to p n zero l h = let e : n ≡ 0 = omega arith in rw e refl
-count-up-to p n (suc m) l h = ⊎-elim
-    (λ (e : n ≡ suc m). rw e refl)
-    (λ (k : n < suc m). rw (h m (omega arith)) (count-up-to p n m (omega arith) h))
-    (eq-or-lt-of-le l)
-
--- no user is named at or above a bound of the literals
-unnamed : (lits : List ℕ) (n : ℕ) → Within lits n → (v : ℕ) → n ≤ v → named lits v ≡ false
-unfolding named
-unnamed lits n w v l = any-intro (λ c. eqb (indexOf c) v) lits 0 (λ i k. ne-eqb _ v (let x = w .at i k in λ e. omega arith))
-
-count-capped : (p : ℕ → Bool) (lits : List ℕ) (n : ℕ) → n ≤ 4096 → Within lits n → countNamed 4096 p lits ≡ count n (λ v. named lits v && p v)
-unfolding countNamed
-count-capped p lits n l w = count-up-to (λ v. named lits v && p v) n 4096 l (λ v k. and-not-left (named lits v) (p v) (unnamed lits n w v k))
-
--- from the watermark up, a user is named or passed exactly below the watermark after
-covered : (mark : ℕ) (lits : List ℕ) (top : ℕ) → Covers mark lits (length lits) top → (v : ℕ) → mark ≤ v → isNamed lits v || isPassed lits v ≡ ltb v top
-covered mark lits top c v m = ⊎-elim
-    (λ (l : v < top). go l (isNamed lits v || isPassed lits v) refl ∙ sym (lt-ltb v top l))
-    (λ (l : top ≤ v).
-    or-neither
-    (any-intro (λ c. eqb (indexOf c) v) lits 0 (λ i k. ne-eqb _ v (let x = c .over i k in λ e. omega arith)))
-    (any-intro (λ c. ltb v (indexOf c)) lits 0 (λ i k. le-ltb v _ (let x = c .over i k in omega arith)))
-    ∙ sym (le-ltb v top l))
-    (split v top)
-  where
-    below : isNamed lits v || isPassed lits v ≡ false → (i : ℕ) → i < length lits → indexOf (getD lits i 0) < v
-    below e i k =
-        let a = eqb-false (indexOf (getD lits i 0)) v (any-none (λ c. eqb (indexOf c) v) lits i 0 (or-left (isNamed lits v) (isPassed lits v) e) k) in
-        let b = ltb-false v (indexOf (getD lits i 0)) (any-none (λ c. ltb v (indexOf c)) lits i 0 (or-right (isNamed lits v) (isPassed lits v) e) k) in
-        omega arith
-
-    go : v < top → (b : Bool) → isNamed lits v || isPassed lits v ≡ b → b ≡ true
-    go l true e = refl
-    go l false e = let x = c .tight v m (below e) in absurd (omega arith)
-
--- F free, N named, P passed, U from the watermark up, B below the watermark after
-wanted-above : (F N P B : Bool) → (N || P ≡ B) → F ≡ true → F && (N || (true && P)) ≡ (N && (false && F)) || (true && B)
-wanted-above F true P B e f = rw f e
-wanted-above F false P B e f = rw f e
-
-wanted-below : (F N P B : Bool) → F && (N || (false && P)) ≡ (N && (true && F)) || (false && B)
-wanted-below true true P B = refl
-wanted-below true false P B = refl
-wanted-below false true P B = refl
-wanted-below false false P B = refl
-
-module _ (t : Table) (lits : List ℕ) (y : soundb t ≡ true) (w : Within lits (t .counts .capacity)) where
-  sizes : Sizes t
-  sizes = sound-of t y .sizes
-
-  -- distinct users to map: those below the watermark, and all from there to the watermark after
-  wanted-is : (top : ℕ) → Covers (t .counts .user) lits (length lits) top → (v : ℕ)
-      → wanted t lits v ≡ (named lits v && isLow (t .globalFromUser) (t .counts .user) v) || (leb (t .counts .user) v && ltb v top)
-  unfolding wanted named isLow
-  wanted-is top c v = ⊎-elim
-      (λ (l : v < t .counts .user).
-      rw (lt-leb (t .counts .user) v l, lt-ltb v (t .counts .user) l)
-      (wanted-below (eqb (getD (t .globalFromUser) v 0) 0) (isNamed lits v) (isPassed lits v) (ltb v top)))
-      (λ (l : t .counts .user ≤ v).
-      rw (le-leb (t .counts .user) v l, le-ltb v (t .counts .user) l)
-      (wanted-above (eqb (getD (t .globalFromUser) v 0) 0) (isNamed lits v) (isPassed lits v) (ltb v top) (covered (t .counts .user) lits top c v l)
-      (eq-eqb _ 0 (sound-of t y .user .atail v l))))
-      (split v (t .counts .user))
-
-  low-apart : (top v : ℕ) → named lits v && isLow (t .globalFromUser) (t .counts .user) v ≡ true → leb (t .counts .user) v && ltb v top ≡ false
-  unfolding isLow
-  low-apart top v e = ⊎-elim
-      (λ (l : v < t .counts .user). rw (lt-leb (t .counts .user) v l))
-      (λ (l : t .counts .user ≤ v). absurd (true≢false (sym e ∙ rw (le-ltb v (t .counts .user) l) (and-not-right (named lits v) false refl))))
-      (split v (t .counts .user))
-
-  top-most : (top : ℕ) → Covers (t .counts .user) lits (length lits) top → top ≤ t .counts .capacity
-  top-most top c = let z = sizes in c .tight (t .counts .capacity) (omega arith) (w .at)
-
-  pub users-is : (low top : ℕ) → low ≡ countNamed 4096 (isLow (t .globalFromUser) (t .counts .user)) lits → Covers (t .counts .user) lits (length lits) top
-      → low + (top - t .counts .user) ≡ usersToMap t lits
-  unfolding usersToMap
-  users-is low top e c =
-      let z = sizes in
-      let n = t .counts .capacity in
-      let a =
-      count-either n (λ v. named lits v && isLow (t .globalFromUser) (t .counts .user) v) (λ v. leb (t .counts .user) v && ltb v top) (wanted t lits)
-      (wanted-is top c) (low-apart top) in
-      let b = count-range n (t .counts .user) top in
-      let d = count-capped (isLow (t .globalFromUser) (t .counts .user)) lits n (omega arith) w in
-      let m = top-most top c in
-      omega arith
-
-  pub grants-are : (grants : ℕ) → grants ≡ countNamed 4096 (needsGrant (t .globalFromUser) (t .solverFromGlobal)) lits → grants ≡ usersToGrant t lits
-  unfolding usersToGrant named needsGrant isUngranted
-  grants-are grants e = let z = sizes in e ∙ count-capped (needsGrant (t .globalFromUser) (t .solverFromGlobal)) lits (t .counts .capacity) (omega arith) w
 
 -- ---- what the counting gave
 
@@ -151,38 +50,42 @@ pub record PoseCounts (t : Table) (lits : List ℕ) (used low top grants : ℕ) 
   pub top-most : top ≤ 4096
   pub grants-most : grants ≤ 4096
 
-pub pose-counts : (t : Table) (lits : List ℕ) (used low top grants : ℕ) → soundb t ≡ true → Within lits (t .counts .capacity)
-    → used ≡ count (length (t .records)) (alive (t .records))
-    → (low ≡ countNamed 4096 (isLow (t .globalFromUser) (t .counts .user)) lits)
-    × ((Covers (t .counts .user) lits (length lits) top)
-    × (grants ≡ countNamed 4096 (needsGrant (t .globalFromUser) (t .solverFromGlobal)) lits))
-    → PoseCounts t lits used low top grants
-pose-counts t lits used low top grants y w e h =
+pub counts-by : (t : Table) (lits : List ℕ) (used : ℕ) (n : Needs) → soundb t ≡ true → Within lits (t .counts .capacity)
+    → used ≡ undeleted t
+    → n ≡ needsBy (countNamed 4096) (t .counts .user) (t .globalFromUser) (t .solverFromGlobal) lits
+    → (used ≤ t .counts .capacity) × PoseCounts t lits used (n .low) (n .top) (n .grants)
+counts-by t lits used n y w e h =
     let z = sound-of t y .sizes in
+    let c = undeleted-most t in
+    let l = ap (λ (k : Needs). k .low) h in
+    let p = ap (λ (k : Needs). k .top) h in
+    let g = ap (λ (k : Needs). k .grants) h in
     let a = named-most 4096 (isLow (t .globalFromUser) (t .counts .user)) lits in
     let b = named-most 4096 (needsGrant (t .globalFromUser) (t .solverFromGlobal)) lits in
-    let m = top-most t lits y w top (h .1 .0) in
-    record {
-      used-is = undeleted-is t used y e;
-      users-is = users-is t lits y w low top (h .0) (h .1 .0);
-      grants-is = grants-are t lits y w grants (h .1 .1);
-      used-most = used-small t used y e;
-      low-most = omega (arith, h .0);
-      above = h .1 .0 .low;
-      top-most = omega arith;
-      grants-most = omega (arith, h .1 .1);
-    }
+    let m = after-most t lits y w in
+    let u = top-low (t .counts .user) lits in
+    let v = users-are t lits y w in (
+      omega arith,
+      record {
+        used-is = e;
+        users-is = omega arith;
+        grants-is = g ∙ grants-are t lits y w;
+        used-most = omega arith;
+        low-most = omega arith;
+        above = omega arith;
+        top-most = omega arith;
+        grants-most = omega arith;
+      },
+    )
 
 -- ---- refusals
 
-pub within-of : (lits : List ℕ) (n : ℕ) → anyOf (λ c. leb n (indexOf c)) lits ≡ false → Within lits n
-within-of lits n e = record { at = λ i l. leb-false n _ (any-none (λ c. leb n (indexOf c)) lits i 0 e l) }
+-- a test that is asked for or not
+pub asked : (a b r : Bool) → a ≡ true → r ≡ b → r ≡ a && b
+asked a b r e q = rw e q
 
-pub within-small : (t : Table) (lits : List ℕ) → soundb t ≡ true → anyOf (λ c. leb (t .counts .capacity) (indexOf c)) lits ≡ false → Within lits 4096
-within-small t lits y e = let z = sound-of t y .sizes in let w = within-of lits (t .counts .capacity) e in
-    record { at = λ i l. let x = w .at i l in omega arith }
-
-unsampled-are : (t : Table) (lits : List ℕ) → anyOf (λ c. isUnsampled (t .globalFromUser) (t .records) (indexOf c)) lits ≡ anyOf (λ c. unsampled t (indexOf c))
+unsampled-are : (t : Table) (lits : List ℕ) → anyOf (λ c. isUnsampled (t .globalFromUser) (t .records) (indexOf c)) lits ≡ anyOf (λ c. unsampled t
+    (indexOf c))
     lits
 unfolding isUnsampled unsampled
 unsampled-are t lits = refl
@@ -209,7 +112,8 @@ module _ (t : Table) (lits : List ℕ) (sampling : Bool) (outs room : ℕ) where
             → 4 ≡ poseRefusal t lits sampling outs room
         unfolding poseRefusal
         pose-4 b q e =
-            let s : sampling && anyOf (λ c. unsampled t (indexOf c)) lits ≡ true = ap (λ (x : Bool). sampling && x) (sym (unsampled-are t lits)) ∙ sym q ∙ e in
+            let s : sampling && anyOf (λ c. unsampled t (indexOf c)) lits ≡ true = ap (λ (x : Bool). sampling && x) (sym
+            (unsampled-are t lits)) ∙ sym q ∙ e in
             rw (y, le-ltb 8192 (length lits) l, a, s)
 
         module _ (b : Bool) (q : b ≡ sampling && anyOf (λ c. isUnsampled (t .globalFromUser) (t .records) (indexOf c)) lits) (e : b ≡ false)
@@ -249,7 +153,8 @@ module _ (t : Table) (lits : List ℕ) (sampling : Bool) (outs room : ℕ) where
             pose-0 r = rw (y, le-ltb 8192 (length lits) l, a, sampled, enough, words, r)
 
 -- no refusal is what the inner steps ask
-pub pose-asks : (t : Table) (lits : List ℕ) (sampling : Bool) (n outs room : ℕ) → n ≡ poseRefusal t lits sampling outs room → n ≡ 0 → PoseAsks t lits outs room
+pub pose-asks : (t : Table) (lits : List ℕ) (sampling : Bool)
+    (n outs room : ℕ) → n ≡ poseRefusal t lits sampling outs room → n ≡ 0 → PoseAsks t lits outs room
 unfolding poseRefusal
 pose-asks t lits sampling n outs room q e =
     let a = past (not (soundb t)) 1 _ (omega arith) (sym q ∙ e) in

@@ -1,4 +1,4 @@
-pub mod CountLaws
 pub mod PlaceLaws
 pub mod AllLaws
 pub mod CallLaws
+pub mod HeldLaws

@@ -13,7 +13,7 @@ use Rattle.scope.specs.Pose.{pose, usersToMap}
 use Rattle.changes.specs.Cursor.{NoneFree, AllMapped}
 use Rattle.naming.specs.Parts.{free}
 use Rattle.posing.specs.declared.Cursors.{Cursors}
-use Rattle.posing.specs.Parts.{Within}
+use Rattle.scope.specs.Distinct.{Within}
 
 -- the cursors of free solver indices and free globals
 pub record Ahead (t : Table) (k : Cursors) : Type 0 where

@@ -1,5 +1,6 @@
 // Pose. How the contracts read: crates/scope/specs/Contract.antt.
 use changes::Passed;
+use distinct::count_needs;
 use granting::grant_index;
 use naming::count_undeleted;
 use naming::is_unsampled;
@@ -7,29 +8,28 @@ use naming::map_up;
 use scope::Counts;
 use scope::Solver;
 use scope::User;
-use scope::larger;
 use table::FoundGlobal;
 use table::FoundSolver;
 use table::any_outside;
+use table::copy_lits;
 use table::global_of;
 use table::is_sound;
 use table::solver_of;
-use table::word_at;
 ghost use mathlib.Core.Path.{_≡_};
-ghost use mathlib.Core.Bool.{_&&_, not};
-ghost use Prim.Native.Nat.{_+_, _≤_, _<_, max};
-ghost use lib.ListN.{length, getD};
-ghost use Rattle.base.specs.Choice.{pick};
+ghost use mathlib.Core.Bool.{true, _&&_};
+ghost use Prim.Native.Nat.{_≤_};
+ghost use lib.ListN.{length};
 ghost use Rattle.base.specs.Bounded.{anyOf};
 ghost use Rattle.base.specs.Lent.{old, new, Fills};
 ghost use Rattle.scope.specs.Literals.{indexOf};
 ghost use Rattle.scope.specs.Contract.{given, before, after, lent, Meets};
 ghost use Rattle.scope.specs.Pose.{pose, poseRefusal, poseOf};
+ghost use Rattle.scope.specs.Sound.{soundb};
 ghost use Rattle.changes.specs.Leaves.{Leaves};
 ghost use Rattle.table.specs.Found.{foundSolver};
 ghost use Rattle.naming.specs.Parts.{isUnsampled, MapBelow};
 ghost use Rattle.posing.specs.Answers.{posed};
-ghost use Rattle.posing.specs.Parts.{isLow, heldWord, needsGrant, countNamed, Covers, Within};
+ghost use Rattle.posing.specs.Parts.{heldWord, HeldTo, HeldRun, HeldTried};
 ghost use Rattle.posing.specs.Asks.{Ahead, poseUser, PlaceAsks, PoseAsks};
 
 // Where the searches for a free solver index and for a free global go on.
@@ -46,17 +46,27 @@ pub struct Placed {
     pub at: usize,
 }
 
-// What the literals need: unmapped users below the watermark, the watermark after, and solver indices.
-pub struct Needs {
-    pub low: u32,
-    pub top: u32,
-    pub grants: u32,
+// Whether all literals were looked up and filled, and a number of literals from the start on whose users are known to have solver indices.
+pub struct Tried {
+    pub filled: bool,
+    pub lead: usize,
 }
 
 // The answer: how many solver literals were filled, the counts and how many notes were written.
 pub enum PosedLits {
     Done(u32, Counts, u32),
     Refused(u32),
+}
+
+// Both searches start at 0.
+fn first_cursors() -> Cursors
+    ensures { λ r. ⌜ r .solver ≡ 0 ⌝ }
+    ensures { λ r. ⌜ r .global ≡ 0 ⌝ }
+{
+    Cursors {
+        solver: 0,
+        global: 0,
+    }
 }
 
 // The solver index that a user has already.
@@ -118,36 +128,22 @@ fn place_new(
     }
 }
 
-// The same, where a user that has a solver index already is only looked up.
-fn place_user(
-    c: Counts,
-    gu: &mut [u32],
-    ug: &mut [u32],
-    sg: &mut [u32],
-    gs: &mut [u32],
-    assignment: &mut [u32],
-    records: &mut [u32],
-    user: User,
-    k: Cursors,
-    at: usize,
-    notes: &mut [u32],
-) -> Placed
-    requires { ⌜ PlaceAsks (given c gu ug sg gs assignment records) (user .0) at (length (now notes)) ⌝ }
-    requires { ⌜ Ahead (given c gu ug sg gs assignment records) k ⌝ }
-    ensures { λ r. ⌜ r .solver .0 ≡ poseUser (user .0) (before c gu ug sg gs assignment records) .value ⌝ }
-    ensures { λ r. ⌜ Leaves (poseUser (user .0) (before c gu ug sg gs assignment records)) at (r .at)
-        (after (r .counts) gu ug sg gs assignment records) (old notes) (new notes) ⌝ }
-    ensures { λ r. ⌜ Ahead (after (r .counts) gu ug sg gs assignment records) (r .cursors) ⌝ }
+// Stores the solver literals of a run of literals from place `from` on whose users have solver indices; where the run ends.
+fn held_lits(gu: &[u32], sg: &[u32], lits: &[u32], from: usize, codes: &mut [u32]) -> usize
+    requires { ⌜ length (now lits) ≤ length (now codes) ⌝ }
+    requires { ⌜ MapBelow (now sg) 4096 ⌝ }
+    ensures { λ r. ⌜ HeldRun (old gu) (old sg) (old lits) from (old codes) r (new codes) ⌝ }
 {
-    let FoundSolver::At(solver) = held_solver(gu, sg, user) else {
-        return place_new(c, gu, ug, sg, gs, assignment, records, user, k, at, notes);
-    };
-    Placed {
-        counts: c,
-        solver,
-        cursors: k,
-        at,
+    let mut i = from;
+    while i < lits.len() {
+        let code = lits[i];
+        let FoundSolver::At(solver) = held_solver(gu, sg, User(code / 2)) else {
+            return i;
+        };
+        codes[i] = 2 * solver.0 + code % 2;
+        i += 1;
     }
+    i
 }
 
 // A solver literal for each user literal, on a sound table with room for all.
@@ -169,16 +165,17 @@ fn place_all(
         ∗ ⌜ Fills out 0 (x .value) ⌝ }
 {
     let mut cur = c;
-    let mut k = Cursors {
-        solver: 0,
-        global: 0,
-    };
+    let mut k = first_cursors();
     let mut at: usize = 0;
     let mut i: usize = 0;
-    while i < lits.len() {
+    loop {
+        i = held_lits(gu, sg, lits, i, out);
+        if lits.len() <= i {
+            return Passed { counts: cur, at };
+        }
         let code = lits[i];
         let user = User(code / 2);
-        let p = place_user(cur, gu, ug, sg, gs, assignment, records, user, k, at, notes);
+        let p = place_new(cur, gu, ug, sg, gs, assignment, records, user, k, at, notes);
         cur = p.counts;
         k = p.cursors;
         at = p.at;
@@ -186,7 +183,6 @@ fn place_all(
         out[i] = 2 * solver.0 + code % 2;
         i += 1;
     }
-    Passed { counts: cur, at }
 }
 
 // Sampling is required, and a literal's user has a global that is not Sample.
@@ -207,71 +203,77 @@ fn any_unsampled(gu: &[u32], records: &[u32], lits: &[u32], sampling: bool) -> b
     false
 }
 
-// A user that is unmapped, or whose global has no solver index.
-fn needs_grant(gu: &[u32], sg: &[u32], user: User) -> bool
-    ensures { λ r. ⌜ r ≡ needsGrant (old gu) (old sg) (user .0) ⌝ }
+// Where all users have solver indices, and all are sampled if that is required, their solver literals are filled, by way of `codes`.
+fn fill_held(
+    gu: &[u32],
+    sg: &[u32],
+    records: &[u32],
+    lits: &[u32],
+    sampling: bool,
+    codes: &mut [u32],
+    out: &mut [u32],
+) -> Tried
+    requires { ⌜ length (now lits) ≤ 8192 ⌝ }
+    requires { ⌜ length (now lits) ≤ length (now codes) ⌝ }
+    requires { ⌜ length (now lits) ≤ length (now out) ⌝ }
+    requires { ⌜ MapBelow (now gu) (length (now records)) ⌝ }
+    requires { ⌜ MapBelow (now sg) 4096 ⌝ }
+    ensures { λ r. ⌜ HeldTried (old gu) (old sg) (old records) (old lits) sampling r (old out) (new out) ⌝ }
 {
-    let FoundGlobal::At(g) = global_of(gu, user) else {
-        return true;
-    };
-    let FoundSolver::At(_) = solver_of(sg, g) else {
-        return true;
-    };
-    false
-}
-
-// One literal more; its user counts if it was not seen before.
-fn count_one(mark: u32, gu: &[u32], sg: &[u32], user: User, fresh: bool, n: Needs) -> Needs
-    requires { ⌜ user .0 < 4096 ⌝ }
-    requires { ⌜ n .low ≤ 8192 ⌝ }
-    requires { ⌜ n .grants ≤ 8192 ⌝ }
-    ensures { λ r. ⌜ r .low ≡ n .low + pick (fresh && isLow (old gu) mark (user .0)) 1 0 ⌝ }
-    ensures { λ r. ⌜ r .top ≡ max (n .top) (user .0 + 1) ⌝ }
-    ensures { λ r. ⌜ r .grants ≡ n .grants + pick (fresh && needsGrant (old gu) (old sg) (user .0)) 1 0 ⌝ }
-{
-    let u = user.0;
-    let top = larger(n.top, u + 1);
-    if !needs_grant(gu, sg, user) {
-        return Needs {
-            low: n.low,
-            top,
-            grants: n.grants,
+    let n = held_lits(gu, sg, lits, 0, codes);
+    if n < lits.len() {
+        return Tried {
+            filled: false,
+            lead: n,
         };
     }
-    let low = fresh & ((u < mark) & (word_at(gu, u) == 0));
-    Needs {
-        low: n.low + low as u32,
-        top,
-        grants: n.grants + fresh as u32,
+    let unsampled = any_unsampled(gu, records, lits, sampling);
+    if unsampled {
+        return Tried {
+            filled: false,
+            lead: n,
+        };
+    }
+    copy_lits(&codes[..n], out);
+    Tried {
+        filled: true,
+        lead: n,
     }
 }
 
-// What the literals need: each user counts once.
-fn count_needs(mark: u32, gu: &[u32], sg: &[u32], lits: &[u32]) -> Needs
-    requires { ⌜ length (now lits) ≤ 8192 ⌝ }
-    requires { ⌜ Within (now lits) 4096 ⌝ }
-    ensures { λ r. ⌜ r .low ≡ countNamed 4096 (isLow (old gu) mark) (old lits) ⌝ }
-    ensures { λ r. ⌜ Covers mark (old lits) (length (old lits)) (r .top) ⌝ }
-    ensures { λ r. ⌜ r .grants ≡ countNamed 4096 (needsGrant (old gu) (old sg)) (old lits) ⌝ }
+// The same with a list of its own, the shortest of three that is long enough, since it is cleared each time.
+fn pose_held(
+    gu: &[u32],
+    sg: &[u32],
+    records: &[u32],
+    lits: &[u32],
+    sampling: bool,
+    out: &mut [u32],
+) -> Tried
+    requires { ⌜ MapBelow (now gu) (length (now records)) ⌝ }
+    requires { ⌜ MapBelow (now sg) 4096 ⌝ }
+    ensures { λ r. ⌜ HeldTried (old gu) (old sg) (old records) (old lits) sampling r (old out) (new out) ⌝ }
 {
-    let mut seen = [0u8; 4096];
-    let mut n = Needs {
-        low: 0,
-        top: mark,
-        grants: 0,
-    };
-    let mut i = 0;
-    while i < lits.len() {
-        let u = lits[i] / 2;
-        let fresh = seen[u as usize] == 0;
-        n = count_one(mark, gu, sg, User(u), fresh, n);
-        seen[u as usize] = 1;
-        i += 1;
+    if (8192 < lits.len()) | (out.len() < lits.len()) {
+        return Tried {
+            filled: false,
+            lead: 0,
+        };
     }
-    n
+    if lits.len() <= 64 {
+        let mut codes = [0u32; 64];
+        return fill_held(gu, sg, records, lits, sampling, &mut codes, out);
+    }
+    if lits.len() <= 1024 {
+        let mut codes = [0u32; 1024];
+        return fill_held(gu, sg, records, lits, sampling, &mut codes, out);
+    }
+    let mut codes = [0u32; 8192];
+    fill_held(gu, sg, records, lits, sampling, &mut codes, out)
 }
 
-// The first refusal of Pose that applies, 0 for none.
+// The first refusal of Pose that applies to a sound table, 0 for none. The users of the first `lead` literals have solver indices: they are in range
+// and need nothing.
 fn pose_refusal(
     c: Counts,
     gu: &[u32],
@@ -281,26 +283,27 @@ fn pose_refusal(
     assignment: &[u32],
     records: &[u32],
     lits: &[u32],
+    lead: usize,
     sampling: bool,
     outs: usize,
     room: usize,
 ) -> u32
+    requires { ⌜ soundb (given c gu ug sg gs assignment records) ≡ true ⌝ }
+    requires { ⌜ HeldTo (now gu) (now sg) (now lits) lead ⌝ }
     ensures { λ r. ⌜ r ≡ poseRefusal (before c gu ug sg gs assignment records) (old lits) sampling outs room ⌝ }
 {
-    if !is_sound(c, gu, ug, sg, gs, assignment, records) {
-        return 1;
-    }
     if 8192 < lits.len() {
         return 3;
     }
-    if any_outside(c.capacity, lits) {
+    let rest = &lits[lead..];
+    if any_outside(c.capacity, rest) {
         return 3;
     }
     if any_unsampled(gu, records, lits, sampling) {
         return 4;
     }
     let used = count_undeleted(records);
-    let n = count_needs(c.user, gu, sg, lits);
+    let n = count_needs(c.user, gu, sg, rest);
     let users = n.low + (n.top - c.user);
     if c.capacity < used + users {
         return 5;
@@ -310,6 +313,52 @@ fn pose_refusal(
         return 2;
     }
     0
+}
+
+// Pose on a sound table, whatever is to be mapped, granted or refused.
+fn pose_any(
+    c: Counts,
+    gu: &mut [u32],
+    ug: &mut [u32],
+    sg: &mut [u32],
+    gs: &mut [u32],
+    assignment: &mut [u32],
+    records: &mut [u32],
+    lits: &[u32],
+    lead: usize,
+    sampling: bool,
+    out: &mut [u32],
+    notes: &mut [u32],
+) -> PosedLits
+    requires { ⌜ soundb (given c gu ug sg gs assignment records) ≡ true ⌝ }
+    requires { ⌜ HeldTo (now gu) (now sg) (now lits) lead ⌝ }
+    ensures { λ r. ⌜ Meets (λ t room. poseOf t (old lits) sampling (length (old out)) room) (posed r c)
+        (lent c gu ug sg gs assignment records notes) ⌝ }
+    ensures out { λ _. ⌜ Fills out 0 (poseOf (before c gu ug sg gs assignment records) (old lits) sampling
+        (length (old out)) (length (old notes)) .words) ⌝ }
+{
+    let n = pose_refusal(
+        c,
+        gu,
+        ug,
+        sg,
+        gs,
+        assignment,
+        records,
+        lits,
+        lead,
+        sampling,
+        out.len(),
+        notes.len(),
+    );
+    if n != 0 {
+        return PosedLits::Refused(n);
+    }
+    let p = place_all(c, gu, ug, sg, gs, assignment, records, lits, out, notes);
+    let counts = p.counts;
+    let filled = lits.len() as u32;
+    let made = (p.at / 3) as u32;
+    PosedLits::Done(filled, counts, made)
 }
 
 // Pose (01, `solver_from_user_lits`; refusals 1, 3, 4, 5, 2): literal by literal, Map of the user and Grant of its global; the sign stays.
@@ -332,7 +381,15 @@ pub fn solver_from_user_lits(
     ensures out { λ _. ⌜ Fills out 0 (poseOf (before c gu ug sg gs assignment records) (old lits) sampling
         (length (old out)) (length (old notes)) .words) ⌝ }
 {
-    let n = pose_refusal(
+    if !is_sound(c, gu, ug, sg, gs, assignment, records) {
+        return PosedLits::Refused(1);
+    }
+    let tried = pose_held(gu, sg, records, lits, sampling, out);
+    if tried.filled {
+        let filled = lits.len() as u32;
+        return PosedLits::Done(filled, c, 0);
+    }
+    pose_any(
         c,
         gu,
         ug,
@@ -341,14 +398,9 @@ pub fn solver_from_user_lits(
         assignment,
         records,
         lits,
+        tried.lead,
         sampling,
-        out.len(),
-        notes.len(),
-    );
-    if n != 0 {
-        return PosedLits::Refused(n);
-    }
-    let p = place_all(c, gu, ug, sg, gs, assignment, records, lits, out, notes);
-    let counts = p.counts;
-    PosedLits::Done(lits.len() as u32, counts, (p.at / 3) as u32)
+        out,
+        notes,
+    )
 }

@@ -12,6 +12,7 @@ use Rattle.scope.specs.Lookup.{assignmentWordOf}
 use Rattle.scope.specs.Map.{globalFor, mapOne, fillGap, mapUser, nextUser, newUser, toMap, unsampled, mapRefusal, mapOf, newUserRefusal, newUserOf}
 use Rattle.scope.specs.Grant.{grantOne, grant, grantRefusal, grantOf}
 use Rattle.scope.specs.Pose.{poseOne, pose, wanted, usersToMap, poseRefusal, poseOf}
+use Rattle.scope.specs.Distinct.{countNamed, isFirst, plainCount, topOf, isLow, needsGrant, usersBy}
 use Rattle.scope.specs.Modes.{isUnused, deleteIfUnused, show, hide, change, setMode, setModeRefusal, setModeOf, isHidden, observeOne, observe}
 use Rattle.scope.specs.Modes.{observeRefusal, observeOf}
 use Rattle.scope.specs.Marks.{notHeld, unheld, heldElse, litsHeldElse, mark, markRefusal, markOf, assignRefusal, assignOf}
@@ -31,6 +32,7 @@ use Rattle.scope.specs.AnchorsModes.{setModes, observes, removes, sweeps
 use Rattle.scope.specs.AnchorsMarks.{markRows, assigns}
 use Rattle.scope.specs.AnchorsSteps.{simplifies, kindAnchors, causes, renames, writeAnchors}
 use Rattle.scope.specs.AnchorsBinary.{binaries}
+use Rattle.scope.specs.AnchorsDistinct.{userCounts}
 
 literals-hold : AnchorsAgree literalAnchors
 unfolding allBelow least count anyOf keepOf word isShown giveUser takeUser giveSolver takeSolver putRecord putValue dropGlobal soundb sizesb marksb
@@ -191,12 +193,16 @@ unfolding allBelow everyOf anyOf keepOf word isShown soundb sizesb marksb atMost
     deletesAt sectionsFor filledCodes keptWords keptCount deleteBytes binaryRefusal binaryOf
 binaries-hold = (refl, (refl, (refl, (refl, (refl, (refl, (refl, (refl, (refl, (refl, (refl, (refl, (refl, (refl, (refl, (refl, (refl, (refl, (refl, (refl, (refl, (refl, (refl, (refl, (refl, (refl, (refl, (refl, (refl, (refl, (refl, (refl, (refl, (refl, tt))))))))))))))))))))))))))))))))))
 
+userCounts-hold : AnchorsAgree userCounts
+unfolding count anyOf word countNamed isFirst plainCount topOf isLow needsGrant usersBy
+userCounts-hold = (refl, (refl, (refl, (refl, (refl, (refl, (refl, (refl, (refl, (refl, (refl, (refl, (refl, (refl, (refl, (refl, (refl, (refl, (refl, (refl, (refl, (refl, (refl, (refl, (refl, (refl, (refl, (refl, (refl, (refl, (refl, (refl, (refl, (refl, (refl, (refl, (refl, (refl, (refl, (refl, tt))))))))))))))))))))))))))))))))))))))))
+
 pub anchored : AnchorsAgree literalAnchors × AnchorsAgree recordParts × AnchorsAgree everyPart × AnchorsAgree noteRows × AnchorsAgree heldRows
     × AnchorsAgree sounds × AnchorsAgree openAnchors × AnchorsAgree lookups × AnchorsAgree mapAnswers × AnchorsAgree maps
     × AnchorsAgree newUsers × AnchorsAgree grantAnchors × AnchorsAgree poses × AnchorsAgree setModes × AnchorsAgree observes
     × AnchorsAgree removes × AnchorsAgree sweeps × AnchorsAgree models × AnchorsAgree markRows × AnchorsAgree assigns
     × AnchorsAgree simplifies × AnchorsAgree kindAnchors × AnchorsAgree causes × AnchorsAgree renames × AnchorsAgree writeAnchors
-    × AnchorsAgree binaries
+    × AnchorsAgree binaries × AnchorsAgree userCounts
 anchored = (
   literals-hold,
   recordParts-hold,
@@ -224,4 +230,5 @@ anchored = (
   renames-hold,
   written-hold,
   binaries-hold,
+  userCounts-hold,
 )

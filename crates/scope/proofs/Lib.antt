@@ -14,6 +14,8 @@ pub mod MarkLaws
 pub mod OpenLaws
 pub mod WantedLaws
 pub mod PoseLaws
+pub mod DistinctLaws
+pub mod DistinctUsers
 pub mod WriteLaws
 pub mod BinaryLaws
 pub mod BinaryAgain

@@ -22,6 +22,7 @@ use Rattle.scope.specs.Outcome.{Result, giving, each}
 use Rattle.scope.specs.Map.{mapUser, toMap}
 use Rattle.scope.specs.Grant.{grant}
 use Rattle.scope.specs.Pose.{poseOne, pose, wanted, usersToMap}
+use Rattle.scope.specs.Distinct.{named}
 use Rattle.scope.proofs.MoveLaws.{reach-sound}
 use Rattle.scope.proofs.ResultLaws.{Good, good-more, each-keeps, each-good}
 use Rattle.scope.proofs.MapLaws.{MapRoom, Mapped, map-user-mapped, mapped-global, isUngranted, ungranted-free, ungranted-has}
@@ -30,16 +31,13 @@ use Rattle.scope.proofs.WantedLaws.{isFree, takesIn, to-map-count, map-
 
 -- ---- the literals of a prefix
 
--- the user v is named, and a user above v is named
-abbrev pub isNamed : List ℕ → ℕ → Bool
-isNamed lits v = anyOf (λ c. eqb (indexOf c) v) lits
-
+-- a user above v is named
 abbrev pub isPassed : List ℕ → ℕ → Bool
 isPassed lits v = anyOf (λ c. ltb v (indexOf c)) lits
 
 -- how many named users are without a solver index
 unfoldable pub usersToGrant : Table → List ℕ → ℕ
-usersToGrant t lits = count (t .counts .capacity) (λ v. isNamed lits v && isUngranted t v)
+usersToGrant t lits = count (t .counts .capacity) (λ v. named lits v && isUngranted t v)
 
 any-part : (p : ℕ → Bool) (lits : List ℕ) (i : ℕ) → anyOf p (take i lits) ≡ true → anyOf p lits ≡ true
 any-part p lits i e =
@@ -117,10 +115,10 @@ pose-room-of t lits p a b =
 pub record Posed (t : Table) (lits : List ℕ) (i : ℕ) (s : Table) : Type 0 where
   pub sound : Sound s
   pub capacity : s .counts .capacity ≡ t .counts .capacity
-  pub frees : (v : ℕ) → isFree s v ≡ isFree t v && not (isNamed (take i lits) v || (leb (t .counts .user) v && isPassed (take i lits) v))
-  pub covers : (v : ℕ) → leb (s .counts .user) v ≡ leb (t .counts .user) v && not (isNamed (take i lits) v || isPassed (take i lits) v)
+  pub frees : (v : ℕ) → isFree s v ≡ isFree t v && not (named (take i lits) v || (leb (t .counts .user) v && isPassed (take i lits) v))
+  pub covers : (v : ℕ) → leb (s .counts .user) v ≡ leb (t .counts .user) v && not (named (take i lits) v || isPassed (take i lits) v)
   pub undeleted : undeleted s ≡ undeleted t + usersToMap t (take i lits)
-  pub ungranted : (v : ℕ) → isUngranted s v ≡ isUngranted t v && not (isNamed (take i lits) v)
+  pub ungranted : (v : ℕ) → isUngranted s v ≡ isUngranted t v && not (named (take i lits) v)
 
 -- one literal more: the users it maps
 pub to-map-more : (t : Table) (lits : List ℕ) (i : ℕ) (s : Table) → PoseRoom t lits → i < length lits → Posed t lits i s
@@ -133,8 +131,8 @@ to-map-more t lits i s r l o =
     let a =
     count-either (t .counts .capacity) (wanted t (take i lits)) (λ v. isFree s v && takesIn (s .counts .user) u v) (wanted t (take (i + 1) lits))
     (λ v. rw (any-more (λ c. eqb (indexOf c) v) lits i 0 l, any-more (λ c. ltb v (indexOf c)) lits i 0 l, o .frees v, o .covers v)
-    (wanted-more (isFree t v) (isNamed (take i lits) v) (isPassed (take i lits) v) (leb (t .counts .user) v) (eqb u v) (ltb v u)))
-    (λ v e. rw (o .frees v) (wanted-apart (isFree t v) (isNamed (take i lits) v || (leb (t .counts .user) v && isPassed (take i lits) v)) _ e)) in
+    (wanted-more (isFree t v) (named (take i lits) v) (isPassed (take i lits) v) (leb (t .counts .user) v) (eqb u v) (ltb v u)))
+    (λ v e. rw (o .frees v) (wanted-apart (isFree t v) (named (take i lits) v || (leb (t .counts .user) v && isPassed (take i lits) v)) _ e)) in
     let b = to-map-count s u (o .sound) (omega arith) in
     let d = ap (λ (n : ℕ). count n (λ v. isFree s v && takesIn (s .counts .user) u v)) c in
     omega arith
@@ -145,7 +143,7 @@ unfolding usersToMap wanted
 to-map-part t lits i =
     count-within (t .counts .capacity) (wanted t (take i lits)) (wanted t lits)
     (λ v e.
-    part (isFree t v) (leb (t .counts .user) v) (isNamed (take i lits) v) (isPassed (take i lits) v) (isNamed lits v) (isPassed lits v)
+    part (isFree t v) (leb (t .counts .user) v) (named (take i lits) v) (isPassed (take i lits) v) (named lits v) (isPassed lits v)
     (any-part (λ c. eqb (indexOf c) v) lits i) (any-part (λ c. ltb v (indexOf c)) lits i) e)
   where
     part : (F U N P N′ P′ : Bool) → (N ≡ true → N′ ≡ true) → (P ≡ true → P′ ≡ true) → F && (N || (U && P)) ≡ true → F && (N′ || (U && P′)) ≡ true
@@ -245,7 +243,7 @@ pose-step t lits i s x y r l o k =
         any-more
             (λ c. ltb v (indexOf c)) lits i 0 l,
       )
-          (free-more (isFree t v) (isNamed (take i lits) v) (isPassed (take i lits) v) (leb (t .counts .user) v) (eqb u v) (ltb v u));
+          (free-more (isFree t v) (named (take i lits) v) (isPassed (take i lits) v) (leb (t .counts .user) v) (eqb u v) (ltb v u));
       covers = λ v. rw (
         d .same .user,
         map-covers s u x m v,
@@ -254,11 +252,11 @@ pose-step t lits i s x y r l o k =
         any-more (λ c. ltb v (indexOf c)) lits i
             0 l,
       )
-          (cover-more (isNamed (take i lits) v) (isPassed (take i lits) v) (leb (t .counts .user) v) (eqb u v) (ltb v u));
+          (cover-more (named (take i lits) v) (isPassed (take i lits) v) (leb (t .counts .user) v) (eqb u v) (ltb v u));
       undeleted = omega arith;
       ungranted = λ v. grant-ungranted (x .table) u (x .value) y (m .sound) (m .has) d v
           ∙ rw (m .ungranted v, o .ungranted v, any-more (λ c. eqb (indexOf c) v) lits i 0 l)
-          (ungranted-more (isUngranted t v) (isNamed (take i lits) v) (eqb u v));
+          (ungranted-more (isUngranted t v) (named (take i lits) v) (eqb u v));
     }
 
 -- ---- Pose
@@ -341,7 +339,7 @@ pose-sound t lits r = reach-sound (pose-reach t lits r) (r .sound)
 
 to-grant-none : (t : Table) → usersToGrant t [] ≡ 0
 unfolding usersToGrant anyOf
-to-grant-none t = count-never (t .counts .capacity) (λ v. isNamed [] v && isUngranted t v) (λ v. refl)
+to-grant-none t = count-never (t .counts .capacity) (λ v. named [] v && isUngranted t v) (λ v. refl)
 
 -- one literal more: whether it is granted a solver index
 pub to-grant-more : (t : Table) (lits : List ℕ) (i : ℕ) (s : Table) → PoseRoom t lits → i < length lits → Posed t lits i s
@@ -350,10 +348,10 @@ unfolding usersToGrant
 to-grant-more t lits i s r l o =
     let u = indexOf (getD lits i 0) in
     let a =
-    count-either (t .counts .capacity) (λ v. isNamed (take i lits) v && isUngranted t v) (λ v. eqb u v && isUngranted s v)
-    (λ v. isNamed (take (i + 1) lits) v && isUngranted t v)
-    (λ v. rw (any-more (λ c. eqb (indexOf c) v) lits i 0 l, o .ungranted v) (grant-more (isNamed (take i lits) v) (eqb u v) (isUngranted t v)))
-    (λ v e. rw (o .ungranted v) (grant-apart (isNamed (take i lits) v) (eqb u v) (isUngranted t v) e)) in
+    count-either (t .counts .capacity) (λ v. named (take i lits) v && isUngranted t v) (λ v. eqb u v && isUngranted s v)
+    (λ v. named (take (i + 1) lits) v && isUngranted t v)
+    (λ v. rw (any-more (λ c. eqb (indexOf c) v) lits i 0 l, o .ungranted v) (grant-more (named (take i lits) v) (eqb u v) (isUngranted t v)))
+    (λ v e. rw (o .ungranted v) (grant-apart (named (take i lits) v) (eqb u v) (isUngranted t v) e)) in
     let b = count-point (t .counts .capacity) u (isUngranted s) (r .within i l) in
     omega arith
 

@@ -4,14 +4,15 @@ use Prim.Native.Nat.{ℕ}
 use mathlib.Core.Bool.{Bool}
 use mathlib.Core.Path.{_≡_}
 use mathlib.Core.List.{List, [], _∷_}
-use Rattle.base.specs.Answer.{accepted, refused}
+use Rattle.base.specs.Answer.{Answer, accepted, refused}
 use Rattle.scope.specs.Table.{Table}
 use Rattle.scope.specs.Notes.{Note, notesWords}
 use Rattle.scope.specs.Outcome.{Outcome}
 
--- What is looked at: all that a call does, with the words of its notes; or words, a number, a test.
+-- What is looked at: all that a call does, with the words of its notes; or an answer alone, words, a number, a test.
 pub data CallSeen : Type 0 where
   call : Outcome → List ℕ → CallSeen
+  answer : Answer → CallSeen
   words : List ℕ → CallSeen
   number : ℕ → CallSeen
   test : Bool → CallSeen

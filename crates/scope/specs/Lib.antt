@@ -10,6 +10,7 @@ pub mod Open
 pub mod Map
 pub mod Grant
 pub mod Pose
+pub mod Distinct
 pub mod Modes
 pub mod Marks
 pub mod Remove
@@ -28,3 +29,4 @@ pub mod AnchorsSteps
 pub mod AnchorsBinary
 pub mod AnchorsSound
 pub mod AnchorsWords
+pub mod AnchorsDistinct

@@ -11,6 +11,7 @@ use lib.Dec.{eqb}
 use lib.ListN.{length, getD, take, set, replicate, length-set, length-take, length-replicate}
 use lib.Seq.{take-suc, take-all, getD-set-same, getD-set-other}
 use borrow.Author.Tests.{eqb-true, eq-eqb, ne-eqb}
+use Rattle.base.proofs.StoreLaws.{zeros}
 use Rattle.base.specs.Bounded.{everyOf, keepOf}
 use Rattle.base.specs.Choice.{pick}
 use Rattle.base.proofs.Truth.{same}
@@ -63,11 +64,6 @@ every-seen p (x ∷ es) m e h = go (every-seen p es m (and-right (p x) (everyOf 
     go r false q k = r k
 
 -- ---- no entries
-
-zeros : (k m : ℕ) → _≡_ {A = ℕ} (getD (replicate k 0) m 0) 0
-zeros zero m = refl
-zeros (suc k) zero = refl
-zeros (suc k) (suc m) = zeros k m
 
 pub tally-none : Tallied [] (replicate 8192 0)
 tally-none = record { size = length-replicate {A = ℕ} 8192 0; slot = λ m. zeros 8192 m ∙ sym (times-none m) }

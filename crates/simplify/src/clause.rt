@@ -95,15 +95,3 @@ pub fn keep_rest(
     }
     k
 }
-
-// The literals as given, from the start of `out`.
-pub fn keep_all(lits: &[u32], out: &mut [u32])
-    requires { ⌜ length (now lits) ≤ length (now out) ⌝ }
-    ensures { λ _. ⌜ Fills out 0 (old lits) ⌝ }
-{
-    let mut i = 0;
-    while i < lits.len() {
-        out[i] = lits[i];
-        i += 1;
-    }
-}

@@ -1,7 +1,6 @@
 // Simplify a clause: a true literal drops it, false literals go, and the steps that say so are written.
 mod clause;
 
-use clause::keep_all;
 use clause::keep_rest;
 use clause::sort_clause;
 use drat::Format;
@@ -15,6 +14,7 @@ use steps::write::Recorded;
 use steps::write::bytes_len;
 use steps::write::put_bytes;
 use steps::write::write_judged;
+use table::copy_lits;
 use table::is_sound;
 ghost use mathlib.Core.Path.{_≡_};
 ghost use mathlib.Core.Bool.{Bool, true};
@@ -89,7 +89,7 @@ fn keep_clause(lits: &[u32], out: &mut [u32]) -> Reduced
     if out.len() < lits.len() {
         return Reduced::Refused(2);
     }
-    keep_all(lits, out);
+    copy_lits(lits, out);
     Reduced::Done(Simplified::Kept, lits.len(), false, 0)
 }
 

@@ -1,5 +1,4 @@
 pub mod KindLaws
-pub mod StoreLaws
 pub mod LiteralLaws
 pub mod ChainLaws
 pub mod StepLaws

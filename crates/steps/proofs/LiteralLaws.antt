@@ -25,7 +25,7 @@ use Rattle.scope.proofs.ResultLaws.{past}
 use Rattle.scope.proofs.MarkLaws.{lits-past, lits-else}
 use Rattle.steps.specs.Names.{namesBy, Nameable}
 use Rattle.steps.specs.Refusals.{literalRefusal}
-use Rattle.steps.proofs.StoreLaws.{stored-part}
+use Rattle.base.proofs.StoreLaws.{stored-part}
 
 -- ---- refusals 3 and 8
 

@@ -128,6 +128,18 @@ pub fn any_outside(capacity: u32, lits: &[u32]) -> bool
     found
 }
 
+// The literals as they are, from the start of `out` on.
+pub fn copy_lits(lits: &[u32], out: &mut [u32])
+    requires { ⌜ length (now lits) ≤ length (now out) ⌝ }
+    ensures { λ _. ⌜ Fills out 0 (old lits) ⌝ }
+{
+    let mut i = 0;
+    while i < lits.len() {
+        out[i] = lits[i];
+        i += 1;
+    }
+}
+
 fn yes_word(yes: bool) -> u32
     ensures { λ r. ⌜ r ≡ pick yes 1 0 ⌝ }
 {

@@ -1,4 +1,4 @@
-use Rattle.posing.proofs.CountLaws.{asked}
+use Rattle.posing.proofs.CallLaws.{asked}
 use Rattle.base.proofs.BelowLaws.{and-not-left}
 use Prim.Native.Nat.{_-_, _≤_}
 use mathlib.Core.Path.{_≡_, sym, _∙_}

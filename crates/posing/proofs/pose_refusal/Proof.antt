@@ -1,94 +1,148 @@
-use Rattle.table.proofs.CheckLaws.{yes-of, no-of}
-use Rattle.posing.proofs.CallLaws.{pose-counts, within-of, within-small, pose-1, pose-many, pose-3, pose-4, pose-5, pose-2, pose-0}
-use Rattle.naming.proofs.CallLaws.{all-inside, records-small}
+use Rattle.posing.proofs.CallLaws.{counts-by, pose-many, pose-3, pose-4, pose-5, pose-2, pose-0}
+use Rattle.posing.proofs.HeldLaws.{rest-outside, rest-needs, rest-asks}
+use Rattle.scope.proofs.DistinctUsers.{within-of}
+use Rattle.naming.proofs.CallLaws.{all-inside, records-small, undeleted-is}
 use native.Mathlib.Omega.{arith}
 use mathlib.Core.Path.{sym, _∙_}
 use borrow.Author.Needs.{needs}
 use Rattle.posing.proofs.pose_refusal.Statement.{statement}
 use Rattle.posing.proofs.pose_refusal.Tie as tie
 
-is-sound-requires : tie.Need-is-sound-requires
-is-sound-requires c κs = search needs
-
 returns : tie.Need-returns
-returns c = pose-1 _ _ _ _ _ (no-of (c .before .is-sound .ensures) (c .if1 .taken))
+returns c =
+    let entry = c .before .before .before .before .before .before .before .before in
+    pose-many _ _ _ _ _ (entry .pre .0) (c .if1 .taken)
 
-returns-2 : tie.Need-returns-2
-returns-2 c = pose-many _ _ _ _ _ (yes-of (c .before .before .is-sound .ensures) (c .before .if1 .left)) (c .if2 .taken)
+mul-rest : tie.Need-mul-rest
+mul-rest c = search needs
+
+sub-rest : tie.Need-sub-rest
+sub-rest c =
+    let entry = c .before .before .before .before .before .before .before .before in
+    let m = entry .pre .1 .most in
+    omega arith
+
+part-rest-start : tie.Need-part-rest-start
+part-rest-start c =
+    let entry = c .before .before .before .before .before .before .before .before in
+    let m = entry .pre .1 .most in
+    omega arith
+
+part-rest-end : tie.Need-part-rest-end
+part-rest-end c =
+    let entry = c .before .before .before .before .before .before .before .before in
+    let m = entry .pre .1 .most in
+    omega arith
 
 any-outside-requires : tie.Need-any-outside-requires
 any-outside-requires c κs = search needs
 
-returns-3 : tie.Need-returns-3
-returns-3 c = pose-3 _ _ _ _ _ (yes-of (c .before .before .before .before .is-sound .ensures) (c .before .before .before .if1 .left))
-    (c .before .before .if2 .left) _ (c .before .any-outside .ensures) (c .if3 .taken)
+returns-2 : tie.Need-returns-2
+returns-2 c =
+    let at-any-outside = c .before in
+    let at-if1 = at-any-outside .before .before in
+    let entry = at-if1 .before .before .before .before .before .before .before .before in
+    pose-3 _ _ _ _ _ (entry .pre .0) (at-if1 .if1 .left) _ (rest-outside _ _ _ _ (entry .pre .0) (entry .pre .1) (at-any-outside .any-outside .ensures)) (c
+    .if2 .taken)
 
 any-unsampled-requires : tie.Need-any-unsampled-requires
-any-unsampled-requires c κs = all-inside _ (yes-of (c .before .before .before .before .is-sound .ensures) (c .before .before .before .if1 .left))
+any-unsampled-requires c κs =
+    let entry = c .before .before .before .before .before .before .before .before .before .before .before in
+    all-inside _ (entry .pre .0)
 
-returns-4 : tie.Need-returns-4
-returns-4 c = pose-4 _ _ _ _ _ (yes-of (c .before .before .before .before .before .before .is-sound .ensures)
-    (c .before .before .before .before .before .if1 .left)) (c .before .before .before .before .if2 .left)
-    (sym (c .before .before .before .any-outside .ensures) ∙ c .before .before .if3 .left) _ (c .before .any-unsampled .ensures) (c .if4 .taken)
+returns-3 : tie.Need-returns-3
+returns-3 c =
+    let at-any-unsampled = c .before in
+    let at-if2 = at-any-unsampled .before in
+    let at-any-outside = at-if2 .before in
+    let at-if1 = at-any-outside .before .before in
+    let entry = at-if1 .before .before .before .before .before .before .before .before in
+    pose-4 _ _ _ _ _ (entry .pre .0) (at-if1 .if1 .left) (sym (rest-outside _ _ _ _ (entry .pre .0) (entry .pre .1) (at-any-outside .any-outside
+    .ensures)) ∙ at-if2 .if2 .left) _
+    (at-any-unsampled .any-unsampled .ensures) (c .if3 .taken)
 
 count-undeleted-requires : tie.Need-count-undeleted-requires
 count-undeleted-requires c κs =
-    records-small _ (yes-of (c .before .before .before .before .before .before .is-sound .ensures) (c .before .before .before .before .before .if1 .left))
+    let entry = c .before .before .before .before .before .before .before .before .before .before .before .before .before in
+    records-small _ (entry .pre .0)
 
 count-needs-requires : tie.Need-count-needs-requires
-count-needs-requires c κs = (
-  (c .before .before .before .before .before .if2 .left),
-  within-small _ _
-      (yes-of (c .before .before .before .before .before .before .before .is-sound .ensures) (c .before .before .before .before .before .before .if1 .left))
-      (sym (c .before .before .before .before .any-outside .ensures) ∙ c .before .before .before .if3 .left),
-)
+count-needs-requires c κs =
+    let at-if2 = c .before .before .before in
+    let at-any-outside = at-if2 .before in
+    let at-if1 = at-any-outside .before .before in
+    let entry = at-if1 .before .before .before .before .before .before .before .before in
+    rest-asks _ _ _ _ (entry .pre .0) (entry .pre .1) (at-if1 .if1 .left) (at-any-outside .any-outside .ensures) (at-if2 .if2 .left)
 
 sub-users : tie.Need-sub-users
-sub-users c = search needs
+sub-users c =
+    let at-count-needs = c .before .before in
+    let at-count-undeleted = at-count-needs .before in
+    let at-if2 = at-count-undeleted .before .before .before in
+    let at-any-outside = at-if2 .before in
+    let entry = at-any-outside .before .before .before .before .before .before .before .before .before .before in
+    let k = counts-by _ _ _ _ (entry .pre .0) (within-of _ _ (sym (rest-outside _ _ _ _ (entry .pre .0) (entry .pre .1) (at-any-outside .any-outside
+    .ensures)) ∙ at-if2 .if2 .left))
+    (undeleted-is _ _ (entry .pre .0) (at-count-undeleted .count-undeleted .ensures))
+    (rest-needs _ _ _ _ (entry .pre .0) (entry .pre .1) (at-count-needs .count-needs .ensures)) .1 in
+    k .above
 
 add-users : tie.Need-add-users
 add-users c =
-    let at-if1 = c .before .before .before .before .before .before .before .before .before .before in
-    let at-is-sound = at-if1 .before in
-    let k = (pose-counts _ _ _ _ _ _ (yes-of (at-is-sound .is-sound .ensures) (at-if1 .if1 .left))
-    (within-of _ _ (sym (c .before .before .before .before .before .before .before .before .any-outside .ensures)
-    ∙ c .before .before .before .before .before .before .before .if3 .left)) (c .before .before .before .before .count-undeleted .ensures)
-    (c .before .before .before .count-needs .ensures)) in omega arith
+    let at-count-needs = c .before .before .before in
+    let at-count-undeleted = at-count-needs .before in
+    let at-if2 = at-count-undeleted .before .before .before in
+    let at-any-outside = at-if2 .before in
+    let entry = at-any-outside .before .before .before .before .before .before .before .before .before .before in
+    let k = counts-by _ _ _ _ (entry .pre .0) (within-of _ _ (sym (rest-outside _ _ _ _ (entry .pre .0) (entry .pre .1) (at-any-outside .any-outside
+    .ensures)) ∙ at-if2 .if2 .left))
+    (undeleted-is _ _ (entry .pre .0) (at-count-undeleted .count-undeleted .ensures))
+    (rest-needs _ _ _ _ (entry .pre .0) (entry .pre .1) (at-count-needs .count-needs .ensures)) .1 in
+    omega arith
 
-add-if5 : tie.Need-add-if5
-add-if5 c =
-    let at-if1 = c .before .before .before .before .before .before .before .before .before .before in
-    let at-is-sound = at-if1 .before in
-    let k = (pose-counts _ _ _ _ _ _ (yes-of (at-is-sound .is-sound .ensures) (at-if1 .if1 .left))
-    (within-of _ _ (sym (c .before .before .before .before .before .before .before .before .any-outside .ensures)
-    ∙ c .before .before .before .before .before .before .before .if3 .left)) (c .before .before .before .before .count-undeleted .ensures)
-    (c .before .before .before .count-needs .ensures)) in omega arith
+add-if4 : tie.Need-add-if4
+add-if4 c =
+    let at-count-needs = c .before .before .before in
+    let at-count-undeleted = at-count-needs .before in
+    let at-if2 = at-count-undeleted .before .before .before in
+    let at-any-outside = at-if2 .before in
+    let entry = at-any-outside .before .before .before .before .before .before .before .before .before .before in
+    let k = counts-by _ _ _ _ (entry .pre .0) (within-of _ _ (sym (rest-outside _ _ _ _ (entry .pre .0) (entry .pre .1) (at-any-outside .any-outside
+    .ensures)) ∙ at-if2 .if2 .left))
+    (undeleted-is _ _ (entry .pre .0) (at-count-undeleted .count-undeleted .ensures))
+    (rest-needs _ _ _ _ (entry .pre .0) (entry .pre .1) (at-count-needs .count-needs .ensures)) .1 in
+    omega arith
 
-returns-5 : tie.Need-returns-5
-returns-5 c =
-    let at-any-outside = c .before .before .before .before .before .before .before .before .before .before in
-    let at-if2 = at-any-outside .before in
-    let at-if1 = at-if2 .before in
-    let at-is-sound = at-if1 .before in
-    pose-5 _ _ _ _ _ (yes-of (at-is-sound .is-sound .ensures) (at-if1 .if1 .left)) (at-if2 .if2 .left)
-    (sym (at-any-outside .any-outside .ensures) ∙ c .before .before .before .before .before .before .before .before .before .if3 .left) _
-    (c .before .before .before .before .before .before .before .before .any-unsampled .ensures)
-    (c .before .before .before .before .before .before .before .if4 .left) _ _ _ _
-    (pose-counts _ _ _ _ _ _ (yes-of (at-is-sound .is-sound .ensures) (at-if1 .if1 .left))
-    (within-of _ _ (sym (at-any-outside .any-outside .ensures) ∙ c .before .before .before .before .before .before .before .before .before .if3 .left))
-    (c .before .before .before .before .before .before .count-undeleted .ensures) (c .before .before .before .before .before .count-needs .ensures))
-    (c .if5 .taken)
+returns-4 : tie.Need-returns-4
+returns-4 c =
+    let at-count-needs = c .before .before .before .before .before in
+    let at-count-undeleted = at-count-needs .before in
+    let at-if3 = at-count-undeleted .before in
+    let at-any-unsampled = at-if3 .before in
+    let at-if2 = at-any-unsampled .before in
+    let at-any-outside = at-if2 .before in
+    let at-if1 = at-any-outside .before .before in
+    let entry = at-if1 .before .before .before .before .before .before .before .before in
+    pose-5 _ _ _ _ _ (entry .pre .0) (at-if1 .if1 .left) (sym (rest-outside _ _ _ _ (entry .pre .0) (entry .pre .1) (at-any-outside .any-outside
+    .ensures)) ∙ at-if2 .if2 .left) _
+    (at-any-unsampled .any-unsampled .ensures) (at-if3 .if3 .left) _ _ _ _
+    (counts-by _ _ _ _ (entry .pre .0) (within-of _ _ (sym (rest-outside _ _ _ _ (entry .pre .0) (entry .pre .1) (at-any-outside .any-outside
+    .ensures)) ∙ at-if2 .if2 .left))
+    (undeleted-is _ _ (entry .pre .0) (at-count-undeleted .count-undeleted .ensures))
+    (rest-needs _ _ _ _ (entry .pre .0) (entry .pre .1) (at-count-needs .count-needs .ensures)) .1) (c .if4 .taken)
 
 add-words : tie.Need-add-words
 add-words c =
-    let at-if3 = c .before .before .before .before .before .before .before .before .before .before in
-    let at-any-outside = at-if3 .before in
-    let at-if1 = at-any-outside .before .before in
-    let at-is-sound = at-if1 .before in
-    let k = (pose-counts _ _ _ _ _ _ (yes-of (at-is-sound .is-sound .ensures) (at-if1 .if1 .left))
-    (within-of _ _ (sym (at-any-outside .any-outside .ensures) ∙ at-if3 .if3 .left))
-    (c .before .before .before .before .before .before .before .count-undeleted .ensures)
-    (c .before .before .before .before .before .before .count-needs .ensures)) in omega arith
+    let at-count-needs = c .before .before .before .before .before .before in
+    let at-count-undeleted = at-count-needs .before in
+    let at-if2 = at-count-undeleted .before .before .before in
+    let at-any-outside = at-if2 .before in
+    let entry = at-any-outside .before .before .before .before .before .before .before .before .before .before in
+    let k = counts-by _ _ _ _ (entry .pre .0) (within-of _ _ (sym (rest-outside _ _ _ _ (entry .pre .0) (entry .pre .1) (at-any-outside .any-outside
+    .ensures)) ∙ at-if2 .if2 .left))
+    (undeleted-is _ _ (entry .pre .0) (at-count-undeleted .count-undeleted .ensures))
+    (rest-needs _ _ _ _ (entry .pre .0) (entry .pre .1) (at-count-needs .count-needs .ensures)) .1 in
+    omega arith
 
 cast-words : tie.Need-cast-words
 cast-words c = search needs
@@ -96,57 +150,65 @@ cast-words c = search needs
 mul-words : tie.Need-mul-words
 mul-words c = search needs
 
+returns-5 : tie.Need-returns-5
+returns-5 c =
+    let at-if4 = c .before .before in
+    let at-count-needs = at-if4 .before .before .before .before .before in
+    let at-count-undeleted = at-count-needs .before in
+    let at-if3 = at-count-undeleted .before in
+    let at-any-unsampled = at-if3 .before in
+    let at-if2 = at-any-unsampled .before in
+    let at-any-outside = at-if2 .before in
+    let at-if1 = at-any-outside .before .before in
+    let entry = at-if1 .before .before .before .before .before .before .before .before in
+    pose-2 _ _ _ _ _ (entry .pre .0) (at-if1 .if1 .left) (sym (rest-outside _ _ _ _ (entry .pre .0) (entry .pre .1) (at-any-outside .any-outside
+    .ensures)) ∙ at-if2 .if2 .left) _
+    (at-any-unsampled .any-unsampled .ensures) (at-if3 .if3 .left) _ _ _ _
+    (counts-by _ _ _ _ (entry .pre .0) (within-of _ _ (sym (rest-outside _ _ _ _ (entry .pre .0) (entry .pre .1) (at-any-outside .any-outside
+    .ensures)) ∙ at-if2 .if2 .left))
+    (undeleted-is _ _ (entry .pre .0) (at-count-undeleted .count-undeleted .ensures))
+    (rest-needs _ _ _ _ (entry .pre .0) (entry .pre .1) (at-count-needs .count-needs .ensures)) .1) (at-if4 .if4 .left) (c .if5 .taken)
+
 returns-6 : tie.Need-returns-6
 returns-6 c =
-    let at-any-unsampled = c .before .before .before .before .before .before .before .before .before .before in
-    let at-if3 = at-any-unsampled .before in
-    let at-any-outside = at-if3 .before in
-    let at-if2 = at-any-outside .before in
-    let at-if1 = at-if2 .before in
-    let at-is-sound = at-if1 .before in
-    pose-2 _ _ _ _ _ (yes-of (at-is-sound .is-sound .ensures) (at-if1 .if1 .left)) (at-if2 .if2 .left)
-    (sym (at-any-outside .any-outside .ensures) ∙ at-if3 .if3 .left) _ (at-any-unsampled .any-unsampled .ensures)
-    (c .before .before .before .before .before .before .before .before .before .if4 .left) _ _ _ _
-    (pose-counts _ _ _ _ _ _ (yes-of (at-is-sound .is-sound .ensures) (at-if1 .if1 .left))
-    (within-of _ _ (sym (at-any-outside .any-outside .ensures) ∙ at-if3 .if3 .left))
-    (c .before .before .before .before .before .before .before .before .count-undeleted .ensures)
-    (c .before .before .before .before .before .before .before .count-needs .ensures)) (c .before .before .if5 .left) (c .if6 .taken)
-
-returns-7 : tie.Need-returns-7
-returns-7 c =
-    let at-any-unsampled = c .before .before .before .before .before .before .before .before .before .before in
-    let at-if3 = at-any-unsampled .before in
-    let at-any-outside = at-if3 .before in
-    let at-if2 = at-any-outside .before in
-    let at-if1 = at-if2 .before in
-    let at-is-sound = at-if1 .before in
-    pose-0 _ _ _ _ _ (yes-of (at-is-sound .is-sound .ensures) (at-if1 .if1 .left)) (at-if2 .if2 .left)
-    (sym (at-any-outside .any-outside .ensures) ∙ at-if3 .if3 .left) _ (at-any-unsampled .any-unsampled .ensures)
-    (c .before .before .before .before .before .before .before .before .before .if4 .left) _ _ _ _
-    (pose-counts _ _ _ _ _ _ (yes-of (at-is-sound .is-sound .ensures) (at-if1 .if1 .left))
-    (within-of _ _ (sym (at-any-outside .any-outside .ensures) ∙ at-if3 .if3 .left))
-    (c .before .before .before .before .before .before .before .before .count-undeleted .ensures)
-    (c .before .before .before .before .before .before .before .count-needs .ensures)) (c .before .before .if5 .left) (c .if6 .left)
+    let at-if4 = c .before .before in
+    let at-count-needs = at-if4 .before .before .before .before .before in
+    let at-count-undeleted = at-count-needs .before in
+    let at-if3 = at-count-undeleted .before in
+    let at-any-unsampled = at-if3 .before in
+    let at-if2 = at-any-unsampled .before in
+    let at-any-outside = at-if2 .before in
+    let at-if1 = at-any-outside .before .before in
+    let entry = at-if1 .before .before .before .before .before .before .before .before in
+    pose-0 _ _ _ _ _ (entry .pre .0) (at-if1 .if1 .left) (sym (rest-outside _ _ _ _ (entry .pre .0) (entry .pre .1) (at-any-outside .any-outside
+    .ensures)) ∙ at-if2 .if2 .left) _
+    (at-any-unsampled .any-unsampled .ensures) (at-if3 .if3 .left) _ _ _ _
+    (counts-by _ _ _ _ (entry .pre .0) (within-of _ _ (sym (rest-outside _ _ _ _ (entry .pre .0) (entry .pre .1) (at-any-outside .any-outside
+    .ensures)) ∙ at-if2 .if2 .left))
+    (undeleted-is _ _ (entry .pre .0) (at-count-undeleted .count-undeleted .ensures))
+    (rest-needs _ _ _ _ (entry .pre .0) (entry .pre .1) (at-count-needs .count-needs .ensures)) .1) (at-if4 .if4 .left) (c .if5 .left)
 
 pub pose-refusal-spec : {M : Type 1} → statement M
 pose-refusal-spec =
     tie.close
     (tie.spec
-    is-sound-requires
     returns
-    returns-2
+    mul-rest
+    sub-rest
+    part-rest-start
+    part-rest-end
     any-outside-requires
-    returns-3
+    returns-2
     any-unsampled-requires
-    returns-4
+    returns-3
     count-undeleted-requires
     count-needs-requires
     sub-users
     add-users
-    add-if5
-    returns-5
+    add-if4
+    returns-4
     add-words
     cast-words
     mul-words
-    returns-6
-    returns-7)
+    returns-5
+    returns-6)

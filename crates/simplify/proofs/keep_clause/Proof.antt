@@ -12,8 +12,8 @@ returns c f t r m s =
     let e = kept-short f t (entry .args .lits .now) r m (entry .args .out .now) (s .passes) (s .sort) (c .if1 .taken) in
     (sym (ap (λ (o : Outcome). o .answer) e), sym (ap (λ (o : Outcome). sets (entry .args .out .now) 0 (o .words)) e))
 
-keep-all-requires : tie.Need-keep-all-requires
-keep-all-requires c κs = c .before .if1 .left
+copy-lits-requires : tie.Need-copy-lits-requires
+copy-lits-requires c κs = c .before .if1 .left
 
 same-length : tie.Need-same-length
 same-length c = search needs
@@ -24,9 +24,9 @@ returns-2 c f t r m s =
     let e = kept-filled f t (entry .args .lits .now) r m (entry .args .out .now) (s .passes) (s .sort) (c .before .before .before .before .if1 .left) in (
       kept-answer f t (entry .args .lits .now) r m (entry .args .out .now) (s .passes) (s .sort)
           ∙ sym (ap (λ (o : Outcome). o .answer) e),
-      (c .before .before .keep-all .ensures)
+      (c .before .before .copy-lits .ensures)
           ∙ sym (ap (λ (o : Outcome). sets (entry .args .out .now) 0 (o .words)) e),
     )
 
 pub keep-clause-spec : {M : Type 1} → statement M
-keep-clause-spec = tie.close (tie.spec returns keep-all-requires same-length returns-2)
+keep-clause-spec = tie.close (tie.spec returns copy-lits-requires same-length returns-2)

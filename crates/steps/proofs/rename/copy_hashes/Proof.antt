@@ -4,7 +4,7 @@ use Prim.Native.Nat.{ℕ, _≤_, _-_}
 use lib.ListN.{length}
 use mathlib.Core.Path.{_≡_, refl, ap, _∙_}
 use native.Mathlib.Omega.{arith}
-use Rattle.steps.proofs.StoreLaws.{copied, copy-start, copy-next, copy-end, copy-kept, copy-there}
+use Rattle.base.proofs.StoreLaws.{copied, copy-start, copy-next, copy-end, copy-kept, copy-there}
 use borrow.Author.Needs.{needs}
 use Rattle.steps.proofs.rename.copy_hashes.Statement.{statement}
 use Rattle.steps.proofs.rename.copy_hashes.Tie as tie

@@ -3,7 +3,7 @@ use Prim.Native.Nat.{_≤_, _-_}
 use lib.ListN.{length, getD}
 use mathlib.Core.Path.{_≡_}
 use native.Mathlib.Omega.{arith}
-use Rattle.steps.proofs.StoreLaws.{copied, copy-start, copy-next, copy-end, copy-kept, copy-there}
+use Rattle.base.proofs.StoreLaws.{copied, copy-start, copy-next, copy-end, copy-kept, copy-there}
 use Rattle.steps.proofs.UnitLaws.{unit-asks, unit-named}
 use borrow.Author.Needs.{needs}
 use Rattle.steps.proofs.rename.rename_lits.Statement.{statement}

@@ -4,10 +4,10 @@ use Prim.Native.Nat.{ℕ, _≤_, _-_}
 use lib.ListN.{length}
 use mathlib.Core.Path.{_≡_, refl, ap, _∙_}
 use native.Mathlib.Omega.{arith}
-use Rattle.steps.proofs.StoreLaws.{copied, copy-start, copy-next, copy-end, copy-kept, copy-there}
+use Rattle.base.proofs.StoreLaws.{copied, copy-start, copy-next, copy-end, copy-kept, copy-there}
 use borrow.Author.Needs.{needs}
-use Rattle.simplify.proofs.clause.keep_all.Statement.{statement}
-use Rattle.simplify.proofs.clause.keep_all.Tie as tie
+use Rattle.table.proofs.copy_lits.Statement.{statement}
+use Rattle.table.proofs.copy_lits.Tie as tie
 
 abbrev Inv-loop : tie.InvT-loop
 Inv-loop lits out₀ i₀ out i =
@@ -52,8 +52,8 @@ returns : tie.Need-returns Inv-loop μ-loop
 returns c = copy-end (λ x. x) (c .before .before .args .out .now) (c .before .before .args .lits .now) _ _ (c .loop-test .left) (c .before .loop .inv .1)
     ∙ ap (λ (ls : List ℕ). sets (c .before .before .args .out .now) 0 ls) (map-id (c .before .before .args .lits .now))
 
-pub keep-all-spec : {M : Type 1} → statement M
-keep-all-spec =
+pub copy-lits-spec : {M : Type 1} → statement M
+copy-lits-spec =
     tie.close
     (tie.spec
     Inv-loop

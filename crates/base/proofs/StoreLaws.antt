@@ -1,12 +1,18 @@
--- Stores from the start of a slice on, for a loop that has passed the first i members of a list.
-use Prim.Native.Nat.{ℕ, suc, _+_, _≤_, _<_}
+-- A cleared list, and stores from the start of a slice on, for a loop that has passed the first i members of a list.
+use Prim.Native.Nat.{ℕ, zero, suc, _+_, _≤_, _<_}
 use mathlib.Core.Path.{_≡_, refl, sym, ap, _∙_}
 use mathlib.Core.List.{List, [], _∷_, _++_, map, map-append}
 use native.Mathlib.Numerals.{add-one}
 use native.Mathlib.Omega.{arith}
-use lib.ListN.{length, getD, take, drop, set, length-take, length-map, length-append}
+use lib.ListN.{length, getD, take, set, replicate, length-take, length-map}
 use lib.Seq.{sets, length-sets, sets-eq, take-suc, take-all, take-at}
 use Rattle.base.proofs.SetsLaws.{store-next}
+
+-- a cleared list
+pub zeros : (n i : ℕ) → _≡_ {A = ℕ} (getD (replicate n 0) i 0) 0
+zeros zero i = refl
+zeros (suc n) zero = refl
+zeros (suc n) (suc i) = zeros n i
 
 -- a run of stores is read back from the start
 pub stored-part : (l m ys : List ℕ) (n : ℕ) → m ≡ sets l 0 ys → n ≡ length ys → n ≤ length l → take n m ≡ ys

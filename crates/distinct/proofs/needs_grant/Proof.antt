@@ -1,9 +1,9 @@
 use Rattle.table.proofs.FoundLaws.{globalWord, global-word, solverWord, solver-word}
-use Rattle.posing.proofs.CountLaws.{needs-none, needs-free, needs-held}
+use Rattle.distinct.proofs.NeedLaws.{needs-none, needs-free, needs-held}
 use mathlib.Core.Path.{_∙_, ap}
 use borrow.Author.Needs.{needs}
-use Rattle.posing.proofs.needs_grant.Statement.{statement}
-use Rattle.posing.proofs.needs_grant.Tie as tie
+use Rattle.distinct.proofs.needs_grant.Statement.{statement}
+use Rattle.distinct.proofs.needs_grant.Tie as tie
 
 global-of-requires : tie.Need-global-of-requires
 global-of-requires c κs = search needs
