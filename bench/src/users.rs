@@ -62,7 +62,7 @@ pub fn counts(report: &Report) {
     ];
     for (name, codes, table, judged) in rows {
         let [marked, plain] = time_counts(&table, &codes);
-        let goal = if judged { report.goal("count of users", marked / plain, 0.1) } else { String::from("none") };
+        let goal = if judged { report.goal("count of distinct users", marked / plain, 0.1) } else { String::from("none") };
         report.row(&[name.into(), time(marked), time(plain), format!("{:.4}", marked / plain), goal]);
     }
 }
