@@ -177,6 +177,25 @@ static void reading(const uint8_t *proof, size_t length) {
     expect(cut.refusal == HZ_BROKEN_PROOF && cut.place == 17);
 }
 
+/* The clauses beside the proof, as a DIMACS CNF file: boxes 1 or 3 but not 2, and box 2. */
+static void clauses(void) {
+    const uint32_t codes[4] = {POS(1), NEG(2), POS(3), POS(2)};
+    const uint64_t ends[2] = {3, 4};
+    const char *want = "p cnf 4 2\n2 -3 4 0\n3 0\n";
+    uint8_t file[64];
+    hz_written written = hz_write_cnf(codes, 4, ends, 2, file, sizeof file);
+    expect(written.refusal == HZ_ACCEPTED && written.bytes == strlen(want) && memcmp(file, want, written.bytes) == 0);
+    expect(hz_write_cnf(codes, 4, ends, 1, file, sizeof file).refusal == HZ_OUT_OF_RANGE);
+
+    uint32_t codes_read[32];
+    uint64_t ends_read[32];
+    hz_cnf read = hz_read_cnf(file, written.bytes, codes_read, 32, ends_read, 32);
+    expect(read.refusal == HZ_ACCEPTED && read.variables == 4 && read.lits == 4 && read.clauses == 2);
+    expect(memcmp(codes_read, codes, sizeof codes) == 0 && memcmp(ends_read, ends, sizeof ends) == 0);
+    hz_cnf cut = hz_read_cnf(file, written.bytes - 1, codes_read, 32, ends_read, 32);
+    expect(cut.refusal == HZ_BAD_CNF && cut.place == 19 && cut.variables == 0 && cut.lits == 0 && cut.clauses == 0);
+}
+
 /* The model: box 0 is false, as nothing was said of it, box 1 is deleted, box 2 true, and box 3 has no value yet. */
 static void modelling(void) {
     uint32_t globals[CAPACITY], users[CAPACITY];
@@ -200,6 +219,7 @@ int main(void) {
     assuming();
     sweeping(proof, sizeof proof);
     reading(proof, length);
+    clauses();
     modelling();
     printf("session.c: a session from Open to Model, every answer as expected\n");
     return 0;

@@ -1,5 +1,5 @@
 /*
- * Hintzobar: variable names, notes and DRAT proof lines (document 01), for C and Rust.
+ * Hintzobar: variable names, notes, DRAT proof lines and DIMACS CNF files (documents 01 and 02), for C and Rust.
  * Built by `rt staticlib capi`, which writes target/staticlib/libcapi.a.
  *
  * The caller owns all memory. A table is an hz_counts and six lists of `capacity` words, lent in this order:
@@ -34,7 +34,7 @@ enum hz_refusal {
     HZ_ACCEPTED = 0,
     HZ_UNSOUND = 1,          /* the table is not sound */
     HZ_SHORT = 2,            /* a lent output is shorter than this call fills */
-    HZ_OUT_OF_RANGE = 3,     /* an index at or above its bound, or more than 8,192 literals */
+    HZ_OUT_OF_RANGE = 3,     /* an index at or above its bound, more than 8,192 literals, or lists that do not fit together */
     HZ_NOT_SAMPLED = 4,      /* sampling is required and a global is not Sample */
     HZ_NO_ROOM = 5,          /* more users to map than there are free globals */
     HZ_DELETED = 6,          /* the global is deleted */
@@ -47,7 +47,8 @@ enum hz_refusal {
     HZ_BROKEN_PROOF = 13,    /* a step is not whole */
     HZ_UNMATCHED = 14,       /* units and hashes differ in number */
     HZ_BAD_LISTS = 15,       /* the lists are not one section for each literal code, or an entry has no mirror */
-    HZ_STILL_ASSUMED = 16    /* the global that holds the solver index is assumed */
+    HZ_STILL_ASSUMED = 16,   /* the global that holds the solver index is assumed */
+    HZ_BAD_CNF = 17          /* a file is no DIMACS CNF of the strict form */
 };
 
 /* A number for a mode, a mark, a format, a step kind, a cause or the kind of one clause that stands for none. Nothing is done. */
@@ -201,6 +202,15 @@ typedef struct {
     size_t length;
 } hz_first;
 
+/* A file's header, and how many codes and ends were filled. With refusal 17, `place` is the start of the first wrong line; else it is 0. */
+typedef struct {
+    uint32_t refusal;
+    size_t place;
+    uint32_t variables; /* the header's V */
+    size_t lits;
+    size_t clauses; /* the header's C */
+} hz_cnf;
+
 /* The table as every call takes it: to be changed, and only read. */
 #define HZ_TABLE                                                                                             \
     uint32_t *gu, size_t gu_len, uint32_t *ug, size_t ug_len, uint32_t *sg, size_t sg_len, uint32_t *gs,     \
@@ -296,6 +306,21 @@ hz_written hz_write_proof(uint32_t format, const uint32_t *codes, size_t codes_l
 hz_reading hz_read(uint32_t format, const uint8_t *bytes, size_t bytes_len, uint32_t *codes, size_t codes_len, uint64_t *ends,
                    size_t ends_len, uint8_t *kinds, size_t kinds_len);
 hz_first hz_first_step(uint32_t format, const uint8_t *bytes, size_t bytes_len);
+
+/* ---- clauses, with no table
+ *
+ * A DIMACS CNF file here is the header `p cnf V C`, then a line for each clause: each number followed by a blank, then 0. Every line is closed by
+ * a line feed. V and C have no leading zero; V is at most 4,096, and no number's magnitude exceeds it; C is the number of clauses. */
+
+/* Write clauses of global literals, all codes in a row and where each clause ends in it, as such a file from the start of `out` on: 3, 2. V is the
+ * largest magnitude, or 0. 3: a code of 8,192 or more, an end below the one before it, a last end that is not the number of codes, or codes and no
+ * end. 6 bytes for each code, 2 for each end and 32 are enough. */
+hz_written hz_write_cnf(const uint32_t *codes, size_t codes_len, const uint64_t *ends, size_t ends_len, uint8_t *out, size_t out_len);
+
+/* Read such a file, before whose header there may be lines that start with `c`; all codes in a row, and where each clause ends in it: 17, 2. The
+ * place is the start of the first line that is wrong; where every line is right but they are not C, the header's; of a file that has only `c`
+ * lines, the last perhaps unclosed, its end. As many codes and ends as half the bytes are enough. */
+hz_cnf hz_read_cnf(const uint8_t *bytes, size_t bytes_len, uint32_t *codes, size_t codes_len, uint64_t *ends, size_t ends_len);
 
 /* ---- the model: a word for each global below its watermark, and the user literals: 1, 2 */
 

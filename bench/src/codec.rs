@@ -78,7 +78,7 @@ fn clauses(format: Format, length: usize, names: u32) -> Clauses {
 
 /// A sink that keeps the bytes.
 #[derive(Clone, Default)]
-struct Kept(Rc<RefCell<Vec<u8>>>);
+pub struct Kept(pub Rc<RefCell<Vec<u8>>>);
 
 impl io::Write for Kept {
     fn write(&mut self, bytes: &[u8]) -> io::Result<usize> {

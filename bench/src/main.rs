@@ -4,6 +4,7 @@
 
 mod binary;
 mod bulk;
+mod cnf;
 mod codec;
 mod growth;
 mod lent;
@@ -23,10 +24,11 @@ type Part = (&'static str, fn(&report::Report));
 /// All parts, or those named on the command line.
 fn main() {
     let report = report::Report::default();
-    let parts: [Part; 9] = [
+    let parts: [Part; 10] = [
         ("writers", codec::writers),
         ("readers", codec::readers),
         ("real", real::proofs),
+        ("cnf", cnf::files),
         ("sound", sound::tables),
         ("bulk", bulk::calls),
         ("binary", binary::lists),

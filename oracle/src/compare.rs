@@ -9,8 +9,8 @@ use crate::random::{self, Rng, Style};
 use crate::reading::{Outcome, Table};
 use varisat_unchanged::drive::{self, pairs::additions, Oracle};
 
-/// Refusals are numbered up to 16; 0 is none.
-const REFUSALS: usize = 17;
+/// Refusals are numbered up to 17; 0 is none.
+const REFUSALS: usize = 18;
 
 /// The place of Remove among the kinds of calls.
 const REMOVE: usize = 9;

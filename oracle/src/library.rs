@@ -1,6 +1,6 @@
 //! The proved library, through the safe crate.
 use crate::call::{Asked, Call, Cause, Format, Mark, ProofStep};
-use crate::reading::{drat::Filled, Counts, Outcome, Table};
+use crate::reading::{dimacs, drat::Filled, Counts, Outcome, Table};
 use hintzobar::{Global, Lists, Lit, Lits, Made, Mode, Name, Notes, Refusal, Solver, Step, User};
 
 /// What lent memory holds before a call, so that words past what was filled are seen to stay.
@@ -376,6 +376,34 @@ pub fn write_proof(format: Format, lists: &Filled, room: usize) -> Result<Result
         Ok(length) => Ok(kept(&proof, length, BEFORE as u8)?),
         Err(refusal) => {
             kept(&proof, 0, BEFORE as u8)?;
+            Err(refusal.number())
+        }
+    })
+}
+
+/// Read CNF, with slices of these lengths.
+pub fn read_cnf(file: &[u8], rooms: [usize; 2]) -> Result<dimacs::Filled, String> {
+    let mut lits = vec![Lit::from_code(BEFORE); rooms[0]];
+    let mut ends = vec![u64::MAX; rooms[1]];
+    let answer = hintzobar::read_cnf(file, &mut lits, &mut ends);
+    let (variables, count, clauses) = answer.map_or((0, 0, 0), |cnf| (cnf.variables, cnf.lits, cnf.clauses));
+    let place = if let Err(Refusal::BadCnf(place)) = answer { place } else { 0 };
+    Ok(dimacs::Filled {
+        refusal: answer.err().map_or(0, Refusal::number),
+        place,
+        variables,
+        codes: filled(&lits, count)?,
+        ends: kept(&ends, clauses, u64::MAX)?,
+    })
+}
+
+/// Write CNF, into so many bytes.
+pub fn write_cnf(codes: &[u32], ends: &[u64], room: usize) -> Result<Result<Vec<u8>, u32>, String> {
+    let mut file = vec![BEFORE as u8; room];
+    Ok(match hintzobar::write_cnf(&lits(codes), ends, &mut file) {
+        Ok(length) => Ok(kept(&file, length, BEFORE as u8)?),
+        Err(refusal) => {
+            kept(&file, 0, BEFORE as u8)?;
             Err(refusal.number())
         }
     })

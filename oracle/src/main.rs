@@ -2,6 +2,7 @@
 #![deny(missing_docs)]
 
 mod call;
+mod cnf;
 mod compare;
 mod ledger;
 #[cfg(feature = "library")]
@@ -22,6 +23,7 @@ use random::Rng;
 const USAGE: &str = "usage: oracle sample [SEED]        about a minute of everything
        oracle calls N [SEED]       N calls in random sessions
        oracle binary N [SEED]      N lists of binary clauses on random sound tables
+       oracle dimacs N [SEED]      N CNF files read, N written from clauses, every small one
        oracle reachable            every reachable table of capacity 1 and 2, every table of capacity 1
        oracle record [SEED]        the recorded list that crates/replay replays, to standard output";
 
@@ -39,6 +41,17 @@ fn sample(seed: u64, tally: &mut Tally) -> run::Verdict<()> {
     println!("1000000 proofs read: {} whole, {} with too little room, {} broken", by[0], by[1], by[2]);
     let by = run::writes(&mut rng, 1_000_000)?;
     println!("1000000 proofs written from lists: {} whole, {} no proof, {} with too little room", by[0], by[1], by[2]);
+    dimacs(&mut rng, 500_000)
+}
+
+/// CNF files: varisat's files have no part in these.
+fn dimacs(rng: &mut Rng, times: u64) -> run::Verdict<()> {
+    let by = cnf::small()?;
+    println!("{} small CNF files: {} right, {} wrong", by.iter().sum::<u64>(), by[0], by[1]);
+    let by = cnf::reads(rng, times)?;
+    println!("{} CNF files read: {} right, {} wrong, {} with too little room", times, by[0], by[1], by[2]);
+    let by = cnf::writes(rng, times)?;
+    println!("{} CNF files written from clauses: {} whole, {} no clauses, {} with too little room", times, by[0], by[1], by[2]);
     Ok(())
 }
 
@@ -73,6 +86,19 @@ fn record(seed: u64) -> ! {
     }
 }
 
+fn told(tally: &Tally) {
+    tally.print();
+    println!("{} sessions, {} clause steps read back", tally.sessions, tally.steps_read);
+    println!(
+        "{} calls, {} of them answered by varisat too, {} panics of varisat on refused calls",
+        tally.calls, tally.compared, tally.panics
+    );
+    println!(
+        "{} removals of assumed indices, all refused (16): varisat would make them and is not run on them",
+        tally.kept_assumed()
+    );
+}
+
 fn main() {
     // panics of varisat's functions are caught and judged
     panic::set_hook(Box::new(|_| ()));
@@ -84,6 +110,7 @@ fn main() {
         Some("sample") => sample(number(1).unwrap_or(1), &mut tally),
         Some("calls") => run::sessions(&mut Rng::new(number(2).unwrap_or(1)), number(1).unwrap_or(1_000_000), &mut tally),
         Some("binary") => binary(&mut Rng::new(number(2).unwrap_or(1)), number(1).unwrap_or(1_000_000), &mut tally),
+        Some("dimacs") => dimacs(&mut Rng::new(number(2).unwrap_or(1)), number(1).unwrap_or(1_000_000)),
         Some("reachable") => reachable(&mut tally),
         Some("record") => record(number(1).unwrap_or(1)),
         _ => {
@@ -91,17 +118,15 @@ fn main() {
             process::exit(2);
         }
     };
-    tally.print();
-    println!("{} sessions, {} clause steps read back", tally.sessions, tally.steps_read);
-    println!(
-        "{} calls, {} of them answered by varisat too, {} panics of varisat on refused calls",
-        tally.calls, tally.compared, tally.panics
-    );
-    println!(
-        "{} removals of assumed indices, all refused (16): varisat would make them and is not run on them",
-        tally.kept_assumed()
-    );
-    let sides = if cfg!(feature = "library") { "document 01, varisat and the library" } else { "document 01 and varisat" };
+    if tally.calls > 0 {
+        told(&tally);
+    }
+    let sides = match (cfg!(feature = "library"), tally.calls > 0) {
+        (true, true) => "document 01, varisat and the library",
+        (false, true) => "document 01 and varisat",
+        (true, false) => "document 02 and the library",
+        (false, false) => "document 02's reader and writer",
+    };
     match verdict {
         Ok(()) => println!("{} agree: 0 disagreements ({:.0} s)", sides, began.elapsed().as_secs_f64()),
         Err(what) => {

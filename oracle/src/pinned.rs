@@ -198,3 +198,57 @@ pub fn binaries() -> Vec<Call> {
     calls.extend(lists.map(|lists| binary(lists, 20, 30)));
     calls
 }
+
+/// CNF files: lines that start with `c`, bounds of V, counts, and what is missing at the end.
+pub fn files() -> Vec<String> {
+    let many = "1234567890".repeat(4);
+    let mut files: Vec<String> = [
+        "",
+        "c",
+        "c\n",
+        "c\nc x",
+        "c\n\n",
+        "p cnf 0 0\n",
+        "p cnf 0 0",
+        "p cnf 0 1\n0\n",
+        "p cnf 4096 0\n",
+        "p cnf 4097 0\n",
+        "cnf 1\np cnf 1 1\n1 0\n",
+        "p cnf 1 1\nc\n1 0\n",
+        "p cnf 1 1\n1 0\nc\n",
+        "p cnf 4096 1\n4096 -4096 0\n",
+        "p cnf 4096 1\n4097 0\n",
+        "p cnf 2 1\n3 0\n",
+        "p cnf 2 1\n1 0 2 0\n",
+        "p cnf 2 1\n1\n2 0\n",
+        "p cnf 2 1\n1 0\n2 0\n",
+        "c\np cnf 2 3\n1 0\n2 0\n",
+        "c\np cnf 2 1\n1 0\n2 0\n3 0\n",
+        "p cnf 01 0\n",
+        "p cnf 0 00\n",
+        "p cnf 2 1\n1 0\r\n",
+        "p cnf 2 1\n1 0",
+    ]
+    .map(String::from)
+    .to_vec();
+    files.extend(["", "3 0\n"].map(|end| format!("p cnf 2 {}\n1 0\n{}", many, end)));
+    files
+}
+
+/// Clauses as two lists, and lists that are none: no ends for a code, ends that fall, pass the last literal, leave it out; index 4,096.
+pub fn clauses() -> Vec<(Vec<u32>, Vec<u64>)> {
+    vec![
+        (vec![], vec![]),
+        (vec![], vec![0]),
+        (vec![0, 3, 4], vec![2, 2, 3]),
+        (vec![5], vec![1]),
+        (vec![8191, 8190], vec![1, 2]),
+        (vec![8192], vec![1]),
+        (vec![0], vec![]),
+        (vec![], vec![1]),
+        (vec![0, 3, 4], vec![2, 1, 3]),
+        (vec![0, 3, 4], vec![2, 4]),
+        (vec![0, 3, 4], vec![4, 3]),
+        (vec![0, 3, 4], vec![1, 2]),
+    ]
+}

@@ -2,6 +2,7 @@
 //! It shares no code with the crates and mirrors the definitions of crates/scope/specs file by file, so that running it beside
 //! varisat's own functions tests those definitions.
 pub mod binary;
+pub mod dimacs;
 pub mod drat;
 pub mod model;
 pub mod modes;

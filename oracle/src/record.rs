@@ -3,10 +3,11 @@
 use std::fmt::Display;
 
 use crate::call::{Call, Cause, Format, ProofStep, KINDS};
+use crate::cnf;
 use crate::compare::{Session, Tally};
 use crate::pinned;
 use crate::random::{self, Rng, Style};
-use crate::reading::{drat, names, steps::step_words, Outcome, Table, FRESH, MOST_LITERALS};
+use crate::reading::{dimacs, drat, names, steps::step_words, Outcome, Table, FRESH, MOST_LITERALS};
 use crate::run::{self, told, Verdict};
 
 /// The longest line of a drawn call; one that would be longer is not made.
@@ -15,6 +16,9 @@ const LONGEST: usize = 1500;
 /// What the program has memory for: the words of a list of a table, and of any other slice.
 const MOST_LIST: usize = 4_100;
 const MOST_SLICE: usize = 8_200;
+
+/// The largest number that the program reads.
+const LARGEST: u64 = 18_446_744_073_709_551_609;
 
 /// The line of Binary: `binary FORMAT lits WORD .. room WORDS BYTES gives REFUSAL WORDS HALF BYTES words WORD .. bytes BYTE ..`. Under `lits`
 /// stand the words of the lists given, under `words` those of the lists left, counts and entries as they are lent; under `room` the lengths
@@ -32,6 +36,9 @@ pub struct Record {
     pub opens: [u64; 15],
     pub reads: [u64; 15],
     pub firsts: [u64; 15],
+    /// Reads and writes of CNF files by their refusal.
+    pub cnf_reads: [u64; 18],
+    pub cnf_writes: [u64; 18],
     /// Questions whether a table is sound: no, yes.
     pub sounds: [u64; 2],
     /// Accepted Lookups by what they ask for, and the step kinds of Rename and of Write.
@@ -161,7 +168,8 @@ fn line(call: &Call, format: Format, before: &Table, o: &Outcome) -> String {
 impl Record {
     pub fn calls(&self) -> u64 {
         let all = |by: &[u64]| by.iter().sum::<u64>();
-        self.tally.calls + all(&self.opens) + all(&self.reads) + all(&self.firsts) + all(&self.sounds)
+        let cnfs = all(&self.cnf_reads) + all(&self.cnf_writes);
+        self.tally.calls + all(&self.opens) + all(&self.reads) + all(&self.firsts) + all(&self.sounds) + cnfs
     }
 
     /// Memory for a table: every word 0, of the records 47, and then the words that differ.
@@ -352,12 +360,58 @@ impl Record {
         self.text.push_str(&line.put([format as u32]).some("proof", bytes).part("gives", [refusal, 0, length]).end());
     }
 
+    fn read_cnf(&mut self, file: &[u8], rooms: [usize; 2]) -> Verdict<()> {
+        let want = dimacs::read_call(file, rooms);
+        cnf::read_of(file, rooms, &want)?;
+        self.cnf_reads[want.refusal as usize] += 1;
+        let mut line = Line::new("readcnf");
+        line.some("proof", file).part("room", rooms).part("gives", [want.refusal as usize, want.place, want.variables as usize]);
+        line.put([want.codes.len(), want.ends.len()]).some("words", &want.codes).some("more", &want.ends);
+        self.text.push_str(&line.end());
+        Ok(())
+    }
+
+    fn write_cnf(&mut self, codes: &[u32], ends: &[u64], room: usize) -> Verdict<()> {
+        let want = dimacs::write_call(codes, ends, room);
+        cnf::write_of(codes, ends, room, &want)?;
+        let (refusal, bytes) = want.map_or_else(|refusal| (refusal as usize, vec![]), |bytes| (0, bytes));
+        self.cnf_writes[refusal] += 1;
+        let mut line = Line::new("writecnf");
+        line.some("lits", codes).some("hashes", ends).part("room", [room]).part("gives", [refusal, bytes.len()]);
+        self.text.push_str(&line.some("bytes", &bytes).end());
+        Ok(())
+    }
+
+    /// CNF files, right ones and others, read; clauses, and lists that are none, written; and what random ones meet rarely.
+    fn cnfs(&mut self, rng: &mut Rng, times: u64) -> Verdict<()> {
+        for file in pinned::files() {
+            self.read_cnf(file.as_bytes(), [file.len(); 2])?;
+        }
+        for (codes, ends) in pinned::clauses() {
+            self.write_cnf(&codes, &ends, 40)?;
+        }
+        for _ in 0..times {
+            let (file, rooms) = cnf::draw_file(rng);
+            self.read_cnf(&file, rooms)?;
+            let (codes, ends, room) = cnf::draw_lists(rng);
+            if ends.iter().all(|&end| end <= LARGEST) {
+                self.write_cnf(&codes, &ends, room)?;
+            }
+        }
+        // a clause may have any number of literals
+        self.write_cnf(&[8191; MOST_SLICE], &[MOST_SLICE as u64], MOST_SLICE)
+    }
+
     /// What documents 01 and 02 name and the list lacks.
     fn missing(&self) -> Vec<String> {
         let mut missing = self.tally.missing();
-        for (name, by, listed) in
-            [("Open", &self.opens, &[0, 10][..]), ("Read", &self.reads, &[0, 2, 13]), ("First step", &self.firsts, &[0, 13])]
-        {
+        for (name, by, listed) in [
+            ("Open", &self.opens[..], &[0, 10][..]),
+            ("Read", &self.reads, &[0, 2, 13]),
+            ("First step", &self.firsts, &[0, 13]),
+            ("Read CNF", &self.cnf_reads, &[0, 2, 17]),
+            ("Write CNF", &self.cnf_writes, &[0, 2, 3]),
+        ] {
             missing.extend(listed.iter().filter(|&&n| by[n] == 0).map(|n| format!("{} {}", name, n)));
         }
         for (name, by) in [("Lookup of", &self.lookups[..]), ("Rename of", &self.kinds[0]), ("Write of", &self.kinds[1])] {
@@ -395,6 +449,7 @@ pub fn list(seed: u64) -> Verdict<Record> {
     record.proofs(&mut rng, 400)?;
     record.long()?;
     record.pinned()?;
+    record.cnfs(&mut rng, 300)?;
     let missing = record.missing();
     if !missing.is_empty() {
         return Err(format!("the list lacks {:?}", missing));
@@ -410,5 +465,6 @@ pub fn summary(record: &Record) -> String {
         text.push_str(&format!("{}: {:?}\n", kind, row));
     }
     text.push_str(&format!("Open {:?}\nRead {:?}\nFirst step {:?}\n", record.opens, record.reads, record.firsts));
+    text.push_str(&format!("Read CNF {:?}\nWrite CNF {:?}\n", record.cnf_reads, record.cnf_writes));
     text
 }

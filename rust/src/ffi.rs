@@ -134,6 +134,15 @@ pub struct Reading {
 }
 
 #[repr(C)]
+pub struct Cnf {
+    pub refusal: u32,
+    pub place: usize,
+    pub variables: u32,
+    pub lits: usize,
+    pub clauses: usize,
+}
+
+#[repr(C)]
 pub struct First {
     pub refusal: u32,
     pub place: usize,
@@ -209,5 +218,7 @@ exported! {
     fn write_proof = hz_write_proof(format: u32, codes: &[u32], ends: &[u64], kinds: &[u8], proof: &mut [u8]) -> Written;
     fn read = hz_read(format: u32, bytes: &[u8], codes: &mut [u32], ends: &mut [u64], kinds: &mut [u8]) -> Reading;
     fn first_step = hz_first_step(format: u32, bytes: &[u8]) -> First;
+    fn write_cnf = hz_write_cnf(codes: &[u32], ends: &[u64], out: &mut [u8]) -> Written;
+    fn read_cnf = hz_read_cnf(bytes: &[u8], codes: &mut [u32], ends: &mut [u64]) -> Cnf;
     fn model = hz_model(c: Counts, lent, globals: &mut [u32], users: &mut [u32]) -> Modelled;
 }

@@ -1,4 +1,5 @@
-//! Variable names, notes and DRAT proof lines, over a static library whose every call is proved to do what document 01 says.
+//! Variable names, notes, DRAT proof lines and DIMACS CNF files, over a static library whose every call is proved to do what documents 01
+//! and 02 say.
 //!
 //! A [`Table`] gives variables three sorts of name: [`User`] indices for intake, [`Global`] indices for the proof, [`Solver`] indices for the
 //! search. Each call on it answers a value or a [`Refusal`]; no argument and no table makes one panic, and a refused call changes nothing.
@@ -21,9 +22,12 @@
 //! assert_eq!(&proof[..n], b"3 -7 0\n");
 //! # Ok::<(), hintzobar::Refusal>(())
 //! ```
+//!
+//! The clauses themselves go out and come in as DIMACS CNF, by [`write_cnf`] and [`read_cnf`].
 #![deny(missing_docs)]
 
 mod binary;
+mod cnf;
 mod ffi;
 mod names;
 mod proof;
@@ -32,6 +36,7 @@ mod table;
 mod users;
 
 pub use binary::Thinned;
+pub use cnf::{read_cnf, write_cnf, Cnf};
 pub use names::{Global, Lit, Name, Note, Notes, Solver, User};
 pub use proof::{first_step, read, write_clause, write_proof, Cause, Format, Lits, Reading, Renamed, Step};
 pub use refusal::Refusal;

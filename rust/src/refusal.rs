@@ -9,7 +9,7 @@ pub enum Refusal {
     Unsound,
     /// 2: a lent output is shorter than this call fills.
     Short,
-    /// 3: an index at or above its bound, or more than 8,192 literals.
+    /// 3: an index at or above its bound, more than 8,192 literals, or lists that do not fit together.
     OutOfRange,
     /// 4: sampling is required and a user's global is not in mode Sample.
     NotSampled,
@@ -37,12 +37,15 @@ pub enum Refusal {
     BadLists,
     /// 16: the global that holds the solver index is assumed.
     StillAssumed,
+    /// 17: the file is no DIMACS CNF of the strict form; the place is the start of the first wrong line. For a wrong number of clauses that is
+    /// the header, for a file of `c` lines alone its end.
+    BadCnf(usize),
     /// A number that this crate does not know.
     Other(u32),
 }
 
 impl Refusal {
-    /// `Ok` for 0, which is no refusal. The place goes with number 13.
+    /// `Ok` for 0, which is no refusal. The place goes with numbers 13 and 17.
     pub(crate) fn check(number: u32, place: usize) -> Result<(), Refusal> {
         Err(match number {
             0 => return Ok(()),
@@ -62,6 +65,7 @@ impl Refusal {
             14 => Refusal::Unmatched,
             15 => Refusal::BadLists,
             16 => Refusal::StillAssumed,
+            17 => Refusal::BadCnf(place),
             other => Refusal::Other(other),
         })
     }
@@ -85,6 +89,7 @@ impl Refusal {
             Refusal::Unmatched => 14,
             Refusal::BadLists => 15,
             Refusal::StillAssumed => 16,
+            Refusal::BadCnf(_) => 17,
             Refusal::Other(number) => number,
         }
     }
@@ -94,7 +99,9 @@ impl Refusal {
         match self {
             Refusal::Unsound => "the table is not sound",
             Refusal::Short => "an output is shorter than this call fills",
-            Refusal::OutOfRange => "an index is at or above its bound, or there are more than 8,192 literals",
+            Refusal::OutOfRange => {
+                "an index is at or above its bound, there are more than 8,192 literals, or the lists do not fit together"
+            }
             Refusal::NotSampled => "sampling is required and the variable's mode is not Sample",
             Refusal::NoRoom => "there are more users to map than free globals",
             Refusal::Deleted => "the global is deleted",
@@ -108,6 +115,7 @@ impl Refusal {
             Refusal::Unmatched => "units and hashes differ in number",
             Refusal::BadLists => "the lists are not one section for each literal code, or an entry has no mirror",
             Refusal::StillAssumed => "the global that holds the solver index is assumed",
+            Refusal::BadCnf(_) => "the file is no DIMACS CNF of the strict form",
             Refusal::Other(_) => "a number that this crate does not know",
         }
     }
@@ -116,10 +124,11 @@ impl Refusal {
 impl fmt::Display for Refusal {
     fn fmt(&self, f: &mut fmt::Formatter) -> fmt::Result {
         write!(f, "refusal {}: {}", self.number(), self.meaning())?;
-        if let Refusal::BrokenProof(place) = self {
-            write!(f, ", the one at byte {}", place)?;
+        match self {
+            Refusal::BrokenProof(place) => write!(f, ", the one at byte {}", place),
+            Refusal::BadCnf(place) => write!(f, ", the first wrong line is at byte {}", place),
+            _ => Ok(()),
         }
-        Ok(())
     }
 }
 

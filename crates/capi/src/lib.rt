@@ -1,5 +1,6 @@
 // The calls of document 01 for C and Rust: numbers, slices, and structs by value. The header is include/hintzobar.h.
 pub mod clauses;
+pub mod cnf;
 pub mod codec;
 pub mod counts;
 pub mod grants;

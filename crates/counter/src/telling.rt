@@ -186,7 +186,8 @@ fn meaning(n: u32) {
         13 => text(b", a step is not whole"),
         14 => text(b", units and hashes differ in number"),
         15 => text(b", the lists are no sections, or an entry has no mirror"),
-        _ => text(b", the global that holds the solver index is assumed"),
+        16 => text(b", the global that holds the solver index is assumed"),
+        _ => text(b", not a DIMACS CNF file of the strict form"),
     }
 }
 

@@ -15,6 +15,7 @@ use Rattle.drat.specs.declared.Format.the-variants.{Text, Binary}
 use Rattle.drat.specs.declared.Token.the-variants.{Lit, Stop, Bad}
 use Rattle.drat.specs.declared.Opening.the-variants.{Opens, Wrong}
 use Rattle.drat.proofs.Steps.{next}
+use Rattle.drat.proofs.Complete.{text-line}
 
 module _ (s : List ℕ) (i : ℕ) (h : i < length s) where
   pub digits-here : (sign v : ℕ) → digitsFrom sign v i (drop i s) ≡
@@ -46,12 +47,16 @@ module _ (s : List ℕ) (i : ℕ) (h : i < length s) where
   unfolding blankFrom
   blank-here = ap (blankFrom i) (next s i h)
 
+  pub line-here : lineFrom i (drop i s) ≡
+      pick (eqb (getD s i 0) 48) (endFrom (i + 1) (drop (i + 1) s)) (thenBlank i (drop i s) (signedFrom i (drop i s)))
+  unfolding lineFrom
+  line-here =
+      ap (lineFrom i) (next s i h)
+      ∙ ap (λ (l : List ℕ). pick (eqb (getD s i 0) 48) (endFrom (i + 1) (drop (i + 1) s)) (thenBlank i l (signedFrom i l))) (sym (next s i h))
+
   pub text-here : token Text i (drop i s) ≡
       pick (eqb (getD s i 0) 48) (endFrom (i + 1) (drop (i + 1) s)) (thenBlank i (drop i s) (signedFrom i (drop i s)))
-  unfolding token lineFrom
-  text-here =
-      ap (token Text i) (next s i h)
-      ∙ ap (λ (l : List ℕ). pick (eqb (getD s i 0) 48) (endFrom (i + 1) (drop (i + 1) s)) (thenBlank i l (signedFrom i l))) (sym (next s i h))
+  text-here = text-line i (drop i s) ∙ line-here
 
   pub binary-here : token Binary i (drop i s) ≡ pick (eqb (getD s i 0) 0) (Stop (i + 1)) (lebFrom 0 1 i (drop i s))
   unfolding token
@@ -85,6 +90,10 @@ module _ (s : List ℕ) (i : ℕ) (h : length s ≤ i) where
   pub blank-past : blankFrom i (drop i s) ≡ Wrong
   unfolding blankFrom
   blank-past = ap (blankFrom i) (drop-of-length-le s h)
+
+  pub line-past : lineFrom i (drop i s) ≡ Bad
+  unfolding lineFrom
+  line-past = ap (lineFrom i) (drop-of-length-le s h)
 
   pub token-past : (f : Format) → token f i (drop i s) ≡ Bad
   unfolding token

@@ -60,7 +60,7 @@ unfolding digitsFrom
 run-read sign x i [] h = let e : x + 1 - 1 ≡ x = omega arith in simp (e, ne-eqb (x + 1) 0 (omega arith))
 run-read sign x i (b ∷ l) h = let e : x + 1 - 1 ≡ x = omega arith in simp (h, e, ne-eqb (x + 1) 0 (omega arith))
 
-decimal-first : {bs : List ℕ} {v : ℕ} → Numeral decimal bs v → (b : ℕ) × (m : List ℕ) × (bs ≡ b ∷ m) × (49 ≤ b) × (b ≤ 57)
+pub decimal-first : {bs : List ℕ} {v : ℕ} → Numeral decimal bs v → (b : ℕ) × (m : List ℕ) × (bs ≡ b ∷ m) × (49 ≤ b) × (b ≤ 57)
 decimal-first (one {d = d} p q) = (48 + d, [], refl, omega arith, omega arith)
 decimal-first (more {d = d} p n) = let f = decimal-first n in (f .0, f .1 ++ (48 + d) ∷ [], ap (λ (m : List ℕ). m ++ (48 + d) ∷ []) (f .2), f .3, f .4)
 
@@ -148,7 +148,7 @@ unfolding body
 body-bad f n i l e = rw (e, body)
 
 -- past what was read
-skip : (i : ℕ) (bs l : List ℕ) → drop (i + length bs - i) (bs ++ l) ≡ l
+pub skip : (i : ℕ) (bs l : List ℕ) → drop (i + length bs - i) (bs ++ l) ≡ l
 skip i bs l = drop-at bs l (i + length bs - i) (omega arith)
 
 -- each literal takes a byte

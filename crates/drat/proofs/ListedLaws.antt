@@ -154,7 +154,7 @@ listed-valid codes n [] ks h = tt
 listed-valid codes n (e ∷ es) [] h = tt
 listed-valid codes n (e ∷ es) (k ∷ ks) h = (codes-part n e codes h, listed-valid codes e es ks h)
 
-listed-codes : (codes : List ℕ) (n : ℕ) (es ks : List ℕ) → length es ≡ length ks → risesTo (length codes) n es ≡ true
+pub listed-codes : (codes : List ℕ) (n : ℕ) (es ks : List ℕ) → length es ≡ length ks → risesTo (length codes) n es ≡ true
     → codesOf (listed codes n es ks) ≡ drop n codes
 unfolding listed risesTo codesOf
 listed-codes codes n [] [] l h = sym (rest-none n codes h)
@@ -168,7 +168,7 @@ listed-codes codes n (e ∷ es) (k ∷ ks) l h =
 part-length : (n e : ℕ) (codes : List ℕ) → n ≤ e → e ≤ length codes → n + length (part n e codes) ≡ e
 part-length n e codes h k = omega (arith, length-take (e - n) (drop n codes), length-drop n codes)
 
-listed-ends : (codes : List ℕ) (n : ℕ) (es ks : List ℕ) → length es ≡ length ks → risesTo (length codes) n es ≡ true → endsFrom n (listed codes n es ks) ≡ es
+pub listed-ends : (codes : List ℕ) (n : ℕ) (es ks : List ℕ) → length es ≡ length ks → risesTo (length codes) n es ≡ true → endsFrom n (listed codes n es ks) ≡ es
 unfolding listed risesTo endsFrom
 listed-ends codes n [] [] l h = refl
 listed-ends codes n [] (k ∷ ks) l h = absurd (omega arith)

@@ -52,7 +52,7 @@ unfolding codesOf
 codes-of-append [] ts = refl
 codes-of-append (s ∷ ss) ts = ap (λ (l : List ℕ). s .lits ++ l) (codes-of-append ss ts) ∙ sym (append-assoc (s .lits) (codesOf ss) (codesOf ts))
 
-codes-snoc : (ss : List Step) (s : Step) → codesOf (ss ++ s ∷ []) ≡ codesOf ss ++ s .lits
+pub codes-snoc : (ss : List Step) (s : Step) → codesOf (ss ++ s ∷ []) ≡ codesOf ss ++ s .lits
 unfolding codesOf
 codes-snoc ss s = codes-of-append ss (s ∷ []) ∙ ap (λ (l : List ℕ). codesOf ss ++ l) (append-nil (s .lits))
 
@@ -61,7 +61,7 @@ unfolding kindsOf
 kinds-snoc [] s = refl
 kinds-snoc (t ∷ ss) s = ap (λ (l : List ℕ). kindNumber (t .kind) ∷ l) (kinds-snoc ss s)
 
-ends-snoc : (n : ℕ) (ss : List Step) (s : Step) → endsFrom n (ss ++ s ∷ []) ≡ endsFrom n ss ++ (n + length (codesOf ss) + length (s .lits)) ∷ []
+pub ends-snoc : (n : ℕ) (ss : List Step) (s : Step) → endsFrom n (ss ++ s ∷ []) ≡ endsFrom n ss ++ (n + length (codesOf ss) + length (s .lits)) ∷ []
 unfolding endsFrom codesOf
 ends-snoc n [] s = ap (λ (k : ℕ). (k + length (s .lits)) ∷ []) (omega arith)
 ends-snoc n (t ∷ ss) s =
@@ -74,7 +74,7 @@ unfolding kindsOf
 kinds-length [] = refl
 kinds-length (t ∷ ss) = ap suc (kinds-length ss)
 
-ends-length : (n : ℕ) (ss : List Step) → length (endsFrom n ss) ≡ length ss
+pub ends-length : (n : ℕ) (ss : List Step) → length (endsFrom n ss) ≡ length ss
 unfolding endsFrom
 ends-length n [] = refl
 ends-length n (t ∷ ss) = ap suc (ends-length (n + length (t .lits)) ss)

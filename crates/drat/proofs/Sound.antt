@@ -69,7 +69,7 @@ record DigitsRead (sign i : ℕ) (p l : List ℕ) (c j : ℕ) : Type 0 where
   isCode : c ≡ 2 * index + sign
   place : j ≡ i + length digits
 
-lit-parts : (a b c d : ℕ) → Lit a b ≡ Lit c d → (a ≡ c) × (b ≡ d)
+pub lit-parts : (a b c d : ℕ) → Lit a b ≡ Lit c d → (a ≡ c) × (b ≡ d)
 lit-parts a b c d e = (cc, cc)
 
 run-sound : (sign i : ℕ) (p l : List ℕ) (v c j : ℕ) → Sofar p v → v ≤ 4096 → numbered sign v i ≡ Lit c j → DigitsRead sign i p l c j
@@ -154,7 +154,7 @@ blank-read i l (Lit d k) c j e = go (eqb (getD l (k - i) 0) 32) refl e
 blank-read i l (Stop k) c j e = absurd (lit-bad c j (sym e))
 blank-read i l Bad c j e = absurd (lit-bad c j (sym e))
 
-first-is : (l : List ℕ) (b : ℕ) → 0 < b → getD l 0 0 ≡ b → (m : List ℕ) × (l ≡ b ∷ m)
+pub first-is : (l : List ℕ) (b : ℕ) → 0 < b → getD l 0 0 ≡ b → (m : List ℕ) × (l ≡ b ∷ m)
 first-is [] b h e = absurd (omega arith)
 first-is (x ∷ m) b h e = (m, ap (λ (y : ℕ). y ∷ m) e)
 

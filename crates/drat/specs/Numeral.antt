@@ -46,6 +46,6 @@ unfoldable pub further : ℕ → ℕ → ℕ → ℕ
 further b zero n = 0
 further b (suc f) n = pick (ltb n b) 0 (suc (further b f (n / b)))
 
--- The bytes of a number above 0.
+-- The bytes of a number; of 0, the one digit 0.
 unfoldable pub bytesOf : Radix → ℕ → List ℕ
 bytesOf r n = spell r (further (r .base) n n) n

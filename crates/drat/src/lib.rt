@@ -35,7 +35,7 @@ pub enum Read {
     Short,
 }
 
-// Write a clause: the place after what was filled; no such clause, or a literal out of range; or the output is too short.
+// What a writer answers: the place after what was filled; that these lists or literals cannot be written; or that the output is too short.
 pub enum Wrote {
     Done(usize),
     Outside,

@@ -12,12 +12,13 @@ use borrow.Author.Tests.{eqb-false, ltb-false, ne-eqb, lt-ltb, le-ltb}
 use Rattle.base.proofs.MemberLaws.{word-inside}
 use Rattle.base.proofs.Truth.{split}
 use Rattle.base.specs.Choice.{pick}
-use Rattle.drat.proofs.At.{digits-here, signed-here, leb-here, text-here, binary-here, digits-past, leb-past, token-past}
+use Rattle.drat.proofs.At.{digits-here, signed-here, leb-here, line-here, binary-here, digits-past, leb-past, token-past}
 use Rattle.drat.proofs.Numerals.{in-range-is, below-range}
 use Rattle.drat.proofs.Places.{signed-moves}
 use Rattle.drat.proofs.Sound.{lit-bad, passed, blank-read}
 use Rattle.drat.specs.Numeral.{digit}
-use Rattle.drat.specs.Reading.{numbered, withDigit, digitsFrom, signedFrom, thenBlank, lebFrom, token}
+use Rattle.drat.specs.Reading.{numbered, withDigit, digitsFrom, signedFrom, thenBlank, lebFrom, lineFrom, token}
+use Rattle.drat.proofs.Complete.{text-line}
 use Rattle.drat.specs.declared.Format.the-variants.{Text, Binary}
 use Rattle.drat.specs.declared.Format.{Format}
 use Rattle.drat.specs.declared.Token.the-variants.{Lit, Stop, Bad}
@@ -93,8 +94,11 @@ signed-digits s i sign h e = go (eqb (getD s i 0) 45) refl
         choice false q ∙ ap (λ (w : ℕ). digitsFrom 0 0 w (drop w s)) z ∙ ap (λ (w : ℕ). digitsFrom w 0 (i + w) (drop (i + w) s)) (signs false q)
 
 -- a text literal: a number and a blank
-pub text-literal : (s : List ℕ) (i : ℕ) → i < length s → (getD s i 0 ≡ 48 → ⊥) → token Text i (drop i s) ≡ thenBlank i (drop i s) (signedFrom i (drop i s))
-text-literal s i h n = text-here s i h ∙ simp (ne-eqb (getD s i 0) 48 n)
+pub line-literal : (s : List ℕ) (i : ℕ) → i < length s → (getD s i 0 ≡ 48 → ⊥) → lineFrom i (drop i s) ≡ thenBlank i (drop i s) (signedFrom i (drop i s))
+line-literal s i h n = line-here s i h ∙ simp (ne-eqb (getD s i 0) 48 n)
+
+text-literal : (s : List ℕ) (i : ℕ) → i < length s → (getD s i 0 ≡ 48 → ⊥) → token Text i (drop i s) ≡ thenBlank i (drop i s) (signedFrom i (drop i s))
+text-literal s i h n = text-line i (drop i s) ∙ line-literal s i h n
 
 pub text-number : (s : List ℕ) (i sign c j : ℕ) → i < length s → (getD s i 0 ≡ 48 → ⊥) → sign ≡ pick (eqb (getD s i 0) 45) 1 0
     → token Text i (drop i s) ≡ Lit c j

@@ -14,7 +14,7 @@ ghost use Rattle.drat.specs.Filled.{readOf, read, firstOf, first, counted};
 ghost use Rattle.drat.specs.Reading.{readProof};
 
 mod fill;
-mod place;
+pub mod place;
 mod scan;
 
 // The number of literals and of steps, or the start of the first step that is not whole: only a fault is looked for step by step.

@@ -9,8 +9,8 @@ ghost use lib.Dec.{eqb};
 ghost use lib.ListN.{getD, drop};
 ghost use Rattle.base.specs.Choice.{pick};
 ghost use Rattle.base.specs.Lent.{old};
-ghost use Rattle.drat.specs.Reading.{numbered, digitsFrom, signedFrom, lebFrom, token, opening};
-ghost use Rattle.drat.specs.declared.Format.the-variants.{Text, Binary};
+ghost use Rattle.drat.specs.Reading.{numbered, digitsFrom, signedFrom, lebFrom, lineFrom, token, opening};
+ghost use Rattle.drat.specs.declared.Format.the-variants.{Binary};
 ghost use Rattle.drat.specs.declared.Token.the-variants.{Lit, Bad};
 
 // 1 for a minus, without a branch: where signs mix it would be mispredicted.
@@ -116,9 +116,9 @@ fn leb_at(s: &[u8], at: usize) -> Token
     Token::Bad
 }
 
-// What stands at a place inside a text step.
-pub(crate) fn text_token(s: &[u8], at: usize) -> Token
-    ensures { λ r. ⌜ r ≡ token Text at (drop at (old s)) ⌝ }
+// What stands at a place of a line: a number and the blank after it, or `0` and the line feed.
+pub fn line_at(s: &[u8], at: usize) -> Token
+    ensures { λ r. ⌜ r ≡ lineFrom at (drop at (old s)) ⌝ }
 {
     if s.len() <= at {
         return Token::Bad;

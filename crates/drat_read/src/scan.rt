@@ -1,7 +1,7 @@
 // The scan: all steps in turn, up to the first fault.
 use crate::place::binary_token;
+use crate::place::line_at;
 use crate::place::opening_at;
-use crate::place::text_token;
 use drat::Format;
 use drat::Opening;
 use drat::Scanned;
@@ -18,7 +18,7 @@ fn token_at(f: Format, s: &[u8], at: usize) -> Token
     ensures { λ r. ⌜ r ≡ token f at (drop at (old s)) ⌝ }
 {
     match f {
-        Format::Text => text_token(s, at),
+        Format::Text => line_at(s, at),
         Format::Binary => binary_token(s, at),
     }
 }
@@ -66,7 +66,7 @@ fn token_alone(f: Format, s: &[u8], at: usize) -> Token
     ensures { λ r. ⌜ r ≡ token f at (drop at (old s)) ⌝ }
 {
     match f {
-        Format::Text => text_token(s, at),
+        Format::Text => line_at(s, at),
         Format::Binary => binary_token(s, at),
     }
 }

@@ -21,7 +21,7 @@ ghost use Rattle.drat.specs.Writing.{noClause, writeClauseOf, wrote};
 ghost use Rattle.drat.specs.Listed.{writeAllOf};
 ghost use Rattle.drat.proofs.Shapes.{Short};
 
-mod proof;
+pub mod proof;
 
 fn one(b: bool) -> u32
     ensures { λ r. ⌜ r ≡ pick b 1 0 ⌝ }
@@ -271,7 +271,7 @@ fn put_end(f: Format, out: &mut [u8], at: usize) -> usize
     }
 }
 
-fn all_below(words: &[u32], bound: u32) -> bool
+pub fn all_below(words: &[u32], bound: u32) -> bool
     ensures { λ r. ⌜ r ≡ allBelow (length (old words)) (λ i. ltb (getD (old words) i 0) bound) ⌝ }
 {
     let mut ok = true;

@@ -21,7 +21,7 @@ fn kind_in(n: u8) -> Kind
     if n == 0 { Kind::Add } else { Kind::Delete }
 }
 
-fn ends_rise(ends: &[u64], last: usize) -> bool
+pub fn ends_rise(ends: &[u64], last: usize) -> bool
     ensures { λ r. ⌜ r ≡ risesTo last 0 (old ends) ⌝ }
 {
     let mut ok = true;
@@ -63,7 +63,7 @@ pub(crate) fn no_proof(codes: &[u32], ends: &[u64], kinds: &[u8]) -> bool
 }
 
 // How many bytes all literals take.
-fn numbers_len(f: Format, codes: &[u32]) -> usize
+pub fn numbers_len(f: Format, codes: &[u32]) -> usize
     requires { ⌜ Codes (now codes) ⌝ }
     ensures { λ r. ⌜ r ≡ length (numbers f (old codes)) ⌝ }
     ensures { λ r. ⌜ r ≤ 6 * length (old codes) ⌝ }

@@ -1,4 +1,6 @@
-// The answers of the C surface on clauses, proofs and models: flat structs. How their contracts read: crates/numbers/specs/Flat.antt and Surface.antt.
+// The answers of the C surface on clauses, proofs, CNF files and models: flat structs.
+// How their contracts read: crates/numbers/specs/Flat.antt and Surface.antt.
+pub mod cnf;
 pub mod first;
 pub mod modelled;
 pub mod reading;

@@ -1,4 +1,4 @@
-// The answer of the writers of a clause and of a proof.
+// The answer of the writers of a clause, of a proof and of a CNF file.
 use crate::written::HzWritten;
 use drat::Wrote;
 ghost use mathlib.Core.Path.{_≡_};

@@ -2,6 +2,7 @@
 // is made on the library's C surface; its answer, every word of the six lists and every word lent to be filled must be what the line says.
 mod answer;
 mod book;
+mod cnf;
 mod codec;
 mod faults;
 mod holds;
@@ -137,6 +138,8 @@ fn answer_of(
     match call {
         16 => codec::read(c, line),
         17 => codec::first_step(c, line),
+        20 => cnf::write(c, line),
+        21 => cnf::read(c, line),
         _ => on_table(c, n, memory, line, call),
     }
 }

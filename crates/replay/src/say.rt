@@ -44,7 +44,7 @@ fn call(n: u32) {
     let a = 8 * n as usize;
     entry(
         b"lookup  map     newuser pose    grant   setmode observe mark    assign  remove  \
-        sweep   simplifyrename  write   model   open    read    first   sound   binary  load    ",
+        sweep   simplifyrename  write   model   open    read    first   sound   binary  writecnfreadcnf load    ",
         a,
         a + 8,
     );
@@ -98,7 +98,7 @@ pub fn fault(line: u64, n: u32, fault: u32) {
     text(b"line ");
     number(line);
     text(b": ");
-    if n < 21 {
+    if n < 23 {
         call(n);
         text(b": ");
     }
@@ -137,7 +137,7 @@ fn row(book: &[u64; 1056], n: u32) {
 
 pub fn all(book: &[u64; 1056]) {
     let mut n: u32 = 0;
-    while n < 20 {
+    while n < 22 {
         row(book, n);
         n += 1;
     }

@@ -57,7 +57,9 @@ fn call_of(name: u64) -> u32 {
         0x6669727374 => 17, // first
         0x736f756e64 => 18, // sound
         0x62696e617279 => 19, // binary
-        0x6c6f6164 => 20, // load
+        0x7772697465636e66 => 20, // writecnf
+        0x72656164636e66 => 21, // readcnf
+        0x6c6f6164 => 22, // load
         _ => NONE,
     }
 }

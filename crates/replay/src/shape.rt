@@ -12,11 +12,11 @@ use crate::parts::count;
 use crate::parts::small;
 
 // The line that loads a table.
-pub const LOAD: u32 = 20;
+pub const LOAD: u32 = 22;
 
 fn args_of(call: u32) -> usize {
     match call {
-        2 | 6 | 10 | 14 | 18 => 0,
+        2 | 6 | 10 | 14 | 18 | 20 | 21 => 0,
         0 | 1 | 5 | 7 | 11 => 2,
         12 => 4,
         13 => 5,
@@ -27,8 +27,8 @@ fn args_of(call: u32) -> usize {
 
 fn rooms_of(call: u32) -> usize {
     match call {
-        1 | 2 | 4 | 5 | 9 | 10 | 13 => 1,
-        3 | 6 | 11 | 12 | 14 | 19 => 2,
+        1 | 2 | 4 | 5 | 9 | 10 | 13 | 20 => 1,
+        3 | 6 | 11 | 12 | 14 | 19 | 21 => 2,
         16 => 3,
         _ => 0,
     }

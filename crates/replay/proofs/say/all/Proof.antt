@@ -5,11 +5,11 @@ use Rattle.replay.proofs.say.all.Tie as tie
 
 abbrev Inv-loop : tie.InvT-loop
 Inv-loop book n₀ t3 t4 n =
-    n ≤ 20
+    n ≤ 22
 
 abbrev μ-loop : tie.MeasureT-loop
 μ-loop book n₀ t3 t4 n =
-    20 - n
+    22 - n
 
 loop-holds : tie.Need-loop-holds Inv-loop μ-loop
 loop-holds c = search needs

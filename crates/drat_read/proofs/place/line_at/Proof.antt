@@ -1,22 +1,21 @@
--- By the first byte: the step's end, or a number and a blank.
+-- By the first byte: the line's end, or a number and a blank.
 use Prim.Native.Nat.{_+_, _-_}
 use mathlib.Core.Path.{sym, ap, _∙_}
 use lib.ListN.{drop}
 use native.Mathlib.Omega.{arith}
 use borrow.Author.Needs.{needs}
 use borrow.Author.Tests.{eq-eqb, ne-eqb}
-use Rattle.drat.proofs.At.{end-here, text-here, end-past, token-past, blank-after, blank-stop, blank-bad}
+use Rattle.drat.proofs.At.{end-here, line-here, end-past, line-past, blank-after, blank-stop, blank-bad}
 use Rattle.drat.proofs.Places.{signed-moves}
 use Rattle.drat.specs.Reading.{thenBlank}
-use Rattle.drat.specs.declared.Format.the-variants.{Text}
-use Rattle.drat_read.proofs.LitLaws.{text-literal}
-use Rattle.drat_read.proofs.place.text_token.Statement.{statement}
-use Rattle.drat_read.proofs.place.text_token.Tie as tie
+use Rattle.drat_read.proofs.LitLaws.{line-literal}
+use Rattle.drat_read.proofs.place.line_at.Statement.{statement}
+use Rattle.drat_read.proofs.place.line_at.Tie as tie
 
 returns : tie.Need-returns
 returns c =
     let a = c .before .before .args in
-    sym (token-past (a .s .now) (a .at) (c .if1 .taken) Text)
+    sym (line-past (a .s .now) (a .at) (c .if1 .taken))
 
 shared-slice-read-b : tie.Need-shared-slice-read-b
 shared-slice-read-b c = search needs
@@ -27,7 +26,7 @@ add-j c = search needs
 returns-2 : tie.Need-returns-2
 returns-2 c =
     let a = c .before .before .before .before .before .args in
-    sym (text-here (a .s .now) (a .at) (c .before .before .before .if1 .left)
+    sym (line-here (a .s .now) (a .at) (c .before .before .before .if1 .left)
     ∙ simp (eq-eqb _ _ (c .before .if2 .taken)) (end-past (a .s .now) (a .at + 1) (c .if3 .taken)))
 
 shared-slice-read-if4 : tie.Need-shared-slice-read-if4
@@ -39,14 +38,14 @@ add-t15 c = search needs
 returns-3 : tie.Need-returns-3
 returns-3 c =
     let a = c .before .before .before .before .before .before .before .args in
-    sym (text-here (a .s .now) (a .at) (c .before .before .before .before .before .if1 .left)
+    sym (line-here (a .s .now) (a .at) (c .before .before .before .before .before .if1 .left)
     ∙ simp (eq-eqb _ _ (c .before .before .before .if2 .taken))
     (end-here (a .s .now) (a .at + 1) (c .before .before .if3 .left) ∙ simp (eq-eqb _ _ (c .if4 .taken))))
 
 returns-4 : tie.Need-returns-4
 returns-4 c =
     let a = c .before .before .before .before .before .before .before .args in
-    sym (text-here (a .s .now) (a .at) (c .before .before .before .before .before .if1 .left)
+    sym (line-here (a .s .now) (a .at) (c .before .before .before .before .before .if1 .left)
     ∙ simp (eq-eqb _ _ (c .before .before .before .if2 .taken))
     (end-here (a .s .now) (a .at + 1) (c .before .before .if3 .left) ∙ simp (ne-eqb _ _ (c .if4 .left))))
 
@@ -69,7 +68,7 @@ returns-5 : tie.Need-returns-5
 returns-5 c =
     let a = c .before .before .before .before .before .before .before .before .before .args in
     let s = a .s .now in
-    let t = text-literal s (a .at) (c .before .before .before .before .before .before .before .if1 .left)
+    let t = line-literal s (a .at) (c .before .before .before .before .before .before .before .if1 .left)
     (c .before .before .before .before .before .if2 .left) in
     let e = sym (c .before .before .before .before .signed-at .ensures) ∙ c .before .before .code .given .1 in
     let code = c .before .before .code .given .0 .0 in
@@ -81,7 +80,7 @@ returns-6 : tie.Need-returns-6
 returns-6 c =
     let a = c .before .before .before .before .before .before .before .args in
     let s = a .s .now in
-    let t = text-literal s (a .at) (c .before .before .before .before .before .if1 .left) (c .before .before .before .if2 .left) in
+    let t = line-literal s (a .at) (c .before .before .before .before .before .if1 .left) (c .before .before .before .if2 .left) in
     sym (t ∙ ap (thenBlank (a .at) (drop (a .at) s)) (sym (c .before .before .signed-at .ensures) ∙ c .enum-told .given .1)
     ∙ blank-stop (a .at) (drop (a .at) s) _)
 
@@ -89,12 +88,12 @@ returns-7 : tie.Need-returns-7
 returns-7 c =
     let a = c .before .before .before .before .before .before .before .args in
     let s = a .s .now in
-    let t = text-literal s (a .at) (c .before .before .before .before .before .if1 .left) (c .before .before .before .if2 .left) in
+    let t = line-literal s (a .at) (c .before .before .before .before .before .if1 .left) (c .before .before .before .if2 .left) in
     sym (t ∙ ap (thenBlank (a .at) (drop (a .at) s)) (sym (c .before .before .signed-at .ensures) ∙ c .enum-told2 .given .1)
     ∙ blank-bad (a .at) (drop (a .at) s))
 
-pub text-token-spec : {M : Type 1} → statement M
-text-token-spec =
+pub line-at-spec : {M : Type 1} → statement M
+line-at-spec =
     tie.close
     (tie.spec
     returns

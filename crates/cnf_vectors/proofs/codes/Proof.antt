@@ -1,0 +1,45 @@
+use Prim.Native.Nat.{_-_, _≤_}
+use borrow.Author.Needs.{needs}
+use Rattle.cnf_vectors.proofs.codes.Statement.{statement}
+use Rattle.cnf_vectors.proofs.codes.Tie as tie
+
+abbrev Inv-loop : tie.InvT-loop
+Inv-loop s₀ c₀ s c = c ≤ 8192
+
+abbrev μ-loop : tie.MeasureT-loop
+μ-loop s₀ c₀ s c = 8192 - c
+
+loop-holds : tie.Need-loop-holds Inv-loop μ-loop
+loop-holds c = search needs
+
+code-requires : tie.Need-code-requires Inv-loop μ-loop
+code-requires c κs = search needs
+
+told-requires : tie.Need-told-requires Inv-loop μ-loop
+told-requires c κs = search needs
+
+add-c : tie.Need-add-c Inv-loop μ-loop
+add-c c = search needs
+
+loop-less : tie.Need-loop-less Inv-loop μ-loop
+loop-less c = search needs
+
+loop-again : tie.Need-loop-again Inv-loop μ-loop
+loop-again c = search needs
+
+returns : tie.Need-returns Inv-loop μ-loop
+returns c = search needs
+
+pub codes-spec : {M : Type 1} → statement M
+codes-spec =
+    tie.close
+    (tie.spec
+    Inv-loop
+    μ-loop
+    loop-holds
+    code-requires
+    told-requires
+    add-c
+    loop-less
+    loop-again
+    returns)

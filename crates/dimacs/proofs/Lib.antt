@@ -1,0 +1,11 @@
+pub mod Anchored
+pub mod ClauseLaws
+pub mod Written
+pub mod Digits
+pub mod Heads
+pub mod LineLaws
+pub mod Faults
+pub mod Files
+pub mod Places
+pub mod Turns
+pub mod RoundTrip

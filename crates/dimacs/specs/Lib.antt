@@ -1,0 +1,4 @@
+pub mod Cnf
+pub mod Reading
+pub mod Calls
+pub mod Anchors

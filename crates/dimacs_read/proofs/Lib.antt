@@ -1,0 +1,2 @@
+pub mod HeadingLaws
+pub mod CallLaws
