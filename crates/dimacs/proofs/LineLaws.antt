@@ -151,7 +151,7 @@ cons-wrong cs (clauses rest) p e = absurd (wrong-clauses p (cs ∷ rest) (sym e)
 cons-wrong cs (wrongLine i) p e = e
 
 -- the rest of a file: it ends where a line would start; or the rest of a line is ahead, and then lines
-data Ahead (v start i : ℕ) (cs l : List ℕ) (cls : List (List ℕ)) : Type 0 where
+pub data Ahead (v start i : ℕ) (cs l : List ℕ) (cls : List (List ℕ)) : Type 0 where
   over : i ≡ start → l ≡ [] → cls ≡ [] → Ahead v start i cs l cls
   on : {bs ds rest : List ℕ} {more : List (List ℕ)} → Line v bs ds → Lines v rest more → l ≡ bs ++ rest → cls ≡ (cs ++ ds) ∷ more → Ahead v start i cs l cls
 
@@ -178,7 +178,7 @@ ahead-none v n start cs i cls e = go (eqb i start) refl (sym (from-none v n star
     go true t e = over (eqb-true i start t) refl (sym (clauses-part [] cls e))
     go false t e = absurd (wrong-clauses start cls e)
 
-clauses-sound : (v n start : ℕ) (cs : List ℕ) (i : ℕ) (l : List ℕ) (cls : List (List ℕ)) → start ≤ i → clausesFrom v n start cs i l ≡ clauses cls
+pub clauses-sound : (v n start : ℕ) (cs : List ℕ) (i : ℕ) (l : List ℕ) (cls : List (List ℕ)) → start ≤ i → clausesFrom v n start cs i l ≡ clauses cls
     → Ahead v start i cs l cls
 unfolding clausesFrom
 clauses-sound v zero start cs i [] cls h e = ahead-none v zero start cs i cls e

@@ -21,6 +21,7 @@ use Rattle.dimacs.specs.declared.CnfRead.the-variants.{Filled, Wrong, Short}
 use Rattle.dimacs.proofs.Heads.{starts-split, head-sound}
 use Rattle.dimacs.proofs.LineLaws.{lines-sound}
 use Rattle.dimacs_read.specs.Heading.{Capped, Headed, found, absent}
+use Rattle.dimacs_read.specs.Known.{LinesFit}
 use Rattle.dimacs_read.proofs.HeadingLaws.{capped-is, capped-not}
 
 -- the headerStart takes six bytes
@@ -32,9 +33,9 @@ line-length : {v : ℕ} {bs cs : List ℕ} → Line v bs cs → 2 ≤ length bs
 line-length closed = omega arith
 line-length (lit {bs = bs} {rest = rest} s g t) = omega (arith, line-length t, length-append bs (32 ∷ rest))
 
-lines-length : {v : ℕ} {l : List ℕ} {cls : List (List ℕ)} → Lines v l cls → 2 * length cls ≤ length l
-lines-length none = omega arith
-lines-length (line {bs = bs} {rest = rest} p t) = omega (arith, line-length p, lines-length t, length-append bs rest)
+lines-most : {v : ℕ} {l : List ℕ} {cls : List (List ℕ)} → Lines v l cls → 2 * length cls ≤ length l
+lines-most none = omega arith
+lines-most (line {bs = bs} {rest = rest} p t) = omega (arith, line-length p, lines-most t, length-append bs rest)
 
 -- what the scan's answer says of the lines
 whole-is : (r : Clauses) (n m : ℕ) → Whole n m ≡ tallied r → (cls : List (List ℕ)) × (r ≡ clauses cls) × (n ≡ length (allCodes cls)) × (m ≡ length cls)
@@ -69,18 +70,18 @@ pub record CnfCall (s codes₀ ends₀ codes ends : List ℕ) (r : CnfRead) : Ty
 
 module _ (s codes₀ ends₀ : List ℕ) where
   -- a refused call leaves the slices as they were
-  refuses : (codes ends : List ℕ) → codes ≡ codes₀ → ends ≡ ends₀ → (r : CnfRead) (n : ℕ) (vs : List ℕ) → cnfRead r ≡ refused n vs
-      → readCnfOf s (length codes₀) (length ends₀) ≡ cnfRefusing n vs → CnfCall s codes₀ ends₀ codes ends r
-  refuses codes ends ec ee r n vs e h =
+  refuses : (r : CnfRead) (n : ℕ) (vs : List ℕ) → cnfRead r ≡ refused n vs → readCnfOf s (length codes₀) (length ends₀) ≡ cnfRefusing n vs
+      → CnfCall s codes₀ ends₀ codes₀ ends₀ r
+  refuses r n vs e h =
       record {
         answer = e ∙ sym (ap (λ (x : CnfFilling). x .answer) h);
-        codes-after = ec ∙ sym (ap (λ (x : CnfFilling). sets codes₀ 0 (x .codes)) h);
-        ends-after = ee ∙ sym (ap (λ (x : CnfFilling). sets ends₀ 0 (x .ends)) h);
+        codes-after = sym (ap (λ (x : CnfFilling). sets codes₀ 0 (x .codes)) h);
+        ends-after = sym (ap (λ (x : CnfFilling). sets ends₀ 0 (x .ends)) h);
       }
 
-  wrong-call : (codes ends : List ℕ) → codes ≡ codes₀ → ends ≡ ends₀ → (p : ℕ) → readFile s ≡ wrongAt p → CnfCall s codes₀ ends₀ codes ends (Wrong p)
+  wrong-call : (p : ℕ) → readFile s ≡ wrongAt p → CnfCall s codes₀ ends₀ codes₀ ends₀ (Wrong p)
   unfolding cnfBy
-  wrong-call codes ends ec ee p e = refuses codes ends ec ee (Wrong p) 17 (p ∷ []) refl (ap (λ (f : File). cnfBy f (length codes₀) (length ends₀)) e)
+  wrong-call p e = refuses (Wrong p) 17 (p ∷ []) refl (ap (λ (f : File). cnfBy f (length codes₀) (length ends₀)) e)
 
   module _ (h : ℕ) (eh : h ≡ headerPlace false 0 s) where
     file-at : readFile s ≡ fileBy s h (headFrom h (drop h s))
@@ -90,7 +91,7 @@ module _ (s codes₀ ends₀ : List ℕ) where
     module _ (f : Bool) (v k j : ℕ) (hd : Headed (headFrom h (drop h s)) f v k j) where
       pub call-headless : f ≡ false → CnfCall s codes₀ ends₀ codes₀ ends₀ (Wrong h)
       unfolding fileBy
-      call-headless e = wrong-call codes₀ ends₀ refl refl h (file-at ∙ ap (fileBy s h) (head-not f hd e))
+      call-headless e = wrong-call h (file-at ∙ ap (fileBy s h) (head-not f hd e))
 
       module _ (ft : f ≡ true) where
         lines-at : readFile s ≡ countedBy h v (head-is f hd ft .digits) (clausesAt s v j)
@@ -103,61 +104,64 @@ module _ (s codes₀ ends₀ : List ℕ) where
             let r = head-sound h (drop h s) v (head-is f hd ft .digits) j (head-is f hd ft .is) in
             omega (arith, r .place, ap length (r .split) ∙ length-append (r .bytes) (r .rest), length-drop h s)
 
-        module _ (codes ends : List ℕ) (ec : codes ≡ codes₀) (ee : ends ≡ ends₀) where
-          pub call-wrong : (p : ℕ) → Fault p ≡ tallied (clausesAt s v j) → CnfCall s codes₀ ends₀ codes ends (Wrong p)
+        pub call-wrong : (p : ℕ) → Fault p ≡ tallied (clausesAt s v j) → CnfCall s codes₀ ends₀ codes₀ ends₀ (Wrong p)
+        unfolding countedBy
+        call-wrong p e = wrong-call p (lines-at ∙ ap (countedBy h v (head-is f hd ft .digits)) (fault-is (clausesAt s v j) p e))
+
+        module _ (n m : ℕ) (e : Whole n m ≡ tallied (clausesAt s v j)) (short : length s < 9223372036854775808) where
+          got : (cls : List (List ℕ)) × (clausesAt s v j ≡ clauses cls) × (n ≡ length (allCodes cls)) × (m ≡ length cls)
+          got = whole-is (clausesAt s v j) n m e
+
+          few : m < 9223372036854775800
+          few = omega (arith, got .3, lines-most (lines-sound v (length s) j (drop j s) (got .0) (got .1)), length-drop j s)
+
+          pub call-miscounted : (k ≡ m → ⊥) → CnfCall s codes₀ ends₀ codes₀ ends₀ (Wrong h)
           unfolding countedBy
-          call-wrong p e = wrong-call codes ends ec ee p (lines-at ∙ ap (countedBy h v (head-is f hd ft .digits)) (fault-is (clausesAt s v j) p e))
+          call-miscounted g =
+              let w = head-is f hd ft in
+              let z = ne-eqb (valueFrom 0 (w .digits)) (length (got .0)) (λ q. capped-not k (valueFrom 0 (w .digits)) m few (w .capped) g (q ∙ sym
+              (got .3))) in
+              wrong-call h (lines-at ∙ ap (countedBy h v (w .digits)) (got .1) ∙ ap (λ (t : Bool). pick t (file v (got .0)) (wrongAt h)) z)
 
-          module _ (n m : ℕ) (e : Whole n m ≡ tallied (clausesAt s v j)) (short : length s < 9223372036854775808) where
-            got : (cls : List (List ℕ)) × (clausesAt s v j ≡ clauses cls) × (n ≡ length (allCodes cls)) × (m ≡ length cls)
-            got = whole-is (clausesAt s v j) n m e
+          pub lines-fit : j ≤ length s → n ≤ length codes₀ → m ≤ length ends₀ → LinesFit s v j (length codes₀) (length ends₀)
+          lines-fit i a b =
+              record { cls = got .0; inside = i; reads = got .1; codes-fit = omega (arith, a, got .2); ends-fit = omega (arith, b, got .3) }
 
-            few : m < 9223372036854775800
-            few = omega (arith, got .3, lines-length (lines-sound v (length s) j (drop j s) (got .0) (got .1)), length-drop j s)
-
-            pub call-miscounted : (k ≡ m → ⊥) → CnfCall s codes₀ ends₀ codes ends (Wrong h)
+          module _ (g : k ≡ m) where
+            file-is : readFile s ≡ file v (got .0)
             unfolding countedBy
-            call-miscounted g =
+            file-is =
                 let w = head-is f hd ft in
-                let z = ne-eqb (valueFrom 0 (w .digits)) (length (got .0)) (λ q. capped-not k (valueFrom 0 (w .digits)) m few (w .capped) g (q ∙ sym
-                (got .3))) in
-                wrong-call codes ends ec ee h (lines-at ∙ ap (countedBy h v (w .digits)) (got .1) ∙ ap (λ (t : Bool). pick t (file v (got .0)) (wrongAt h)) z)
+                let z = eq-eqb (valueFrom 0 (w .digits)) (length (got .0)) (capped-is k (valueFrom 0 (w .digits)) m few (w .capped) g ∙ got .3) in
+                lines-at ∙ ap (countedBy h v (w .digits)) (got .1) ∙ ap (λ (t : Bool). pick t (file v (got .0)) (wrongAt h)) z
 
-            module _ (g : k ≡ m) where
-              file-is : readFile s ≡ file v (got .0)
-              unfolding countedBy
-              file-is =
-                  let w = head-is f hd ft in
-                  let z = eq-eqb (valueFrom 0 (w .digits)) (length (got .0)) (capped-is k (valueFrom 0 (w .digits)) m few (w .capped) g ∙ got .3) in
-                  lines-at ∙ ap (countedBy h v (w .digits)) (got .1) ∙ ap (λ (t : Bool). pick t (file v (got .0)) (wrongAt h)) z
+            answer-is : readCnfOf s (length codes₀) (length ends₀) ≡
+                pick (ltb (length codes₀) (length (allCodes (got .0))) || ltb (length ends₀) (length (got .0))) (cnfRefusing 2 []) (cnfFilling v (got .0))
+            unfolding cnfBy
+            answer-is = ap (λ (x : File). cnfBy x (length codes₀) (length ends₀)) file-is
 
-              answer-is : readCnfOf s (length codes₀) (length ends₀) ≡
-                  pick (ltb (length codes₀) (length (allCodes (got .0))) || ltb (length ends₀) (length (got .0))) (cnfRefusing 2 []) (cnfFilling v (got .0))
-              unfolding cnfBy
-              answer-is = ap (λ (x : File). cnfBy x (length codes₀) (length ends₀)) file-is
+            pub call-short₁ : length codes₀ < n → CnfCall s codes₀ ends₀ codes₀ ends₀ Short
+            call-short₁ l = refuses Short 2 [] refl
+                (answer-is ∙ simp (lt-ltb (length codes₀) (length (allCodes (got .0))) (omega (arith, got .2))))
 
-              pub call-short₁ : length codes < n → CnfCall s codes₀ ends₀ codes ends Short
-              call-short₁ l = refuses codes ends ec ee Short 2 [] refl
-                  (answer-is ∙ simp (lt-ltb (length codes₀) (length (allCodes (got .0))) (omega (arith, got .2, ap length ec))))
+            pub call-short₂ : n ≤ length codes₀ → length ends₀ < m → CnfCall s codes₀ ends₀ codes₀ ends₀ Short
+            call-short₂ a l = refuses Short 2 [] refl
+                (answer-is ∙ simp (
+                  le-ltb (length codes₀) (length (allCodes (got .0))) (omega (arith, got .2)),
+                  lt-ltb (length ends₀) (length (got .0)) (omega (arith, got .3)),
+                ))
 
-              pub call-short₂ : n ≤ length codes → length ends < m → CnfCall s codes₀ ends₀ codes ends Short
-              call-short₂ a l = refuses codes ends ec ee Short 2 [] refl
-                  (answer-is ∙ simp (
-                    le-ltb (length codes₀) (length (allCodes (got .0))) (omega (arith, got .2, ap length ec)),
-                    lt-ltb (length ends₀) (length (got .0)) (omega (arith, got .3, ap length ee)),
-                  ))
-
-              pub call-filled : n ≤ length codes → m ≤ length ends → (codes′ ends′ : List ℕ) (r : Scanned) → LineScan s v j codes ends codes′ ends′ r
-                  → CnfCall s codes₀ ends₀ codes′ ends′ (Filled v n m)
-              call-filled a l codes′ ends′ r q =
-                  let w = q .filled (got .0) (got .1) in
-                  let z : readCnfOf s (length codes₀) (length ends₀) ≡ cnfFilling v (got .0) =
-                  answer-is ∙ simp (
-                    le-ltb (length codes₀) (length (allCodes (got .0))) (omega (arith, got .2, ap length ec)),
-                    le-ltb (length ends₀) (length (got .0)) (omega (arith, got .3, ap length ee)),
-                  ) in
-                  record {
-                    answer = ap₂ (λ (x y : ℕ). accepted (v ∷ x ∷ y ∷ [])) (got .2) (got .3) ∙ sym (ap (λ (x : CnfFilling). x .answer) z);
-                    codes-after = w .0 ∙ ap₂ (λ (x : List ℕ) (y : CnfFilling). sets x 0 (y .codes)) ec (sym z);
-                    ends-after = w .1 ∙ ap₂ (λ (x : List ℕ) (y : CnfFilling). sets x 0 (y .ends)) ee (sym z);
-                  }
+            pub call-filled : n ≤ length codes₀ → m ≤ length ends₀ → (codes′ ends′ : List ℕ) (r : Scanned) → LineScan s v j codes₀ ends₀ codes′ ends′ r
+                → CnfCall s codes₀ ends₀ codes′ ends′ (Filled v n m)
+            call-filled a l codes′ ends′ r q =
+                let w = q .filled (got .0) (got .1) in
+                let z : readCnfOf s (length codes₀) (length ends₀) ≡ cnfFilling v (got .0) =
+                answer-is ∙ simp (
+                  le-ltb (length codes₀) (length (allCodes (got .0))) (omega (arith, got .2)),
+                  le-ltb (length ends₀) (length (got .0)) (omega (arith, got .3)),
+                ) in
+                record {
+                  answer = ap₂ (λ (x y : ℕ). accepted (v ∷ x ∷ y ∷ [])) (got .2) (got .3) ∙ sym (ap (λ (x : CnfFilling). x .answer) z);
+                  codes-after = w .0 ∙ ap (λ (y : CnfFilling). sets codes₀ 0 (y .codes)) (sym z);
+                  ends-after = w .1 ∙ ap (λ (y : CnfFilling). sets ends₀ 0 (y .ends)) (sym z);
+                }

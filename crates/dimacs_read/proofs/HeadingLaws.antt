@@ -1,11 +1,11 @@
 -- The header, byte by byte.
-use Prim.Native.Nat.{ℕ, zero, suc, _+_, _-_, _*_, _≤_, _<_}
+use Prim.Native.Nat.{ℕ, _+_, _-_, _*_, _≤_, _<_}
 use mathlib.Core.Path.{_≡_, refl, sym, ap, _∙_, subst}
 use mathlib.Core.List.{List, [], _∷_, _++_, append-assoc, append-nil}
 use mathlib.Core.Bool.{Bool, true, false, _&&_, _||_, not, true≢false}
 use native.Mathlib.Omega.{arith}
 use lib.Dec.{eqb, leb}
-use lib.ListN.{length, getD, drop, set, length-append, drop-of-length-le}
+use lib.ListN.{length, getD, drop, length-append, drop-of-length-le}
 use lib.Seq.{drop-drop, getD-drop}
 use mathlib.Core.Logic.{⊎-elim}
 use borrow.Author.Tests.{eqb-true, eq-eqb, ne-eqb, lt-leb, le-leb}
@@ -267,13 +267,3 @@ no-opening s at e =
     let p = at + 6 + length (digitsAt s (at + 6)) in
     let q = p + 1 + length (digitsAt s (p + 1)) in
     none-found s at p q refl refl (tests s at p q refl refl ∙ rw e)
-
-pub set-past : (l : List ℕ) (i x : ℕ) → length l ≤ i → l ≡ set l i x
-set-past [] i x h = refl
-set-past (y ∷ l) zero x h = absurd (omega arith)
-set-past (y ∷ l) (suc i) x h = ap (λ (m : List ℕ). y ∷ m) (set-past l i x (omega arith))
-
--- an empty part in front
-pub none-before : (xs l : List ℕ) → length xs ≡ 0 → xs ++ l ≡ l
-none-before [] l e = refl
-none-before (x ∷ xs) l e = absurd (omega arith)

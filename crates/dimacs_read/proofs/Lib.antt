@@ -1,2 +1,4 @@
 pub mod HeadingLaws
 pub mod CallLaws
+pub mod LiteralLaws
+pub mod FillLaws

@@ -1,1 +1,2 @@
 pub mod Heading
+pub mod Known

@@ -1,19 +1,20 @@
 // Read CNF: the clauses of a DIMACS CNF file.
 use dimacs::CnfRead;
 use drat::Scanned;
+use fill::fill;
 use heading::head_at;
 use heading::header_place;
-use lines::judge;
-use lines::scan;
+use lines::count;
 ghost use mathlib.Core.Path.{_≡_};
 ghost use lib.ListN.{length};
 ghost use Rattle.base.specs.Lent.{old, Fills};
 ghost use Rattle.dimacs.specs.Calls.{readCnfOf, cnfRead};
 
+mod fill;
 mod heading;
 mod lines;
 
-// 17, with the place of the first wrong line; then 2. The lines are gone through twice, since nothing is filled before all is judged.
+// 17, with the place of the first wrong line; then 2. All lines are judged before anything is filled.
 // dimacs/specs/Calls.antt: readCnfOf, and cnfRead for the answer.
 pub fn read_cnf(bytes: &[u8], codes: &mut [u32], ends: &mut [u64]) -> CnfRead
     ensures { λ r. let w = readCnfOf (old bytes) (length (old codes)) (length (old ends)) in
@@ -26,7 +27,7 @@ pub fn read_cnf(bytes: &[u8], codes: &mut [u32], ends: &mut [u64]) -> CnfRead
     if !head.found {
         return CnfRead::Wrong(place);
     }
-    match judge(bytes, head.next, head.variables, codes, ends) {
+    match count(bytes, head.next, head.variables) {
         Scanned::Fault(p) => CnfRead::Wrong(p),
         Scanned::Whole(n, m) => {
             if head.clauses != m as u64 {
@@ -38,7 +39,7 @@ pub fn read_cnf(bytes: &[u8], codes: &mut [u32], ends: &mut [u64]) -> CnfRead
             if ends.len() < m {
                 return CnfRead::Short;
             }
-            scan(bytes, head.next, head.variables, codes, ends);
+            fill(bytes, head.next, head.variables, codes, ends);
             CnfRead::Filled(head.variables, n, m)
         }
     }

@@ -16,7 +16,7 @@ use Rattle.drat.specs.declared.Format.{Format}
 use Rattle.drat.specs.declared.Kind.the-variants.{Add, Delete}
 use Rattle.drat_judge.specs.Local.{tally, stepsBy, litsBy}
 
-tally-append : (lo hi : ℕ) (a b : List ℕ) → tally lo hi (a ++ b) ≡ tally lo hi a + tally lo hi b
+pub tally-append : (lo hi : ℕ) (a b : List ℕ) → tally lo hi (a ++ b) ≡ tally lo hi a + tally lo hi b
 unfolding tally
 tally-append lo hi [] b = omega arith
 tally-append lo hi (x ∷ a) b = let h = tally-append lo hi a b in omega arith
@@ -70,7 +70,7 @@ StepsCount Text bs n m = (tally 10 10 bs ≡ m) × (tally 32 32 bs ≡ n + tally
 StepsCount Binary bs n m = (tally 0 0 bs ≡ m) × (tally 0 127 bs ≡ n + 2 * m)
 
 -- a signed number beside its digits has a minus only
-signed-none : {bs : List ℕ} {c : ℕ} → Signed bs c → (lo hi : ℕ) → (hi < 45) ⊎ (57 < lo) → tally lo hi bs ≡ 0
+pub signed-none : {bs : List ℕ} {c : ℕ} → Signed bs c → (lo hi : ℕ) → (hi < 45) ⊎ (57 < lo) → tally lo hi bs ≡ 0
 signed-none (plus h n) lo hi k = decimal-none n lo hi (⊎-elim (λ (g : hi < 45). inl (omega arith)) (λ (g : 57 < lo). inr g) k)
 signed-none (minus {bs = bs} h n) lo hi k =
     tally-out lo hi 45 bs (⊎-elim (λ (g : hi < 45). inr g) (λ (g : 57 < lo). inl (omega arith)) k)

@@ -26,13 +26,13 @@ fn end_byte(f: Format) -> u8
     }
 }
 
-fn in_range(x: u8, lo: u8, hi: u8) -> bool
+pub fn in_range(x: u8, lo: u8, hi: u8) -> bool
     ensures { λ r. ⌜ r ≡ inRange lo hi x ⌝ }
 {
     (lo <= x) & (x <= hi)
 }
 
-fn choose(t: bool, u: bool, v: bool) -> bool
+pub fn choose(t: bool, u: bool, v: bool) -> bool
     ensures { λ r. ⌜ r ≡ pick t u v ⌝ }
 {
     if t { u } else { v }
@@ -193,7 +193,8 @@ fn block(s: &[u8], from: usize, to: usize, lo: u8, hi: u8) -> u8
     k
 }
 
-fn tally_of(s: &[u8], lo: u8, hi: u8) -> usize
+// How many bytes are from lo to hi.
+pub fn tally_of(s: &[u8], lo: u8, hi: u8) -> usize
     ensures { λ r. ⌜ r ≡ tally lo hi (old s) ⌝ }
 {
     let mut k: usize = 0;

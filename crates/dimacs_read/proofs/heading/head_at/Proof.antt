@@ -85,14 +85,15 @@ headless-requires-4 c κs = search needs
 
 returns-4 : tie.Need-returns-4
 returns-4 c =
-    let a = c .before .before .before .before .before .before .before .before .before .before .before .args in
+    let back = c .before .before .before .before .before .before .before .before in
+    let a = back .before .before .before .args in
     let s = a .s .now in
     let v = c .before .before .before .before .before .before .before .run-at .ensures in
     let p = c .before .before .before .before .before .before .before .run-at .result .next in
     let q = p + 1 + length (digitsAt s (p + 1)) in
-    let t₁ = sym (c .before .before .before .before .before .before .before .before .before .header-starts .ensures) ∙ not-false
-    (c .before .before .before .before .before .before .before .before .before .header-starts .result)
-    (c .before .before .before .before .before .before .before .before .if1 .left) in
+    let t₁ = sym (back .before .header-starts .ensures) ∙ not-false
+    (back .before .header-starts .result)
+    (back .if1 .left) in
     let t₂ = sym (c .before .before .before .before .before .before .is-proper .ensures) ∙ not-false
     (c .before .before .before .before .before .before .is-proper .result) (c .before .before .before .before .before .if2 .left) in
     let t₃ = capped-small (c .before .before .before .before .before .before .before .run-at .result .value) (valueFrom 0 (digitsAt s (a .at + 6)))
@@ -106,7 +107,8 @@ add-run-at-2 c = search needs
 
 run-at-requires-2 : tie.Need-run-at-requires-2
 run-at-requires-2 c κs =
-    let a = c .before .before .before .before .before .before .before .before .before .before .before .args in
+    let back = c .before .before .before .before .before .before .before .before in
+    let a = back .before .before .before .args in
     let s = a .s .now in
     let p = c .before .before .before .before .before .before .before .run-at .result .next in
     let t₄ = sym (c .before .before .stands .ensures) ∙ not-false (c .before .before .stands .result) (c .before .if4 .left) in
@@ -123,18 +125,20 @@ headless-requires-5 c κs = search needs
 
 returns-5 : tie.Need-returns-5
 returns-5 c =
-    let a = c .before .before .before .before .before .before .before .before .before .before .before .before .before .before .before .before .args in
+    let back = c .before .before .before .before .before .before .before .before in
+    let a = back .before .before .before .before .before .before .before .before .args in
     let s = a .s .now in
-    let v = c .before .before .before .before .before .before .before .before .before .before .before .before .run-at .ensures in
-    let p = c .before .before .before .before .before .before .before .before .before .before .before .before .run-at .result .next in
+    let v = back .before .before .before .before .run-at .ensures in
+    let p = back .before .before .before .before .run-at .result .next in
     let k = c .before .before .before .before .run-at2 .ensures in
     let q = c .before .before .before .before .run-at2 .result .next in
-    let t₁ = sym (c .before .before .before .before .before .before .before .before .before .before .before .before .before .before .header-starts .ensures) ∙ not-false (c .before .before .before .before .before .before .before .before .before .before .before .before .before .before .header-starts .result) (c .before .before .before .before .before .before .before .before .before .before .before .before .before .if1 .left) in
-    let t₂ = sym (c .before .before .before .before .before .before .before .before .before .before .before .is-proper .ensures) ∙ not-false
-    (c .before .before .before .before .before .before .before .before .before .before .before .is-proper .result)
-    (c .before .before .before .before .before .before .before .before .before .before .if2 .left) in
-    let t₃ = capped-small (c .before .before .before .before .before .before .before .before .before .before .before .before .run-at .result .value)
-    (valueFrom 0 (digitsAt s (a .at + 6))) (v .1 .1) (c .before .before .before .before .before .before .before .before .if3 .left) in
+    let t₁ = sym (back .before .before .before .before .before .before .header-starts .ensures) ∙ not-false
+    (back .before .before .before .before .before .before .header-starts .result) (back .before .before .before .before .before .if1 .left) in
+    let t₂ = sym (back .before .before .before .is-proper .ensures) ∙ not-false
+    (back .before .before .before .is-proper .result)
+    (back .before .before .if2 .left) in
+    let t₃ = capped-small (back .before .before .before .before .run-at .result .value)
+    (valueFrom 0 (digitsAt s (a .at + 6))) (v .1 .1) (back .if3 .left) in
     let t₄ = sym (c .before .before .before .before .before .before .before .stands .ensures) ∙ not-false
     (c .before .before .before .before .before .before .before .stands .result) (c .before .before .before .before .before .before .if4 .left) in
     no-second s (a .at) p q (v .0) (k .0) t₁ t₂ (t₃ .0) t₄ (sym (c .before .before .is-proper2 .ensures) ∙ not-true (c .before .before .is-proper2 .result)
@@ -149,22 +153,25 @@ headless-requires-6 c κs = search needs
 
 returns-6 : tie.Need-returns-6
 returns-6 c =
-    let a = c .before .before .before .before .before .before .before .before .before .before .before .before .before .before .before .before .before .before .args in
+    let back = c .before .before .before .before .before .before .before .before in
+    let a = back .before .before .before .before .before .before .before .before .before .before .args in
     let s = a .s .now in
-    let v = c .before .before .before .before .before .before .before .before .before .before .before .before .before .before .run-at .ensures in
-    let p = c .before .before .before .before .before .before .before .before .before .before .before .before .before .before .run-at .result .next in
+    let v = back .before .before .before .before .before .before .run-at .ensures in
+    let p = back .before .before .before .before .before .before .run-at .result .next in
     let k = c .before .before .before .before .before .before .run-at2 .ensures in
     let q = c .before .before .before .before .before .before .run-at2 .result .next in
-    let t₁ = sym (c .before .before .before .before .before .before .before .before .before .before .before .before .before .before .before .before .header-starts .ensures) ∙ not-false (c .before .before .before .before .before .before .before .before .before .before .before .before .before .before .before .before .header-starts .result) (c .before .before .before .before .before .before .before .before .before .before .before .before .before .before .before .if1 .left) in
-    let t₂ = sym (c .before .before .before .before .before .before .before .before .before .before .before .before .before .is-proper .ensures) ∙
-    not-false (c .before .before .before .before .before .before .before .before .before .before .before .before .before .is-proper .result)
-    (c .before .before .before .before .before .before .before .before .before .before .before .before .if2 .left) in
+    let t₁ = sym (back .before .before .before .before .before .before .before .before .header-starts .ensures) ∙ not-false
+    (back .before .before .before .before .before .before .before .before .header-starts .result)
+    (back .before .before .before .before .before .before .before .if1 .left) in
+    let t₂ = sym (back .before .before .before .before .before .is-proper .ensures) ∙
+    not-false (back .before .before .before .before .before .is-proper .result)
+    (back .before .before .before .before .if2 .left) in
     let t₃ = capped-small
-    (c .before .before .before .before .before .before .before .before .before .before .before .before .before .before .run-at .result .value)
-    (valueFrom 0 (digitsAt s (a .at + 6))) (v .1 .1) (c .before .before .before .before .before .before .before .before .before .before .if3 .left) in
-    let t₄ = sym (c .before .before .before .before .before .before .before .before .before .stands .ensures) ∙ not-false
-    (c .before .before .before .before .before .before .before .before .before .stands .result)
-    (c .before .before .before .before .before .before .before .before .if4 .left) in
+    (back .before .before .before .before .before .before .run-at .result .value)
+    (valueFrom 0 (digitsAt s (a .at + 6))) (v .1 .1) (back .before .before .if3 .left) in
+    let t₄ = sym (back .before .stands .ensures) ∙ not-false
+    (back .before .stands .result)
+    (back .if4 .left) in
     let t₅ = sym (c .before .before .before .before .is-proper2 .ensures) ∙ not-false (c .before .before .before .before .is-proper2 .result)
     (c .before .before .before .if5 .left) in
     no-feed s (a .at) p q (v .0) (k .0) t₁ t₂ (t₃ .0) t₄ t₅ (sym (c .before .before .stands2 .ensures) ∙ not-true (c .before .before .stands2 .result)
@@ -184,28 +191,31 @@ cast-t9 c = search needs
 
 returns-7 : tie.Need-returns-7
 returns-7 c =
-    let a = c .before .before .before .before .before .before .before .before .before .before .before .before .before .before .before .before .before .before .before .args in
+    let back = c .before .before .before .before .before .before .before .before in
+    let a = back .before .before .before .before .before .before .before .before .before .before .before .args in
     let s = a .s .now in
-    let v = c .before .before .before .before .before .before .before .before .before .before .before .before .before .before .before .run-at .ensures in
-    let p = c .before .before .before .before .before .before .before .before .before .before .before .before .before .before .before .run-at .result .next in
+    let v = back .before .before .before .before .before .before .before .run-at .ensures in
+    let p = back .before .before .before .before .before .before .before .run-at .result .next in
     let k = c .before .before .before .before .before .before .before .run-at2 .ensures in
     let q = c .before .before .before .before .before .before .before .run-at2 .result .next in
-    let t₁ = sym (c .before .before .before .before .before .before .before .before .before .before .before .before .before .before .before .before .before .header-starts .ensures) ∙ not-false (c .before .before .before .before .before .before .before .before .before .before .before .before .before .before .before .before .before .header-starts .result) (c .before .before .before .before .before .before .before .before .before .before .before .before .before .before .before .before .if1 .left) in
-    let t₂ = sym (c .before .before .before .before .before .before .before .before .before .before .before .before .before .before .is-proper .ensures) ∙
-    not-false (c .before .before .before .before .before .before .before .before .before .before .before .before .before .before .is-proper .result)
-    (c .before .before .before .before .before .before .before .before .before .before .before .before .before .if2 .left) in
+    let t₁ = sym (back .before .before .before .before .before .before .before .before .before .header-starts .ensures) ∙ not-false
+    (back .before .before .before .before .before .before .before .before .before .header-starts .result)
+    (back .before .before .before .before .before .before .before .before .if1 .left) in
+    let t₂ = sym (back .before .before .before .before .before .before .is-proper .ensures) ∙
+    not-false (back .before .before .before .before .before .before .is-proper .result)
+    (back .before .before .before .before .before .if2 .left) in
     let t₃ = capped-small
-    (c .before .before .before .before .before .before .before .before .before .before .before .before .before .before .before .run-at .result .value)
+    (back .before .before .before .before .before .before .before .run-at .result .value)
     (valueFrom 0 (digitsAt s (a .at + 6))) (v .1 .1)
-    (c .before .before .before .before .before .before .before .before .before .before .before .if3 .left) in
-    let t₄ = sym (c .before .before .before .before .before .before .before .before .before .before .stands .ensures) ∙ not-false
-    (c .before .before .before .before .before .before .before .before .before .before .stands .result)
-    (c .before .before .before .before .before .before .before .before .before .if4 .left) in
+    (back .before .before .before .if3 .left) in
+    let t₄ = sym (back .before .before .stands .ensures) ∙ not-false
+    (back .before .before .stands .result)
+    (back .before .if4 .left) in
     let t₅ = sym (c .before .before .before .before .before .is-proper2 .ensures) ∙ not-false
     (c .before .before .before .before .before .is-proper2 .result) (c .before .before .before .before .if5 .left) in
     let t₆ = sym (c .before .before .before .stands2 .ensures) ∙ not-false (c .before .before .before .stands2 .result) (c .before .before .if6 .left) in
     head-found s (a .at) p q (v .0) (k .0) t₁ t₂ (t₃ .0) t₄ t₅ t₆
-    (c .before .before .before .before .before .before .before .before .before .before .before .before .before .before .before .run-at .result .value)
+    (back .before .before .before .before .before .before .before .run-at .result .value)
     (c .before .before .before .before .before .before .before .run-at2 .result .value) (t₃ .1) (k .1 .1)
 
 pub head-at-spec : {M : Type 1} → statement M

@@ -1,0 +1,4 @@
+pub mod RunsLaws
+pub mod NextLaws
+pub mod JudgedLaws
+pub mod TallyLaws
