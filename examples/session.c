@@ -42,15 +42,18 @@ static void naming(uint32_t *clause) {
     hz_changed opened = hz_open(CAPACITY, TABLE);
     expect(opened.refusal == HZ_ACCEPTED && opened.counts.capacity == CAPACITY);
     c = opened.counts;
+    expect(c.used == 0 && c.next == 0);
 
     hz_mapped mapped = hz_map(c, TABLE, 2, false, NOTES);
     expect(mapped.refusal == HZ_ACCEPTED && mapped.global == 2 && mapped.notes == 3);
     expect(note(0, 0, 0, 1) && note(1, 0, 1, 2) && note(2, 0, 2, 3));
     c = mapped.counts;
+    expect(c.used == 3 && c.next == 0);
 
     hz_granted granted = hz_grant(c, TABLE, 2, NOTES);
     expect(granted.refusal == HZ_ACCEPTED && granted.solver == 0 && granted.notes == 1 && note(0, 1, 2, 1));
     c = granted.counts;
+    expect(c.used == 3 && c.next == 1);
 
     /* Users 1 and 2 are mapped and 2 has a solver index: one is to be mapped, two are to be granted an index. */
     const uint32_t users[3] = {POS(1), NEG(2), POS(3)};
@@ -67,6 +70,7 @@ static void naming(uint32_t *clause) {
     expect(clause[0] == POS(1) && clause[1] == NEG(0) && clause[2] == POS(2));
     expect(note(0, 1, 1, 2) && note(1, 0, 3, 4) && note(2, 1, 3, 3));
     c = posed.counts;
+    expect(c.used == 4 && c.next == 3);
 }
 
 /* Proof lines: box 2's literal becomes true, the clause loses its false literal, and the unit is written in both formats. */
@@ -144,6 +148,7 @@ static void sweeping(uint8_t *proof, size_t room) {
     expect(swept.refusal == HZ_ACCEPTED && swept.notes == 3);
     expect(note(0, 1, 2, 0) && note(1, 1, 1, 0) && note(2, 2, 1, 0));
     c = swept.counts;
+    expect(c.used == 3 && c.next == 0);
 
     const hz_step step = {HZ_DELETE_CLAUSE, HZ_REDUNDANT, 0};
     const uint32_t gone[1] = {POS(0)};
@@ -152,6 +157,36 @@ static void sweeping(uint8_t *proof, size_t room) {
     hz_written refused = hz_write(c, TABLE, HZ_TEXT, step, true, gone, 1, no_hashes, 0, proof, room);
     expect(refused.refusal == HZ_NOT_HELD && refused.bytes == 0 && proof[0] == before);
     expect(hz_write(c, TABLE, 7, step, true, gone, 1, no_hashes, 0, proof, room).refusal == HZ_UNKNOWN);
+}
+
+/* The two numbers, counted in the lists: so a table that was kept before it had them is brought up to date. */
+static hz_counts recounted(hz_counts kept) {
+    kept.used = 0;
+    for (uint32_t g = 0; g < CAPACITY; g++) {
+        kept.used += records[g] < 36;
+    }
+    kept.next = 0;
+    while (kept.next < kept.solver && gs[kept.next] != 0) {
+        kept.next++;
+    }
+    return kept;
+}
+
+/* How full the table is, and which index comes next: a table in which either number is wrong is refused. */
+static void counting(void) {
+    hz_counts kept = {c.capacity, c.user, c.global, c.solver, 0, 0};
+    expect(!hz_is_sound(kept, TABLE));
+    kept = recounted(kept);
+    expect(hz_is_sound(kept, TABLE) && kept.used == c.used && kept.next == c.next);
+
+    hz_counts wrong = c;
+    wrong.used++;
+    hz_mapped mapped = hz_map(wrong, TABLE, 0, false, NOTES);
+    expect(mapped.refusal == HZ_UNSOUND && mapped.counts.used == wrong.used && mapped.counts.next == wrong.next);
+    wrong = c;
+    wrong.next = UINT32_MAX;
+    hz_granted granted = hz_grant(wrong, TABLE, 0, NOTES);
+    expect(granted.refusal == HZ_UNSOUND && granted.counts.next == UINT32_MAX && gs[0] == 0);
 }
 
 /* What was written is read back. */
@@ -218,6 +253,7 @@ int main(void) {
     thinning();
     assuming();
     sweeping(proof, sizeof proof);
+    counting();
     reading(proof, length);
     clauses();
     modelling();

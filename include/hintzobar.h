@@ -2,7 +2,7 @@
  * Hintzobar: variable names, notes, DRAT proof lines and DIMACS CNF files (documents 01 and 02), for C and Rust.
  * Built by `rt staticlib capi`, which writes target/staticlib/libcapi.a.
  *
- * The caller owns all memory. A table is an hz_counts and six lists of `capacity` words, lent in this order:
+ * The caller owns all memory. A table is an hz_counts, six numbers, and six lists of `capacity` words, lent in this order:
  *     gu, ug        global from user, user from global      (0 for none, else index + 1)
  *     sg, gs        solver from global, global from solver  (the same)
  *     assignment    a word for each solver index: 0 none, 1 false, 2 true
@@ -15,7 +15,7 @@
  * for hz_simplify.
  *
  * Every answer begins with `refusal`: 0 if the call was accepted, else one of the numbers below or HZ_UNKNOWN. A refused call changes no
- * memory, its counts are those given (of hz_open: the capacity given and 0, 0, 0), and its other fields are 0 or false unless said
+ * memory, its counts are those given (of hz_open: the capacity given and five times 0), and its other fields are 0 or false unless said
  * otherwise. After an accepted call the table is the same six lists with the counts that came back. A note takes three words: its kind
  * (0 U, 1 S, 2 D, 3 C), the global, and what is told of it: an index + 1, or 0 where it is withdrawn; of C 1 for Sample, else 0; of D 0.
  */
@@ -32,11 +32,11 @@ extern "C" {
 
 enum hz_refusal {
     HZ_ACCEPTED = 0,
-    HZ_UNSOUND = 1,          /* the table is not sound */
+    HZ_UNSOUND = 1,          /* the table is not sound: its lists and its counts, `used` and `next` among them, do not fit together */
     HZ_SHORT = 2,            /* a lent output is shorter than this call fills */
     HZ_OUT_OF_RANGE = 3,     /* an index at or above its bound, more than 8,192 literals, or lists that do not fit together */
     HZ_NOT_SAMPLED = 4,      /* sampling is required and a global is not Sample */
-    HZ_NO_ROOM = 5,          /* more users to map than there are free globals */
+    HZ_NO_ROOM = 5,          /* more users to map than there are free globals, `capacity - used` */
     HZ_DELETED = 6,          /* the global is deleted */
     HZ_ASSUMED = 7,          /* the global is assumed */
     HZ_NOT_HELD = 8,         /* no global holds the solver index */
@@ -81,9 +81,19 @@ enum hz_kind {
     HZ_END = 12
 };
 
-/* The capacity and the three watermarks. */
+/* The capacity, the three watermarks, and two numbers by which a table says how full it is and which solver index comes next:
+ *     used    how many globals are undeleted, hidden ones too: the records below 36; `capacity - used` globals are free
+ *     next    the least solver index that no global holds: the least s below `solver` with gs[s] = 0, else `solver`. A global that gets an
+ *             index gets this one; it is `capacity` where all are held
+ * hz_open sets both to 0, and the calls that map, grant, delete or remove keep them true. They may be given as any number, but a table in which
+ * either differs from the recount is not sound: hz_is_sound answers false, and every other call that takes an hz_counts refuses it with 1, unless the
+ * answer is HZ_UNKNOWN.
+ *
+ * This struct had only its first four fields in earlier versions. A program built against that header must be compiled anew: the struct and every
+ * answer that holds it have another size. A table kept from an earlier version is brought up to date by counting the two numbers, as said above;
+ * its lists and the first four counts stay as they are. */
 typedef struct {
-    uint32_t capacity, user, global, solver;
+    uint32_t capacity, user, global, solver, used, next;
 } hz_counts;
 
 typedef struct {
@@ -221,7 +231,7 @@ typedef struct {
         const uint32_t *records, size_t records_len
 #define HZ_NOTES uint32_t *notes, size_t notes_len
 
-/* ---- the table: Open (10); whether it is sound; Lookup (1) */
+/* ---- the table: Open (10); whether it is sound, by its lists and all six counts; Lookup (1) */
 
 hz_changed hz_open(uint32_t capacity, HZ_TABLE);
 bool hz_is_sound(hz_counts c, HZ_TABLE_CONST);

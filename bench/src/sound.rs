@@ -1,7 +1,7 @@
 //! Soundness: what refusal 1 costs.
 use std::{hint::black_box, time::Duration};
 
-use hintzobar::Table;
+use hintzobar::{Counts, Lists, Table};
 
 use crate::{
     plain::sound,
@@ -28,10 +28,22 @@ fn time_sound(table: &Table) -> [f64; 3] {
     spans.map(|ns| ns / f64::from(calls))
 }
 
-/// Each word of each list spoilt in turn: all three say the same.
+/// All three say the same.
+fn same_answer(c: Counts, lists: &Lists) {
+    let plain = sound::by_index(c, lists);
+    assert_eq!(plain, sound::by_iterators(c, lists));
+    assert_eq!(plain, Table::from_parts(c, lists.clone()).is_sound());
+}
+
+/// Each word of each list spoilt in turn, with the stored numbers as they were and counted anew; and each stored number.
 fn same_answers(table: &Table) {
+    let c = table.counts();
+    for number in (0..c.capacity + 2).chain([u32::MAX]) {
+        same_answer(Counts { used: number, ..c }, table.lists());
+        same_answer(Counts { next: number, ..c }, table.lists());
+    }
     for list in 0..6 {
-        for place in 0..table.counts().capacity as usize {
+        for place in 0..c.capacity as usize {
             for word in [0, 1, 2, 9, 47, 72] {
                 let mut lists = table.lists().clone();
                 let words = match list {
@@ -43,10 +55,8 @@ fn same_answers(table: &Table) {
                     _ => &mut lists.records,
                 };
                 words[place] = word;
-                let c = table.counts();
-                let plain = sound::by_index(c, &lists);
-                assert_eq!(plain, sound::by_iterators(c, &lists));
-                assert_eq!(plain, Table::from_parts(c, lists).is_sound());
+                same_answer(c, &lists);
+                same_answer(c.recounted(&lists), &lists);
             }
         }
     }

@@ -58,7 +58,7 @@ pub fn shuffled(capacity: u32) -> Table {
             lists.global_from_solver[solvers[g] as usize] = g as u32 + 1;
         }
     }
-    sound(Counts { capacity, user: capacity, global: capacity, solver: capacity }, lists)
+    sound(Counts { capacity, user: capacity, global: capacity, solver: capacity, ..Counts::default() }, lists)
 }
 
 /// The same table with other words in its lists.
@@ -68,8 +68,9 @@ pub fn changed(table: &Table, change: impl FnOnce(&mut Lists)) -> Table {
     sound(table.counts(), lists)
 }
 
+/// With these lists, capacity and watermarks; the two stored numbers are counted.
 fn sound(counts: Counts, lists: Lists) -> Table {
-    let table = Table::from_parts(counts, lists);
+    let table = Table::from_parts(counts.recounted(&lists), lists);
     assert!(table.is_sound());
     table
 }

@@ -236,7 +236,7 @@ impl Call {
     }
 }
 
-/// Varisat's state as a table of this capacity: above the watermarks nothing is held.
+/// Varisat's state as a table of this capacity: above the watermarks nothing is held. The stored numbers, which it lacks, are 0.
 pub fn table_of(state: &drive::State, capacity: u32) -> Table {
     let mut t = Table::empty(capacity);
     t.counts.user = state.global_from_user.len() as u32;

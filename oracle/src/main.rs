@@ -33,8 +33,8 @@ fn sample(seed: u64, tally: &mut Tally) -> run::Verdict<()> {
     println!("capacity 1: {} reachable tables", tables);
     run::sessions(&mut rng, 5_000_000, tally)?;
     binary(&mut rng, 400_000, tally)?;
-    let unsound = run::damaged(&mut rng, 200_000, tally)?;
-    println!("200000 damaged tables, {} of them unsound", unsound);
+    let [unsound, miscounted] = run::damaged(&mut rng, 200_000, tally)?;
+    println!("200000 damaged tables, {} of them unsound, {} of these by their stored numbers alone", unsound, miscounted);
     let opened = run::opens(&mut rng, 20_000)?;
     println!("20000 Opens, {} accepted", opened);
     let by = run::proofs(&mut rng, 1_000_000)?;

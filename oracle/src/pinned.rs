@@ -1,6 +1,6 @@
 //! Calls that stand in every recorded list, whatever the seed: each sees a departure from documents 01 and 02 that random calls meet rarely or not.
-use crate::call::{Call, Cause, Mark, ProofStep, ASKED};
-use crate::reading::{binary::words, Table};
+use crate::call::{Call, Cause, Format, Mark, ProofStep, ASKED};
+use crate::reading::{binary::words, Counts, Table};
 
 /// A sound table of capacity 4: user 0 and solver index 1 at global 0; solver index 0, which is true, at global 1, which is hidden; global 2
 /// deleted; global 3 not used yet.
@@ -12,10 +12,24 @@ pub fn base() -> Table {
     t.give_solver(1, 0);
     t.give_solver(0, 1);
     t.assignment[0] = 2;
+    t.recount();
     t
 }
 
-/// Each breaks one clause of soundness and keeps all others; a word above the global watermark of a map cannot but break two.
+/// A sound table of capacity 6 with free solver indices below and above the one that is held, 1 of 4; global 1 hidden, global 2 deleted.
+fn holes() -> Table {
+    let mut t = Table::empty(6);
+    t.give_user(0, 0, 9);
+    t.give_user(3, 1, 9);
+    t.records[1] = 2;
+    t.counts.solver = 4;
+    t.give_solver(0, 1);
+    t.recount();
+    t
+}
+
+/// Each breaks one clause of soundness and keeps all others, once the stored numbers are counted anew; a word above the global watermark of a map
+/// cannot but break two.
 const BROKEN: [fn(&mut Table); 31] = [
     // the capacity, and the lists' lengths
     |t| *t = Table::empty(0),
@@ -61,9 +75,56 @@ pub fn broken() -> Vec<Table> {
     let spoilt = |change: &fn(&mut Table)| {
         let mut t = base();
         change(&mut t);
+        t.recount();
         t
     };
     BROKEN.iter().map(spoilt).collect()
+}
+
+/// Tables with one stored number wrong, the other right: `used` and then `next` of each table is every number up to one past the capacity, and the largest.
+pub fn miscounted() -> Vec<Table> {
+    let mut all = vec![];
+    for right in [base(), holes()] {
+        let c = right.counts;
+        for number in (0..c.capacity + 2).chain([u32::MAX]) {
+            let with = |counts| Table { counts, ..right.clone() };
+            all.extend([with(Counts { used: number, ..c }), with(Counts { next: number, ..c })]);
+        }
+        all.retain(|t| *t != right);
+    }
+    all
+}
+
+/// A call of each kind, all of which are accepted on the base table and on the one with holes.
+fn each_kind(t: &Table) -> Vec<Call> {
+    let (step, solver_vars, lits, hashes) = (ProofStep::AtClause(false), true, vec![2], vec![]);
+    let sections = vec![0; 2 * t.counts.solver as usize];
+    vec![
+        Call::Lookup { asked: ASKED[0], index: 0 },
+        Call::Map { user: 1, sampling: false, room: 3 },
+        Call::NewUser { room: 3 },
+        Call::Pose { lits: vec![0], sampling: true, outs: 1, room: 6 },
+        Call::Grant { global: 0, room: 3 },
+        Call::SetMode { global: 0, mode: 1, room: 3 },
+        Call::Observe { outs: 4, room: 12 },
+        Call::Mark { mark: Mark::Used, solver: 1 },
+        Call::Assign { lit: 2 },
+        Call::Remove { solver: 1, room: 6 },
+        Call::Sweep { room: 12 },
+        Call::Simplify { lits: lits.clone(), redundant: false, outs: 1, room: 8 },
+        Call::Rename { step, solver_vars, lits: lits.clone(), hashes: hashes.clone(), outs: 1, hash_outs: 0 },
+        Call::Write { step, solver_vars, lits, hashes, room: 8 },
+        Call::Model { globals: 6, users: 6 },
+        Call::SimplifyBinary { outs: sections.len(), lists: sections, room: 0 },
+    ]
+}
+
+/// Four of them, of other kinds for each table, which are accepted once the stored numbers are right.
+pub fn some_kinds(t: &Table, from: usize) -> Vec<Call> {
+    let right = Table { counts: t.recounted(), ..t.clone() };
+    let calls: Vec<Call> = each_kind(t).into_iter().cycle().skip(4 * from).take(4).collect();
+    assert!(calls.iter().all(|call| call.read(Format::Text, &right).refusal == 0));
+    calls
 }
 
 /// A deleted global's unit and assumed parts may be anything.

@@ -328,6 +328,7 @@ pub fn sound_table(rng: &mut Rng, capacity: u32) -> Table {
     for word in &mut t.assignment[..t.counts.solver as usize] {
         *word = rng.below(3) as u32;
     }
+    t.recount();
     debug_assert!(t.is_sound());
     t
 }
@@ -336,9 +337,25 @@ fn record_unit(record: u32) -> u32 {
     3 * (record / 3 % 3)
 }
 
-/// The table with one thing changed; most often it is then unsound.
+/// The table with one thing changed; most often it is then unsound. A third of them have a wrong stored number and are unsound by that alone. In
+/// most others the stored numbers are counted anew after the change, so that it alone is judged.
 pub fn damaged(rng: &mut Rng, t: &Table) -> Table {
     let mut t = t.clone();
+    if rng.one_in(3) {
+        let (c, number) = (t.counts, if rng.flag() { &mut t.counts.used } else { &mut t.counts.next });
+        *number = damaged_number(rng, *number, c.capacity);
+        debug_assert!(!t.is_sound() && t.recounted() == c);
+        return t;
+    }
+    damage(rng, &mut t);
+    if !rng.one_in(4) {
+        t.recount();
+    }
+    t
+}
+
+/// One change of the lists, of their lengths, of the capacity or of a watermark.
+fn damage(rng: &mut Rng, t: &mut Table) {
     let capacity = t.counts.capacity;
     match rng.below(12) {
         0 => t.counts.capacity = [0, capacity + 1, capacity - 1, 4097, u32::MAX][rng.index(5)],
@@ -366,7 +383,17 @@ pub fn damaged(rng: &mut Rng, t: &Table) -> Table {
             t.lists_mut().into_iter().nth(list).unwrap()[at] = word;
         }
     }
-    t
+}
+
+/// Another number: off by one, at an end of its range, or any.
+fn damaged_number(rng: &mut Rng, number: u32, capacity: u32) -> u32 {
+    loop {
+        let near = [number.wrapping_sub(1), number + 1, 0, capacity, u32::MAX, any(rng, capacity)];
+        let other = rng.of(&near);
+        if other != number {
+            return other;
+        }
+    }
 }
 
 fn damaged_mark(rng: &mut Rng, mark: u32, capacity: u32) -> u32 {

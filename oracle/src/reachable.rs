@@ -89,11 +89,12 @@ fn binaries(capacity: u32) -> Vec<Call> {
     all.into_iter().map(|lists| Call::SimplifyBinary { lists, outs: ALL, room: ALL }).collect()
 }
 
-/// Every table of capacity 1, sound or not, with words a little past what may stand there; every call is made on each.
+/// Every table of capacity 1, sound or not, with words and counts a little past what may stand there. Every call is made on those that are sound and
+/// those that only a stored number makes unsound, one on each other.
 pub fn tables_of_one(tally: &mut Tally) -> Result<usize, Box<Disagreement>> {
     let calls: Vec<Call> = changing(1).into_iter().chain(telling(1)).collect();
     let mut sound = 0;
-    for n in 0..3u32.pow(4) * 4 * 73 * 27 {
+    for n in 0..3u32.pow(4) * 4 * 73 * 3u32.pow(5) {
         let mut left = n;
         let mut digit = |base: u32| {
             let word = left % base;
@@ -110,12 +111,15 @@ pub fn tables_of_one(tally: &mut Tally) -> Result<usize, Box<Disagreement>> {
         table.counts.user = digit(3);
         table.counts.global = digit(3);
         table.counts.solver = digit(3);
-        if !table.is_sound() {
+        (table.counts.used, table.counts.next) = (digit(3), digit(3));
+        let mut right = table.clone();
+        right.recount();
+        if !right.is_sound() {
             let call = &calls[n as usize % calls.len()];
             Session::without(Format::Text, &table).call(call, tally)?;
             continue;
         }
-        sound += 1;
+        sound += (table == right) as usize;
         for call in &calls {
             Session::load(Format::Binary, &table).call(call, tally)?;
         }

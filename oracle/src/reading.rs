@@ -15,13 +15,15 @@ pub const NEW_USER: u32 = 9;
 pub const MOST_LITERALS: usize = 8192;
 pub const MOST_CAPACITY: u32 = 4096;
 
-/// The capacity and the three watermarks.
+/// The capacity, the three watermarks, the number of undeleted globals and the least unmapped solver index.
 #[derive(Clone, Copy, PartialEq, Eq, Hash, Debug, Default)]
 pub struct Counts {
     pub capacity: u32,
     pub user: u32,
     pub global: u32,
     pub solver: u32,
+    pub used: u32,
+    pub next: u32,
 }
 
 /// A map holds 0 for none, else index + 1.
@@ -162,6 +164,7 @@ impl Table {
             && inverse(&self.global_from_user, &self.user_from_global)
             && inverse(&self.solver_from_global, &self.global_from_solver)
             && (0..c.capacity).all(|g| self.is_row(g))
+            && self.counts == self.recounted()
     }
 
     /// A global has a user exactly if undeleted and not Hide; a deleted global is Hide, isolated and without solver index.
@@ -174,6 +177,16 @@ impl Table {
 
     pub fn undeleted(&self) -> u32 {
         self.records.iter().filter(|&&record| !is_deleted(record)).count() as u32
+    }
+
+    /// The counts with both stored numbers counted anew.
+    pub fn recounted(&self) -> Counts {
+        Counts { used: self.undeleted(), next: self.next_solver(), ..self.counts }
+    }
+
+    /// Stores them. A call that maps, grants, deletes or removes ends with it; the single changes below leave them.
+    pub fn recount(&mut self) {
+        self.counts = self.recounted();
     }
 
     pub fn next_user(&self) -> u32 {
@@ -229,5 +242,5 @@ fn inverse(a: &[u32], b: &[u32]) -> bool {
 
 /// The least unmapped index, which is the watermark where none below is free.
 fn least_free(map: &[u32], mark: u32) -> u32 {
-    (0..mark).find(|&index| map[index as usize] == 0).unwrap_or(mark)
+    (0..).zip(map).take(mark as usize).find(|(_, &word)| word == 0).map_or(mark, |(index, _)| index)
 }

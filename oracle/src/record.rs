@@ -7,7 +7,7 @@ use crate::cnf;
 use crate::compare::{Session, Tally};
 use crate::pinned;
 use crate::random::{self, Rng, Style};
-use crate::reading::{dimacs, drat, names, steps::step_words, Outcome, Table, FRESH, MOST_LITERALS};
+use crate::reading::{dimacs, drat, names, steps::step_words, Counts, Outcome, Table, FRESH, MOST_LITERALS};
 use crate::run::{self, told, Verdict};
 
 /// The longest line of a drawn call; one that would be longer is not made.
@@ -41,6 +41,8 @@ pub struct Record {
     pub cnf_writes: [u64; 18],
     /// Questions whether a table is sound: no, yes.
     pub sounds: [u64; 2],
+    /// Calls refused with 1 that are not if `used` is counted anew, and the same of `next`, by their kind.
+    miscounted: [[u64; 16]; 2],
     /// Accepted Lookups by what they ask for, and the step kinds of Rename and of Write.
     lookups: [u64; 6],
     kinds: [[u64; 13]; 2],
@@ -94,9 +96,9 @@ impl Line {
     }
 }
 
-fn counts(t: &Table) -> [u32; 4] {
+fn counts(t: &Table) -> [u32; 6] {
     let c = t.counts;
-    [c.capacity, c.user, c.global, c.solver]
+    [c.capacity, c.user, c.global, c.solver, c.used, c.next]
 }
 
 /// A step's kind and what it carries, three words.
@@ -211,8 +213,19 @@ impl Record {
             Call::Write { step: given, .. } => self.kinds[1][step(*given)[0] as usize] += 1,
             _ => (),
         }
+        if outcome.refusal == 1 {
+            self.unsound(call, &before);
+        }
         self.text.push_str(&line(call, session.format, &before, &outcome));
         Ok(())
+    }
+
+    /// Whether it was one stored number alone that refused the call.
+    fn unsound(&mut self, call: &Call, t: &Table) {
+        let (given, right) = (t.counts, t.recounted());
+        for (k, counts) in [Counts { used: right.used, ..given }, Counts { next: right.next, ..given }].into_iter().enumerate() {
+            self.miscounted[k][call.kind()] += Table { counts, ..t.clone() }.is_sound() as u64;
+        }
     }
 
     /// So many drawn calls.
@@ -294,12 +307,15 @@ impl Record {
         calls.iter().try_for_each(|call| self.call(&mut session, call))
     }
 
-    /// What random calls meet rarely: each clause of soundness broken by itself, with every Lookup; every outcome of Simplify, redundant and
-    /// not; every kind of step renamed, with hashes; names with too little room; removals of an assumed index and of others; lists of binary
-    /// clauses.
+    /// What random calls meet rarely: each clause of soundness broken by itself, with every Lookup; stored numbers that are wrong, with every kind of
+    /// call; every outcome of Simplify, redundant and not; every kind of step renamed, with hashes; names with too little room; removals of an
+    /// assumed index and of others; lists of binary clauses.
     fn pinned(&mut self) -> Verdict<()> {
         for (n, table) in (0..).zip(pinned::broken().into_iter().chain(pinned::deleted())) {
             self.on(Format::Text, &table, &pinned::lookups(n))?;
+        }
+        for (n, table) in pinned::miscounted().iter().enumerate() {
+            self.on(Format::Text, table, &pinned::some_kinds(table, n / 2))?;
         }
         for format in [Format::Text, Format::Binary] {
             self.on(format, &Table::empty(4), &pinned::simplifications())?;
@@ -417,6 +433,11 @@ impl Record {
         for (name, by) in [("Lookup of", &self.lookups[..]), ("Rename of", &self.kinds[0]), ("Write of", &self.kinds[1])] {
             missing.extend((0..by.len()).filter(|&n| by[n] == 0).map(|n| format!("{} {}", name, n)));
         }
+        for (number, by) in ["used", "next"].iter().zip(&self.miscounted) {
+            missing.extend(
+                KINDS.iter().zip(by).filter(|(_, &n)| n == 0).map(|(kind, _)| format!("{} with a wrong `{}`", kind, number)),
+            );
+        }
         missing
     }
 }
@@ -466,5 +487,7 @@ pub fn summary(record: &Record) -> String {
     }
     text.push_str(&format!("Open {:?}\nRead {:?}\nFirst step {:?}\n", record.opens, record.reads, record.firsts));
     text.push_str(&format!("Read CNF {:?}\nWrite CNF {:?}\n", record.cnf_reads, record.cnf_writes));
+    let [used, next] = record.miscounted.map(|by| by.iter().sum::<u64>());
+    text.push_str(&format!("refused for a wrong `used` {}, for a wrong `next` {}\n", used, next));
     text
 }

@@ -47,14 +47,16 @@ pub fn binaries(rng: &mut Rng, calls: u64, tally: &mut Tally) -> Verdict<[u64; 2
     Ok([tally.by[15][0] - before, tally.compared - compared])
 }
 
-/// Tables with one thing changed, so that most are unsound: a few calls on each.
-pub fn damaged(rng: &mut Rng, tables: u64, tally: &mut Tally) -> Verdict<u64> {
-    let mut unsound = 0;
+/// Tables with one thing changed, so that most are unsound: a few calls on each. How many were unsound, and how many by their stored numbers alone.
+pub fn damaged(rng: &mut Rng, tables: u64, tally: &mut Tally) -> Verdict<[u64; 2]> {
+    let mut unsound = [0; 2];
     for _ in 0..tables {
         let capacity = if rng.one_in(50) { capacity(rng) } else { 1 + rng.below(12) as u32 };
         let table = random::sound_table(rng, capacity);
         let damaged = random::damaged(rng, &table);
-        unsound += !damaged.is_sound() as u64;
+        let right = Table { counts: damaged.recounted(), ..damaged.clone() };
+        unsound[0] += !damaged.is_sound() as u64;
+        unsound[1] += (right.is_sound() && !damaged.is_sound()) as u64;
         soundness(&damaged)?;
         // the calls are drawn for the sound table, so that only the damage refuses them
         let style = Style::draw(rng, capacity);
@@ -195,7 +197,7 @@ pub fn soundness(table: &Table) -> Verdict<()> {
 #[cfg(feature = "library")]
 pub fn open_in(memory: &Table, want: &crate::reading::Outcome) -> Verdict<()> {
     let got = library::Library::open(memory);
-    if got.refusal != want.refusal || got.table.lists() != want.table.lists() {
+    if &got != want {
         return Err(format!("Open of {:?}\n document 01: {:?}\n the library: {:?}", memory, want, got));
     }
     Ok(())

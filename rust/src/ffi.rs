@@ -8,6 +8,8 @@ pub struct Counts {
     pub user: u32,
     pub global: u32,
     pub solver: u32,
+    pub used: u32,
+    pub next: u32,
 }
 
 #[repr(C)]

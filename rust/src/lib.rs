@@ -23,12 +23,15 @@
 //! # Ok::<(), hintzobar::Refusal>(())
 //! ```
 //!
+//! How full the table is, and which solver index comes next, [`Table::fill`] says at any time.
+//!
 //! The clauses themselves go out and come in as DIMACS CNF, by [`write_cnf`] and [`read_cnf`].
 #![deny(missing_docs)]
 
 mod binary;
 mod cnf;
 mod ffi;
+mod fill;
 mod names;
 mod proof;
 mod refusal;
@@ -37,6 +40,7 @@ mod users;
 
 pub use binary::Thinned;
 pub use cnf::{read_cnf, write_cnf, Cnf};
+pub use fill::Fill;
 pub use names::{Global, Lit, Name, Note, Notes, Solver, User};
 pub use proof::{first_step, read, write_clause, write_proof, Cause, Format, Lits, Reading, Renamed, Step};
 pub use refusal::Refusal;

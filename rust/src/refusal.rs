@@ -5,7 +5,7 @@ use std::{error::Error, fmt};
 #[derive(Clone, Copy, PartialEq, Eq, Hash, Debug)]
 #[non_exhaustive]
 pub enum Refusal {
-    /// 1: the table is not sound.
+    /// 1: the table is not sound: its lists and its counts do not fit together.
     Unsound,
     /// 2: a lent output is shorter than this call fills.
     Short,
@@ -13,7 +13,7 @@ pub enum Refusal {
     OutOfRange,
     /// 4: sampling is required and a user's global is not in mode Sample.
     NotSampled,
-    /// 5: more users to map than there are free globals.
+    /// 5: more users to map than there are free globals, which [`Fill::free`](crate::Fill::free) counts.
     NoRoom,
     /// 6: the global is deleted.
     Deleted,

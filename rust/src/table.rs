@@ -5,7 +5,10 @@ use crate::{
     Format, Global, Lit, Lits, Notes, Refusal, Renamed, Solver, Step, Thinned, User,
 };
 
-/// The capacity and the three watermarks.
+/// The capacity, the three watermarks, and two numbers that every call keeps true: how many globals are taken, and which solver index comes
+/// next. A table in which one of these differs from what its lists say is not sound.
+///
+/// Only [`Table::from_parts`] takes counts. Those of a table that an earlier version saved lack the two numbers: [`Counts::recounted`] counts them.
 #[derive(Clone, Copy, PartialEq, Eq, Hash, Debug, Default)]
 pub struct Counts {
     /// How many indices of each sort there may be, 1 to 4,096.
@@ -16,6 +19,10 @@ pub struct Counts {
     pub global: u32,
     /// The solver watermark.
     pub solver: u32,
+    /// How many globals are undeleted, hidden ones too: the records below 36.
+    pub used: u32,
+    /// The least solver index that no global holds: the first 0 of `global_from_solver` below the solver watermark, else the watermark.
+    pub next: u32,
 }
 
 /// A global's sampling mode.
@@ -108,7 +115,7 @@ pub struct Table {
 
 impl From<ffi::Counts> for Counts {
     fn from(c: ffi::Counts) -> Counts {
-        Counts { capacity: c.capacity, user: c.user, global: c.global, solver: c.solver }
+        Counts { capacity: c.capacity, user: c.user, global: c.global, solver: c.solver, used: c.used, next: c.next }
     }
 }
 
@@ -146,7 +153,7 @@ macro_rules! ask {
 }
 
 fn words(c: Counts) -> ffi::Counts {
-    ffi::Counts { capacity: c.capacity, user: c.user, global: c.global, solver: c.solver }
+    ffi::Counts { capacity: c.capacity, user: c.user, global: c.global, solver: c.solver, used: c.used, next: c.next }
 }
 
 fn found(answer: ffi::Found) -> Result<Option<u32>, Refusal> {
@@ -200,6 +207,9 @@ impl Table {
 
     /// A table of any words. Where it is not sound, every call on it is refused.
     ///
+    /// It is sound only if `used` and `next` are what the lists say. Counts and lists that were taken from a table together are right; of a table
+    /// saved by a version that had neither number, take [`Counts::recounted`].
+    ///
     /// ```
     /// use hintzobar::{Counts, Lists, Refusal, Table, User};
     /// let table = Table::from_parts(Counts::default(), Lists::default());
@@ -210,7 +220,7 @@ impl Table {
         Table { counts, lists }
     }
 
-    /// The capacity and the watermarks.
+    /// The capacity, the watermarks, and the two numbers that [`Table::fill`] is made of.
     pub fn counts(&self) -> Counts {
         self.counts
     }
@@ -220,7 +230,7 @@ impl Table {
         &self.lists
     }
 
-    /// Whether the table is sound.
+    /// Whether the table is sound: its lists fit each other and the counts, and `used` and `next` are what a recount gives.
     pub fn is_sound(&self) -> bool {
         ask!(self.is_sound())
     }

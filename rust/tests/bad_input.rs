@@ -154,7 +154,7 @@ fn short_outputs() {
 fn any_table() {
     for capacity in [0, 1, 3, 4096, u32::MAX] {
         for word in [0, 1, 47, 72, u32::MAX] {
-            let counts = Counts { capacity, user: word, global: word, solver: word };
+            let counts = Counts { capacity, user: word, global: word, solver: word, used: word, next: word };
             let lists = Lists {
                 global_from_user: vec![word; 3],
                 user_from_global: vec![word; 2],

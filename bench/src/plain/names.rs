@@ -1,5 +1,6 @@
 //! varisat's functions for names in their own shape, without what they do for the search: no decision heap, no implication graph, no lists
-//! of clauses, no proof. It is there so that the library is not praised for leaving those out. Notes are kept, as the library keeps them.
+//! of clauses, no proof. It is there so that the library is not praised for leaving those out. Notes are kept, as the library keeps them, and so
+//! are the number of undeleted globals and the least free solver index; the latter takes the place of varisat's set of free solver indices.
 use std::{
     collections::{BTreeSet, HashSet},
     hash::{BuildHasherDefault, Hasher},
@@ -79,6 +80,11 @@ impl Map {
         self.0.len() as u32
     }
 
+    /// The first unmapped index from here on, else the watermark.
+    fn next_free(&self, from: u32) -> u32 {
+        (from..self.mark()).find(|&index| self.0[index as usize] == NONE).unwrap_or(self.mark())
+    }
+
     fn free<F: Free>(&self) -> F {
         let mut free = F::default();
         (0..self.mark()).filter(|&index| self.get(index).is_none()).for_each(|index| free.add(index));
@@ -121,7 +127,10 @@ pub struct Names<F> {
     global_from_solver: Map,
     free_users: F,
     free_globals: F,
-    free_solvers: F,
+    /// How many globals are undeleted.
+    used: u32,
+    /// The least solver index that no global holds.
+    next: u32,
     records: Vec<Record>,
     assignment: Vec<Option<bool>>,
     pub notes: Vec<u32>,
@@ -148,7 +157,7 @@ impl<F: Free> Names<F> {
             }
         }
         names.free_users = names.global_from_user.free();
-        names.free_solvers = names.global_from_solver.free();
+        (names.used, names.next) = (c.used, c.next);
         names
     }
 
@@ -164,6 +173,7 @@ impl<F: Free> Names<F> {
             && same(&self.global_from_solver, &l.global_from_solver)
             && self.assignment.iter().map(|&value| word(value)).eq(l.assignment[..c.solver as usize].iter().copied())
             && self.records.iter().map(record).eq(l.records[..c.global as usize].iter().copied())
+            && (self.used, self.next) == (c.used, c.next)
     }
 
     fn note(&mut self, kind: u32, global: u32, last: u32) {
@@ -185,6 +195,7 @@ impl<F: Free> Names<F> {
             self.records.resize(global as usize + 1, FRESH);
         }
         self.records[global as usize] = NEW_USER;
+        self.used += 1;
         self.global_from_user.insert(global, user);
         self.user_from_global.insert(user, global);
         self.free_globals.take(global);
@@ -197,10 +208,10 @@ impl<F: Free> Names<F> {
         if let Some(solver) = self.solver_from_global.get(global) {
             return solver;
         }
-        let solver = self.free_solvers.first().unwrap_or(self.global_from_solver.mark());
+        let solver = self.next;
         self.solver_from_global.insert(solver, global);
         self.global_from_solver.insert(global, solver);
-        self.free_solvers.take(solver);
+        self.next = self.global_from_solver.next_free(solver + 1);
         if self.assignment.len() <= solver as usize {
             self.assignment.resize(solver as usize + 1, None);
         }
@@ -241,11 +252,12 @@ impl<F: Free> Names<F> {
     fn remove(&mut self, solver: u32, global: u32) {
         self.global_from_solver.0[solver as usize] = NONE;
         self.solver_from_global.0[global as usize] = NONE;
-        self.free_solvers.add(solver);
+        self.next = self.next.min(solver);
         self.note(1, global, 0);
         let record = &mut self.records[global as usize];
         if self.user_from_global.get(global).is_none() && record.isolated {
             record.deleted = true;
+            self.used -= 1;
             self.note(2, global, 0);
             self.free_globals.add(global);
         }

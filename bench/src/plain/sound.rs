@@ -24,15 +24,25 @@ fn back(word: u32, other: &[u32], place: usize) -> bool {
     word == 0 || other.get(word as usize - 1) == Some(&(place as u32 + 1))
 }
 
+/// The stored least free solver index is the watermark, or below it and free; that all below it are held is tested apart.
+fn stops(c: Counts, l: &Lists) -> bool {
+    c.next == c.solver || (c.next < c.solver && l.global_from_solver[c.next as usize] == 0)
+}
+
 /// By index, each test left at the first that fails.
 #[inline(never)]
 pub fn by_index(c: Counts, l: &Lists) -> bool {
-    if !sizes(c, l) {
+    if !sizes(c, l) || !stops(c, l) {
         return false;
     }
+    let mut used = 0;
     for i in 0..c.capacity as usize {
         let (user, solver, record) = (l.user_from_global[i], l.solver_from_global[i], l.records[i]);
         if !row(record, user, solver) || l.assignment[i] > 2 {
+            return false;
+        }
+        used += (record < 36) as u32;
+        if i < c.next as usize && l.global_from_solver[i] == 0 {
             return false;
         }
         if i >= c.user as usize && l.global_from_user[i] != 0 {
@@ -52,16 +62,20 @@ pub fn by_index(c: Counts, l: &Lists) -> bool {
             return false;
         }
     }
-    true
+    used == c.used
 }
 
-/// By iterators, which leaves no bound checks on the lists' own words.
+/// By iterators, which leaves no bound checks on the lists' own words. The stored numbers are counted apart, several words at once, which is the
+/// faster way here.
 #[inline(never)]
 pub fn by_iterators(c: Counts, l: &Lists) -> bool {
     let users = l.global_from_user.iter().zip(&l.user_from_global);
     let solvers = l.solver_from_global.iter().zip(&l.global_from_solver);
     let words = l.assignment.iter().zip(&l.records);
     sizes(c, l)
+        && stops(c, l)
+        && l.records.iter().filter(|&&record| record < 36).count() == c.used as usize
+        && l.global_from_solver[..c.next as usize].iter().filter(|&&word| word == 0).count() == 0
         && users.zip(solvers).zip(words).enumerate().all(|(i, (((&gu, &ug), (&sg, &gs)), (&value, &record)))| {
             row(record, ug, sg)
                 && value <= 2

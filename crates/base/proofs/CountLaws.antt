@@ -1,10 +1,10 @@
 -- Laws of `count`.
 use Prim.Native.Nat.{ℕ, zero, suc, _+_, _<_, _≤_, zero-le}
-use mathlib.Core.Path.{_≡_, refl, sym, ap, _∙_, subst}
+use mathlib.Core.Path.{_≡_, refl, sym, ap, _∙_}
 use mathlib.Core.Bool.{Bool, true, false}
 use mathlib.Core.List.{List, [], _∷_, _++_}
 use mathlib.Core.Logic.{_⊎_, ⊎-elim}
-use native.Mathlib.Nat.{not-suc-le-zero, add-suc, add-zero, suc-add}
+use native.Mathlib.Nat.{not-suc-le-zero, add-suc, add-zero, suc-add, eq-or-lt-of-le}
 use native.Mathlib.Omega.{arith}
 use native.Mathlib.Numerals.{add-one}
 use Rattle.base.specs.Choice.{pick}
@@ -74,11 +74,17 @@ count-most (suc n) p = go (count-most n p) (p n)
     go h true = omega arith
     go h false = omega arith
 
-pub count-up : (i n m : ℕ) (p : ℕ → Bool) → n ≡ count i p → p i ≡ true → m ≡ n + 1 → m ≡ count (i + 1) p
-count-up i n m p a b e = let x = count-yes i p b in omega arith
+-- a test that never holds
+pub count-never : (n : ℕ) (p : ℕ → Bool) → ((i : ℕ) → p i ≡ false) → count n p ≡ 0
+unfolding count
+count-never zero p h = refl
+count-never (suc n) p h = rw (h n) (count-never n p h)
 
-pub count-stay : (i n m : ℕ) (p : ℕ → Bool) → n ≡ count i p → p i ≡ false → m ≡ n → m ≡ count (i + 1) p
-count-stay i n m p a b e = let x = count-no i p b in omega arith
-
-pub count-end : (i k n : ℕ) (p : ℕ → Bool) → n ≡ count i p → i ≡ k → n ≡ count k p
-count-end i k n p a e = subst (λ (j : ℕ). n ≡ count j p) e a
+-- one that fails from n up counts the same below any m above it
+pub count-past : (p : ℕ → Bool) (n m : ℕ) → n ≤ m → ((v : ℕ) → n ≤ v → p v ≡ false) → count m p ≡ count n p
+unfolding count
+count-past p n zero l h = let e : n ≡ 0 = omega arith in rw e refl
+count-past p n (suc m) l h = ⊎-elim
+    (λ (e : n ≡ suc m). rw e refl)
+    (λ (k : n < suc m). rw (h m (omega arith)) (count-past p n m (omega arith) h))
+    (eq-or-lt-of-le l)

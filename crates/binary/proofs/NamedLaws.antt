@@ -37,7 +37,7 @@ small t h = let z = sound-of t h .sizes in record {
 
 -- a table with no more than this map
 bare : List ℕ → Table
-bare gs = tableOf (record { capacity = 0; user = 0; global = 0; solver = 0 }) [] [] [] gs [] []
+bare gs = tableOf (record { capacity = 0; user = 0; global = 0; solver = 0; used = 0; next = 0 }) [] [] [] gs [] []
 
 pub all-named : (solver : ℕ) (gs : List ℕ) (ss : List (List ℕ)) → Small solver gs → mirrored ss ≡ true → anyOf (unheldBy gs) (filledCodes ss) ≡ false
     → AllNamed gs ss

@@ -36,6 +36,8 @@ pub extern "C" fn hz_open(
         user: 0,
         global: 0,
         solver: 0,
+        used: 0,
+        next: 0,
     };
     let r = var_map::open_table(capacity, gu, ug, sg, gs, assignment, records);
     opened_out(r, c)

@@ -1,5 +1,5 @@
 -- The deletion of a global, by the test that the code makes.
-use Prim.Native.Nat.{ℕ, zero, suc, _+_, _^_, _≤_, _<_}
+use Prim.Native.Nat.{ℕ, zero, suc, _+_, _≤_, _<_}
 use mathlib.Core.Path.{_≡_, refl, sym, ap, _∙_}
 use mathlib.Core.Bool.{Bool, true, false, _&&_}
 use mathlib.Core.List.{List, [], _∷_}
@@ -10,7 +10,7 @@ use lib.Seq.{sets}
 use Rattle.base.specs.Choice.{pick}
 use Rattle.base.proofs.MemberLaws.{getD-default}
 use Rattle.scope.specs.declared.Counts.{Counts}
-use Rattle.scope.specs.Table.{Table, tableOf, isolatedOf, recordOf, putRecord, dropGlobal}
+use Rattle.scope.specs.Table.{Table, tableOf, isolatedOf, recordOf, dropGlobal, dropCounts}
 use Rattle.scope.specs.Notes.{deletes, notesWords}
 use Rattle.scope.specs.Outcome.{stay, choose}
 use Rattle.scope.specs.Modes.{isUnused, deleteIfUnused}
@@ -52,32 +52,29 @@ delete-any g t at room r gu gs a =
 abbrev unusedWords : List ℕ → List ℕ → List ℕ → ℕ → Bool
 unusedWords ug sg records g = eqb (getD ug g 0) 0 && (eqb (getD sg g 0) 0 && eqb (isolatedOf (getD records g 0)) 1)
 
-module _ (ug sg records : List ℕ) (g : ℕ) (h : Live ug sg records g) where
-  pub delete-fits : getD records g 0 + 36 < 2 ^ 32
-  delete-fits = let e = getD-default records g 0 47 (h .words) in let u = h .undeleted in omega arith
+module _ (c : Counts) (ug sg records : List ℕ) (g : ℕ) (h : Live c ug sg records g) (gu gs a : List ℕ) where
+  unused-read : (b : Bool) → unusedWords ug sg records g ≡ b → isUnused (tableOf c gu ug sg gs a records) g ≡ b
+  unfolding isUnused
+  unused-read b e = rw (sym (getD-default records g 0 47 (h .words))) e
 
-  module _ (c : Counts) (gu gs a : List ℕ) where
-    unused-read : (b : Bool) → unusedWords ug sg records g ≡ b → isUnused (tableOf c gu ug sg gs a records) g ≡ b
-    unfolding isUnused
-    unused-read b e = rw (sym (getD-default records g 0 47 (h .words))) e
-
-    module _ (b : unusedWords ug sg records g ≡ true) where
-      pub delete-room : (at room : ℕ) → Room (deleteIfUnused g (tableOf c gu ug sg gs a records)) at room → at + 3 ≤ room
-      unfolding deleteIfUnused choose
-      delete-room at room r = let k = (rw (unused-read true b) at (r .words)) in omega arith
-
-      pub delete-leaves : (at : ℕ) (records2 words words2 : List ℕ) → records2 ≡ set records g (getD records g 0 + 36) → words2 ≡ sets words at (2 ∷ g ∷ 0 ∷ [])
-          → Leaves (deleteIfUnused g (tableOf c gu ug sg gs a records)) at (at + 3) (tableOf c gu ug sg gs a records2) words words2
-      unfolding deleteIfUnused choose dropGlobal putRecord notesWords
-      delete-leaves at records2 words words2 p q =
-          rw (unused-read true b)
-          (record {
-            table = ap (λ (l : List ℕ). tableOf c gu ug sg gs a l) (p ∙ ap (λ (r : ℕ). set records g (r + 36)) (getD-default records g 0 47 (h .words)));
-            noted = q;
-            moved = omega arith;
-          })
-
-    pub keep-leaves : unusedWords ug sg records g ≡ false → (at : ℕ) (words : List ℕ)
-        → Leaves (deleteIfUnused g (tableOf c gu ug sg gs a records)) at at (tableOf c gu ug sg gs a records) words words
+  module _ (b : unusedWords ug sg records g ≡ true) where
+    pub delete-room : (at room : ℕ) → Room (deleteIfUnused g (tableOf c gu ug sg gs a records)) at room → at + 3 ≤ room
     unfolding deleteIfUnused choose
-    keep-leaves e at words = rw (unused-read false e) (leaves-stay _ at words)
+    delete-room at room r = let k = (rw (unused-read true b) at (r .words)) in omega arith
+
+    pub delete-leaves : (at : ℕ) (c2 : Counts) (records2 words words2 : List ℕ) → c2 ≡ dropCounts c → records2 ≡ set records g (getD records g 47 + 36)
+        → words2 ≡ sets words at (2 ∷ g ∷ 0 ∷ [])
+        → Leaves (deleteIfUnused g (tableOf c gu ug sg gs a records)) at (at + 3) (tableOf c2 gu ug sg gs a records2) words words2
+    unfolding deleteIfUnused choose dropGlobal notesWords
+    delete-leaves at c2 records2 words words2 e p q =
+        rw (unused-read true b)
+        (record {
+          table = ap (λ (d : Counts). tableOf d gu ug sg gs a records2) e ∙ ap (λ (l : List ℕ). tableOf (dropCounts c) gu ug sg gs a l) p;
+          noted = q;
+          moved = omega arith;
+        })
+
+  pub keep-leaves : unusedWords ug sg records g ≡ false → (at : ℕ) (words : List ℕ)
+      → Leaves (deleteIfUnused g (tableOf c gu ug sg gs a records)) at at (tableOf c gu ug sg gs a records) words words
+  unfolding deleteIfUnused choose
+  keep-leaves e at words = rw (unused-read false e) (leaves-stay _ at words)

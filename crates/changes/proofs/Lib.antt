@@ -1,4 +1,3 @@
-pub mod CursorLaws
 pub mod LeavesLaws
 pub mod TurnLaws
 pub mod CallLaws

@@ -1,4 +1,3 @@
-pub mod Cursor
 pub mod Leaves
 pub mod Live
 pub mod Solvers

@@ -1,17 +1,14 @@
-// What the calls that change a table share: the search for the least free index with its cursor, what a change inside a call leaves, and
-// the deletion of a global that is used no more.
+// What the calls that change a table share: what a change inside a call leaves, and the deletion of a global that is used no more.
 use scope::Counts;
 use scope::Global;
 use scope::Note;
 use table::put_note;
-ghost use Prim.Native.Nat.{ℕ, _≤_};
-ghost use mathlib.Core.Path.{_≡_};
+ghost use Prim.Native.Nat.{ℕ};
 ghost use mathlib.Core.List.{List};
 ghost use lib.ListN.{length};
 ghost use Rattle.base.specs.Lent.{old, new};
-ghost use Rattle.scope.specs.Table.{tableOf, leastFree};
+ghost use Rattle.scope.specs.Table.{tableOf};
 ghost use Rattle.scope.specs.Modes.{deleteIfUnused};
-ghost use Rattle.changes.specs.Cursor.{AllMapped};
 ghost use Rattle.changes.specs.Leaves.{Leaves, Room};
 ghost use Rattle.changes.specs.Live.{Live};
 
@@ -19,22 +16,6 @@ ghost use Rattle.changes.specs.Live.{Live};
 pub struct Passed {
     pub counts: Counts,
     pub at: usize,
-}
-
-// The least index below the mark at which the map has 0, else the mark; below `from` it has none.
-pub fn least_free(xs: &[u32], mark: u32, from: u32) -> u32
-    requires { ⌜ mark ≤ length (now xs) ⌝ }
-    requires { ⌜ AllMapped (now xs) mark from ⌝ }
-    ensures { λ r. ⌜ r ≡ leastFree (old xs) mark ⌝ }
-{
-    let mut i = from;
-    while i < mark {
-        if xs[i as usize] == 0 {
-            return i;
-        }
-        i += 1;
-    }
-    i
 }
 
 // An isolated global that has lost both its names is deleted, with note D (01, "Set mode"). The counts and the place after the
@@ -49,7 +30,7 @@ pub fn delete_global_if_unused(
     at: usize,
     notes: &mut [u32],
 ) -> Passed
-    requires { ⌜ Live (now ug) (now sg) (now records) (global .0) ⌝ }
+    requires { ⌜ Live c (now ug) (now sg) (now records) (global .0) ⌝ }
     requires { ⌜ ((gu gs a : List ℕ) → Room (deleteIfUnused (global .0) (tableOf c gu (now ug) (now sg) gs a (now records))) at (length (now notes))) ⌝ }
     ensures { λ r. ⌜ ((gu gs a : List ℕ) → Leaves (deleteIfUnused (global .0) (tableOf c gu (old ug) (old sg) gs a (old records))) at (r .at)
         (tableOf (r .counts) gu (old ug) (old sg) gs a (new records)) (old notes) (new notes)) ⌝ }
@@ -57,12 +38,9 @@ pub fn delete_global_if_unused(
     let g = global.0 as usize;
     let r = records[g];
     if (ug[g] == 0) & ((sg[g] == 0) & (r / 9 % 2 == 1)) {
-        records[g] = r + 36;
+        let counts = c.delete(records, global);
         put_note(notes, at, Note::Deleted(global));
-        return Passed {
-            counts: c,
-            at: at + 3,
-        };
+        return Passed { counts, at: at + 3 };
     }
     Passed { counts: c, at }
 }

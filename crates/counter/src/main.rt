@@ -1,5 +1,5 @@
 // A day at the counter of a maker of smart cash boxes: one session from Open to Model at capacity 8, then a short one at capacity 2.
-// Each call is made, and its answer, its notes and its bytes are printed. Nothing is decided here.
+// Each call is made, and its answer, its notes and its bytes are printed, and how full the table then is. Nothing is decided here.
 mod holds;
 mod lines;
 mod names;
@@ -41,6 +41,8 @@ fn nothing() -> Counts {
         user: 0,
         global: 0,
         solver: 0,
+        used: 0,
+        next: 0,
     }
 }
 
@@ -253,6 +255,7 @@ fn play(
         let call = call_at(n);
         c = change(c, gu, ug, sg, gs, assignment, records, call);
         end = show(c, gu, ug, sg, gs, assignment, records, proof, end, call);
+        telling::fill(c);
         n += 1;
     }
     Day { counts: c, end }

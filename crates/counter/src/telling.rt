@@ -1,5 +1,6 @@
 // What `counter` prints. Indices have a letter and count from 0: u a user, g a global, s a solver index; a literal is its index, after a
 // minus sign where it is negative. Notes are in document 01's notation, and refusals have their meaning beside them.
+use scope::Counts;
 use scope::Mark;
 use scope::SamplingMode;
 use scope::Simplified;
@@ -24,9 +25,24 @@ pub fn legend() {
         b"u0, u1, .. are users; g0, g1, .. globals; s0, s1, .. solver indices: each sort is counted from 0. A minus sign negates a literal.\n\
         Notes: U(g2,u1) gives g2 the user u1, S(g2,s0) gives it the solver index s0, and - for the index takes it back; D(g2) deletes g2;\n\
         C(g2,yes) makes g2 Sample, C(g2,no) makes it Witness.\n\
+        Under each call stands how many globals are then taken, hidden ones among them, of how many, and the solver index that is granted next.\n\
         Bytes of the proof file stand in quotes. There g0 is 1, g1 is 2, g2 is 3, g3 is 4, g4 is 5, d begins a delete and 0 ends a step.\n\
         After the calls the file is read back step by step, and the model is printed.\n\n",
     );
+}
+
+// How many globals are taken, and which solver index comes next.
+pub fn fill(c: Counts) {
+    text(b"    ");
+    number(c.used);
+    index(b" of ", c.capacity);
+    text(b" taken, next ");
+    if c.next < c.capacity {
+        index(b"s", c.next);
+    } else {
+        text(b"none");
+    }
+    text(b"\n");
 }
 
 fn lit(letter: &[u8], code: u32) {

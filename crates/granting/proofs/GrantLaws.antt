@@ -1,19 +1,19 @@
 -- Laws of Grant.
-use Prim.Native.Nat.{ℕ, zero, suc, _+_, _-_, _*_, _/_, _^_, _≤_, _<_, max}
-use mathlib.Core.Path.{_≡_, refl, sym, ap, _∙_}
+use Prim.Native.Nat.{ℕ, zero, suc, _+_, _*_, _/_, _^_, _≤_, _<_}
+use mathlib.Core.Path.{_≡_, refl, sym, ap, _∙_, subst}
 use mathlib.Core.Bool.{true, false, _&&_, not}
 use mathlib.Core.List.{List, [], _∷_}
 use native.Mathlib.Omega.{arith}
 use lib.Dec.{eqb, ltb, leb}
 use lib.ListN.{length, getD, set}
-use lib.Seq.{sets, getD-set-other}
+use lib.Seq.{sets}
 use borrow.Author.Tests.{le-ltb, le-leb, lt-leb, ne-eqb, leb-false, ltb-false, not-false}
 use Rattle.base.specs.Answer.{numberOf, valuesOf}
 use Rattle.base.proofs.MemberLaws.{getD-default}
 use Rattle.scope.specs.declared.Counts.{Counts}
 use Rattle.scope.specs.declared.Solver.{Solver}
-use Rattle.scope.specs.Table.{Table, tableOf, word, unitOf, recordOf, isDeleted, coverSolver, giveSolver, leastFree, nextSolver}
-use Rattle.scope.specs.Sound.{Sound, soundb}
+use Rattle.scope.specs.Table.{Table, tableOf, word, unitOf, recordOf, isDeleted, grantCounts, giveSolver, leastFree, nextSolver}
+use Rattle.scope.specs.Sound.{soundb}
 use Rattle.scope.specs.Notes.{notesWords}
 use Rattle.scope.specs.Outcome.{short}
 use Rattle.scope.specs.Grant.{grantOne, grant, grantRefusal, grantOf}
@@ -21,9 +21,7 @@ use Rattle.scope.specs.Contract.{Said, Does}
 use Rattle.scope.proofs.SoundLaws.{sound-of}
 use Rattle.scope.proofs.GrantLaws.{next-solver-below, grant-free, grant-has, toGrant, grant-count}
 use Rattle.scope.proofs.ResultLaws.{past}
-use Rattle.changes.specs.Cursor.{AllMapped}
 use Rattle.changes.specs.Leaves.{Leaves}
-use Rattle.changes.proofs.CursorLaws.{cursor-least}
 use Rattle.changes.proofs.LeavesLaws.{leaves-stay}
 use Rattle.changes.proofs.CallLaws.{call-refused, call-accepted, call-noted}
 use Rattle.granting.specs.declared.Granted.{Granted}
@@ -33,85 +31,61 @@ use Rattle.granting.specs.Answers.{granted}
 
 -- ---- what a fresh grant asks
 
--- A global without solver index: a solver index is free, and there is room for a note.
-pub record IndexFree (t : Table) (g at room : ℕ) : Type 0 where
-  pub sound : Sound t
-  pub below : g < t .counts .capacity
-  pub free : leastFree (t .globalFromSolver) (t .counts .solver) < t .counts .capacity
-  pub words : at + 3 ≤ room
+-- The stored index is the least free one; it is below the capacity, and there is room for a note.
+abbrev pub NextAsks : Table → ℕ → ℕ → ℕ → Type 0
+NextAsks t g at room =
+    (t .counts .solver ≤ length (t .globalFromSolver))
+    × ((t .counts .next ≡ leastFree (t .globalFromSolver) (t .counts .solver))
+    × ((t .counts .next < length (t .globalFromSolver))
+    × ((t .counts .next < length (t .assignment))
+    × ((t .counts .next < t .counts .capacity)
+    × ((g < length (t .solverFromGlobal))
+    × ((g < t .counts .capacity)
+    × (at + 3 ≤ room)))))))
 
-pub index-free : (t : Table) (g at room : ℕ) → GrantAsks t g at room → getD (t .solverFromGlobal) g 0 ≡ 0 → IndexFree t g at room
+pub next-asks : (t : Table) (g at room : ℕ) → GrantAsks t g at room → getD (t .solverFromGlobal) g 0 ≡ 0 → NextAsks t g at room
 unfolding grantOne nextSolver
-index-free t g at room h e =
+next-asks t g at room h e =
     let s = sound-of t (h .sound) in
     let z = s .sizes in
+    let n = s .stored .next in
     let f = next-solver-below t g s (h .below) e in
     let b = h .below in
     let w : at + 3 * 1 ≤ room = rw (grant-free t g e) at (h .words) in
-    record { sound = s; below = omega arith; free = omega arith; words = omega arith }
-
-abbrev pub NextAsks : Table → ℕ → ℕ → ℕ → ℕ → Type 0
-NextAsks t g from at room =
-    let s = leastFree (t .globalFromSolver) (t .counts .solver) in
-    (t .counts .solver ≤ length (t .globalFromSolver))
-    × ((AllMapped (t .globalFromSolver) (t .counts .solver) from)
-    × ((g < length (t .solverFromGlobal))
-    × ((g < t .counts .capacity)
-    × ((s < length (t .globalFromSolver))
-    × ((s < length (t .assignment))
-    × ((s < t .counts .capacity)
-    × (at + 3 ≤ room)))))))
-
-pub next-asks : (t : Table) (g from at room : ℕ) → IndexFree t g at room → AllMapped (t .globalFromSolver) (t .counts .solver) from → NextAsks t g from at room
-next-asks t g from at room f p =
-    let z = f .sound .sizes in
-    let a = f .below in
-    let b = f .free in
-    (omega arith, (p, (omega arith, (omega arith, (omega arith, (omega arith, (omega arith, f .words)))))))
+    (omega arith, (n, (omega arith, (omega arith, (omega arith, (omega arith, (omega arith, omega arith)))))))
 
 -- ---- what it leaves
 
-abbrev pub NextLeft : Table → ℕ → ℕ → ℕ → Solver → Counts → ℕ → ℕ → List ℕ → List ℕ → List ℕ → List ℕ → List ℕ → Type 0
-NextLeft t g unit at solver c from next sg gs a notes noted =
-    let s = leastFree (t .globalFromSolver) (t .counts .solver) in
+-- the solver index s went to the global
+abbrev pub NextLeft : Table → ℕ → ℕ → ℕ → ℕ → Solver → Counts → ℕ → List ℕ → List ℕ → List ℕ → List ℕ → List ℕ → Type 0
+NextLeft t g unit at s solver c next sg gs a notes noted =
     (solver .0 ≡ s)
-    × ((c ≡ coverSolver (t .counts) s g)
-    × ((from ≡ s)
+    × ((c ≡ grantCounts (t .counts) s g gs)
     × ((next ≡ at + 3)
     × ((sg ≡ set (t .solverFromGlobal) g (s + 1))
     × ((gs ≡ set (t .globalFromSolver) s (g + 1))
     × ((a ≡ set (t .assignment) s unit)
-    × (noted ≡ sets notes at (1 ∷ g ∷ (s + 1) ∷ []))))))))
+    × (noted ≡ sets notes at (1 ∷ g ∷ (s + 1) ∷ [])))))))
 
-next-leaves : (t : Table) (g at : ℕ) (solver : Solver) (c : Counts) (from next : ℕ) (sg gs a notes noted : List ℕ)
+next-leaves : (t : Table) (g at : ℕ) (solver : Solver) (c : Counts) (next : ℕ) (sg gs a notes noted : List ℕ)
     → g < length (t .records)
     → getD (t .solverFromGlobal) g 0 ≡ 0
-    → NextLeft t g (unitOf (getD (t .records) g 0)) at solver c from next sg gs a notes noted
+    → NextLeft t g (unitOf (getD (t .records) g 0)) at (nextSolver t) solver c next sg gs a notes noted
     → (solver .0 ≡ grant g t .value) × Leaves (grant g t) at next (tableOf c (t .globalFromUser) (t .userFromGlobal) sg gs a (t .records)) notes noted
-unfolding grantOne nextSolver giveSolver notesWords
-next-leaves t g at solver c from next sg gs a notes noted l e h =
-    let s = leastFree (t .globalFromSolver) (t .counts .solver) in
+unfolding grantOne giveSolver notesWords
+next-leaves t g at solver c next sg gs a notes noted l e h =
     let u = ap unitOf (getD-default (t .records) g 0 47 l) in
+    let left = h .1 .1 .1 in
     rw (grant-free t g e) (
       h .0,
       record {
-        table = λ i. tableOf (h .1 .0 i) (t .globalFromUser) (t .userFromGlobal) (h .1 .1 .1 .1 .0 i) (h .1 .1 .1 .1 .1 .0 i)
-            ((h .1 .1 .1 .1 .1 .1 .0 ∙ ap (λ (v : ℕ). set (t .assignment) s v) u) i) (t .records);
-        noted = h .1 .1 .1 .1 .1 .1 .1;
-        moved = let x = h .1 .1 .1 .0 in omega arith;
+        table = λ i. tableOf ((h .1 .0 ∙ ap (λ (x : List ℕ). grantCounts (t .counts) (nextSolver t) g x) (left .1 .0)) i)
+            (t .globalFromUser) (t .userFromGlobal) (left .0 i) (left .1 .0 i)
+            ((left .1 .1 .0 ∙ ap (λ (v : ℕ). set (t .assignment) (nextSolver t) v) u) i) (t .records);
+        noted = left .1 .1 .1;
+        moved = let x = h .1 .1 .0 in omega arith;
       },
     )
-
--- the cursor goes to the index granted, below which all are taken
-next-passed : (t : Table) (g unit at : ℕ) (solver : Solver) (c : Counts) (from next : ℕ) (sg gs a notes noted : List ℕ)
-    → NextLeft t g unit at solver c from next sg gs a notes noted
-    → AllMapped gs (c .solver) from
-unfolding leastFree
-next-passed t g unit at solver c from next sg gs a notes noted h =
-    let s = leastFree (t .globalFromSolver) (t .counts .solver) in
-    let m : c .solver ≡ max (t .counts .solver) (s + 1) = ap (λ (d : Counts). d .solver) (h .1 .0) in
-    cursor-least (λ i. eqb (getD (t .globalFromSolver) i 0) 0) (λ i. eqb (getD gs i 0) 0) (t .counts .solver) (c .solver) from (h .1 .1 .0) (omega arith)
-    (λ k l n. rw (h .1 .1 .1 .1 .1 .0, getD-set-other (t .globalFromSolver) s k (g + 1) 0 (λ q. omega (arith, h .1 .1 .0))) n)
 
 -- the index held
 kept-leaves : (t : Table) (g at s : ℕ) (notes : List ℕ) → getD (t .solverFromGlobal) g 0 ≡ s + 1
@@ -120,26 +94,24 @@ kept-leaves t g at s notes e = rw (grant-has t g s e) (refl, leaves-stay t at no
 
 -- both, whatever the maps of users are
 module _ (c : Counts) (sg gs a records : List ℕ) (g at : ℕ) where
-  pub next-done : (solver : Solver) (d : Counts) (from next : ℕ) (sg2 gs2 a2 notes noted : List ℕ) → g < length records → getD sg g 0 ≡ 0
-      → NextLeft (tableOf c [] [] sg gs a records) g (unitOf (getD records g 0)) at solver d from next sg2 gs2 a2 notes noted
+  pub next-done : (solver : Solver) (d : Counts) (next : ℕ) (sg2 gs2 a2 notes noted : List ℕ) → g < length records → getD sg g 0 ≡ 0
+      → c .next ≡ leastFree gs (c .solver)
+      → NextLeft (tableOf c [] [] sg gs a records) g (unitOf (getD records g 0)) at (c .next) solver d next sg2 gs2 a2 notes noted
       → ((gu ug : List ℕ) → solver .0 ≡ grant g (tableOf c gu ug sg gs a records) .value)
-      × (((gu ug : List ℕ) → Leaves (grant g (tableOf c gu ug sg gs a records)) at next (tableOf d gu ug sg2 gs2 a2 records) notes noted)
-      × AllMapped gs2 (d .solver) from)
-  next-done solver d from next sg2 gs2 a2 notes noted l e h = (
-    λ gu ug. next-leaves (tableOf c gu ug sg gs a records) g at solver d from next sg2 gs2 a2 notes noted l e h .0,
-    (
-      λ gu ug. next-leaves (tableOf c gu ug sg gs a records) g at solver d from next sg2 gs2 a2 notes noted l e h .1,
-      next-passed (tableOf c [] [] sg gs a records) g _ at solver d from next sg2 gs2 a2 notes noted h,
-    ),
-  )
+      × ((gu ug : List ℕ) → Leaves (grant g (tableOf c gu ug sg gs a records)) at next (tableOf d gu ug sg2 gs2 a2 records) notes noted)
+  unfolding nextSolver
+  next-done solver d next sg2 gs2 a2 notes noted l e q h =
+      let k = subst (λ (s : ℕ). NextLeft (tableOf c [] [] sg gs a records) g (unitOf (getD records g 0)) at s solver d next sg2 gs2 a2 notes noted) q h in (
+        λ gu ug. next-leaves (tableOf c gu ug sg gs a records) g at solver d next sg2 gs2 a2 notes noted l e k .0,
+        λ gu ug. next-leaves (tableOf c gu ug sg gs a records) g at solver d next sg2 gs2 a2 notes noted l e k .1,
+      )
 
-  pub kept-done : (s from : ℕ) (notes : List ℕ) → getD sg g 0 ≡ s + 1 → AllMapped gs (c .solver) from
+  pub kept-done : (s : ℕ) (notes : List ℕ) → getD sg g 0 ≡ s + 1
       → ((gu ug : List ℕ) → s ≡ grant g (tableOf c gu ug sg gs a records) .value)
-      × (((gu ug : List ℕ) → Leaves (grant g (tableOf c gu ug sg gs a records)) at at (tableOf c gu ug sg gs a records) notes notes)
-      × AllMapped gs (c .solver) from)
-  kept-done s from notes e m = (
+      × ((gu ug : List ℕ) → Leaves (grant g (tableOf c gu ug sg gs a records)) at at (tableOf c gu ug sg gs a records) notes notes)
+  kept-done s notes e = (
     λ gu ug. kept-leaves (tableOf c gu ug sg gs a records) g at s notes e .0,
-    (λ gu ug. kept-leaves (tableOf c gu ug sg gs a records) g at s notes e .1, m),
+    λ gu ug. kept-leaves (tableOf c gu ug sg gs a records) g at s notes e .1,
   )
 
 pub reads-below : (t : Table) (g at room : ℕ) → GrantAsks t g at room → g < length (t .records)

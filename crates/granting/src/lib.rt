@@ -1,5 +1,4 @@
 // Grant. How the contracts read: crates/scope/specs/Contract.antt.
-use changes::least_free;
 use scope::Counts;
 use scope::Global;
 use scope::Note;
@@ -14,18 +13,16 @@ ghost use Prim.Native.Nat.{ℕ, _+_, _≤_, _<_};
 ghost use lib.ListN.{length, set};
 ghost use Rattle.base.specs.Lent.{old, new, Fills};
 ghost use Rattle.scope.specs.Contract.{before, lent, Meets};
-ghost use Rattle.scope.specs.Table.{tableOf, coverSolver, leastFree};
+ghost use Rattle.scope.specs.Table.{tableOf, leastFree, grantCounts};
 ghost use Rattle.scope.specs.Grant.{grant, grantRefusal, grantOf};
-ghost use Rattle.changes.specs.Cursor.{AllMapped};
 ghost use Rattle.changes.specs.Leaves.{Leaves};
 ghost use Rattle.granting.specs.Answers.{granted};
 ghost use Rattle.granting.specs.Asks.{IndexAsks};
 
-// A global's solver index, with the counts, the cursor of free solver indices and the place in the notes after it.
+// A global's solver index, with the counts and the place in the notes after it.
 pub struct Indexed {
     pub counts: Counts,
     pub solver: Solver,
-    pub from: u32,
     pub at: usize,
 }
 
@@ -43,44 +40,40 @@ fn grant_next(
     assignment: &mut [u32],
     global: Global,
     unit: u32,
-    from: u32,
     at: usize,
     notes: &mut [u32],
 ) -> Indexed
     requires { ⌜ c .solver ≤ length (now gs) ⌝ }
-    requires { ⌜ AllMapped (now gs) (c .solver) from ⌝ }
+    requires { ⌜ c .next ≡ leastFree (now gs) (c .solver) ⌝ }
+    requires { ⌜ c .next < length (now gs) ⌝ }
+    requires { ⌜ c .next < length (now assignment) ⌝ }
+    requires { ⌜ c .next < c .capacity ⌝ }
     requires { ⌜ global .0 < length (now sg) ⌝ }
     requires { ⌜ global .0 < c .capacity ⌝ }
-    requires { let s = leastFree (now gs) (c .solver) in
-        ⌜ s < length (now gs) ⌝ ∗ ⌜ s < length (now assignment) ⌝ ∗ ⌜ s < c .capacity ⌝ }
     requires { ⌜ at + 3 ≤ length (now notes) ⌝ }
-    ensures { λ r. let s = leastFree (old gs) (c .solver) in
-        ⌜ r .solver .0 ≡ s ⌝
-        ∗ ⌜ r .counts ≡ coverSolver c s (global .0) ⌝
-        ∗ ⌜ r .from ≡ s ⌝
-        ∗ ⌜ r .at ≡ at + 3 ⌝ }
-    ensures { λ _. let s = leastFree (old gs) (c .solver) in
-        ⌜ new sg ≡ set (old sg) (global .0) (s + 1) ⌝
-        ∗ ⌜ new gs ≡ set (old gs) s (global .0 + 1) ⌝
-        ∗ ⌜ new assignment ≡ set (old assignment) s unit ⌝
-        ∗ ⌜ Fills notes at (1 ∷ global .0 ∷ (s + 1) ∷ []) ⌝ }
+    ensures { λ r. ⌜ r .solver .0 ≡ c .next ⌝ }
+    ensures { λ r. ⌜ r .counts ≡ grantCounts c (c .next) (global .0) (new gs) ⌝ }
+    ensures { λ r. ⌜ r .at ≡ at + 3 ⌝ }
+    ensures { λ _. ⌜ new sg ≡ set (old sg) (global .0) (c .next + 1) ⌝ }
+    ensures { λ _. ⌜ new gs ≡ set (old gs) (c .next) (global .0 + 1) ⌝ }
+    ensures { λ _. ⌜ new assignment ≡ set (old assignment) (c .next) unit ⌝ }
+    ensures { λ _. ⌜ Fills notes at (1 ∷ global .0 ∷ (c .next + 1) ∷ []) ⌝ }
 {
-    let s = least_free(gs, c.solver, from);
+    let s = c.next;
     let solver = Solver(s);
-    let next = at + 3;
+    let past = at + 3;
     assignment[s as usize] = unit;
     put_note(notes, at, Note::SolverGranted(global, solver));
     let counts = c.grant(sg, gs, global, solver);
     Indexed {
         counts,
         solver,
-        from: s,
-        at: next,
+        at: past,
     }
 }
 
-// The solver index of an undeleted global of a sound table: the one held, else the least free one, searched from the cursor on. The maps of
-// users, gu and ug, are not lent and may be any.
+// The solver index of an undeleted global of a sound table: the one held, else the least free one. The maps of users, gu and ug, are not lent and
+// may be any.
 pub fn grant_index(
     c: Counts,
     sg: &mut [u32],
@@ -88,25 +81,21 @@ pub fn grant_index(
     assignment: &mut [u32],
     records: &[u32],
     global: Global,
-    from: u32,
     at: usize,
     notes: &mut [u32],
 ) -> Indexed
     requires { ⌜ IndexAsks c (now sg) (now gs) (now assignment) (now records) (global .0) at (length (now notes)) ⌝ }
-    requires { ⌜ AllMapped (now gs) (c .solver) from ⌝ }
     ensures { λ r. ⌜ ((gu ug : List ℕ) → r .solver .0 ≡ grant (global .0) (tableOf c gu ug (old sg) (old gs) (old assignment) (old records)) .value) ⌝ }
     ensures { λ r. ⌜ ((gu ug : List ℕ) → Leaves (grant (global .0) (tableOf c gu ug (old sg) (old gs) (old assignment) (old records))) at (r .at)
         (tableOf (r .counts) gu ug (new sg) (new gs) (new assignment) (old records)) (old notes) (new notes)) ⌝ }
-    ensures { λ r. ⌜ AllMapped (new gs) (r .counts .solver) (r .from) ⌝ }
 {
     let FoundSolver::At(solver) = solver_of(sg, global) else {
         let unit = records[global.0 as usize] / 3 % 3;
-        return grant_next(c, sg, gs, assignment, global, unit, from, at, notes);
+        return grant_next(c, sg, gs, assignment, global, unit, at, notes);
     };
     Indexed {
         counts: c,
         solver,
-        from,
         at,
     }
 }
@@ -161,7 +150,7 @@ pub fn solver_from_global(
     if n != 0 {
         return Granted::Refused(n);
     }
-    let h = grant_index(c, sg, gs, assignment, records, global, 0, 0, notes);
+    let h = grant_index(c, sg, gs, assignment, records, global, 0, notes);
     let solver = h.solver;
     let counts = h.counts;
     Granted::Done(solver, counts, (h.at / 3) as u32)

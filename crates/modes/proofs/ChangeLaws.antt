@@ -10,15 +10,15 @@ use lib.Seq.{sets, getD-set-same}
 use Rattle.base.specs.Choice.{pick}
 use Rattle.base.proofs.SetsLaws.{sets-append}
 use Rattle.scope.specs.declared.Counts.{Counts}
-use Rattle.scope.specs.Table.{Table, tableOf, recordOf, withMode, coverUser, giveUser, takeUser, putRecord, leastFree}
+use Rattle.scope.specs.Table.{Table, tableOf, recordOf, undeleted, withMode, mapCounts, giveUser, takeUser, putRecord, leastFree}
 use Rattle.scope.specs.Notes.{user-, notesWords}
 use Rattle.scope.specs.Outcome.{Result}
 use Rattle.scope.specs.Map.{nextUser}
 use Rattle.scope.specs.Modes.{deleteIfUnused, show, hide, change}
 use Rattle.scope.proofs.PairLaws.{below-mark}
-use Rattle.scope.proofs.MoveLaws.{undeleted-below}
+use Rattle.scope.proofs.MoveLaws.{undeleted-below, used-most}
 use Rattle.scope.proofs.ModeLaws.{next-user-below}
-use Rattle.changes.specs.Cursor.{AllMapped}
+use Rattle.scope.specs.Cursor.{AllMapped}
 use Rattle.changes.specs.Leaves.{Leaves, Room}
 use Rattle.changes.specs.Live.{Live}
 use Rattle.changes.proofs.LeavesLaws.{leaves-then}
@@ -65,22 +65,25 @@ module _ (t : Table) (g m from : ℕ) (h : Shows t g m from) where
 
   -- user indices never run out first
   pub show-fits : (u : ℕ) → u ≡ leastFree (t .globalFromUser) (t .counts .user)
-      → (u < length (t .globalFromUser)) × ((g < length (t .userFromGlobal)) × ((u < t .counts .capacity) × (g < t .counts .capacity)))
+      → (u < length (t .globalFromUser)) × ((g < length (t .userFromGlobal)) × ((g < length (t .records))
+      × ((u < t .counts .capacity) × ((g < t .counts .capacity) × (t .counts .used + 1 < 2 ^ 32)))))
   unfolding nextUser
   show-fits u e =
       let w = h .there in
       let z = w .sound .sizes in
       let l = undeleted-below t g (w .sound) (w .undeleted) in
       let k = next-user-below t g (w .sound) (w .undeleted) (h .hidden) in
+      let n = used-most t (w .sound) in
       omega arith
 
 module _ (t : Table) (g m : ℕ) (l : g < length (t .records)) (u : ℕ) (e : u ≡ leastFree (t .globalFromUser) (t .counts .user))
-    (d : Counts) (gu ug : List ℕ) (p : (d ≡ coverUser (t .counts) u g) × ((gu ≡ set (t .globalFromUser) u (g + 1)) × (ug ≡ set (t .userFromGlobal) g (u + 1))))
+    (d : Counts) (gu ug records : List ℕ) (p : (d ≡ mapCounts (t .counts) u g (recordOf t g)) × ((gu ≡ set (t .globalFromUser) u (g + 1))
+    × ((ug ≡ set (t .userFromGlobal) g (u + 1)) × (records ≡ set (t .records) g (getD (t .records) g 0 / 3 * 3 + m)))))
   where
-    shown-is : tableOf d gu ug (t .solverFromGlobal) (t .globalFromSolver) (t .assignment) (set (t .records) g (getD (t .records) g 0 / 3 * 3 + m))
-        ≡ giveUser g u (withMode (recordOf t g) m) t
+    shown-is : tableOf d gu ug (t .solverFromGlobal) (t .globalFromSolver) (t .assignment) records ≡ giveUser g u (withMode (recordOf t g) m) t
     unfolding giveUser
-    shown-is = λ i. tableOf (p .0 i) (p .1 .0 i) (p .1 .1 i) (t .solverFromGlobal) (t .globalFromSolver) (t .assignment) (mode-read t g m l i)
+    shown-is = λ i. tableOf (p .0 i) (p .1 .0 i) (p .1 .1 .0 i) (t .solverFromGlobal) (t .globalFromSolver) (t .assignment)
+        ((p .1 .1 .1 ∙ mode-read t g m l) i)
 
     next-user-is : u ≡ nextUser t
     unfolding nextUser
@@ -88,8 +91,7 @@ module _ (t : Table) (g m : ℕ) (l : g < length (t .records)) (u : ℕ) (e : u 
 
     pub show-leaves : (at : ℕ) (words words2 words3 : List ℕ) → words2 ≡ sets words at (3 ∷ g ∷ pick (eqb m 0) 1 0 ∷ [])
         → words3 ≡ sets words2 (at + 3) (0 ∷ g ∷ (u + 1) ∷ [])
-        → Leaves (show g m t) at (at + 6) (tableOf d gu ug (t .solverFromGlobal) (t .globalFromSolver) (t .assignment)
-        (set (t .records) g (getD (t .records) g 0 / 3 * 3 + m))) words words3
+        → Leaves (show g m t) at (at + 6) (tableOf d gu ug (t .solverFromGlobal) (t .globalFromSolver) (t .assignment) records) words words3
     unfolding show notesWords
     show-leaves at words words2 words3 q r = record {
       table = shown-is ∙ ap (λ (v : ℕ). giveUser g v (withMode (recordOf t g) m) t) next-user-is;
@@ -146,7 +148,7 @@ module _ (t : Table) (g : ℕ) where
     unfolding hide mid
     hide-leaves at next left words words2 words3 q k = leaves-then (deleteIfUnused g) (withdrawn-leaves at words words2 q) k
 
-    live : There t g → Live ug (t .solverFromGlobal) (set (t .records) g (getD (t .records) g 0 / 3 * 3 + 2)) g
+    live : There t g → Live d ug (t .solverFromGlobal) (set (t .records) g (getD (t .records) g 0 / 3 * 3 + 2)) g
     live h =
         let o = there-live t g h in
         let v = o .user in
@@ -155,10 +157,12 @@ module _ (t : Table) (g : ℕ) where
         let r = getD-set-same (t .records) g (getD (t .records) g 0 / 3 * 3 + 2) 47 l in
         let e = record-read t g l in
         let w = o .undeleted in
-        record { user = omega arith; solver = o .solver; words = omega arith; small = o .small; undeleted = omega arith }
+        let n = o .used in
+        let k = ap (λ (b : Counts). b .used) (p .0) in
+        record { user = omega arith; solver = o .solver; words = omega arith; small = o .small; undeleted = omega arith; used = omega arith }
 
     pub hide-delete : (at room room2 : ℕ) → There t g → Room (hide g t) at room → room2 ≡ room
-        → Live ug (t .solverFromGlobal) (set (t .records) g (getD (t .records) g 0 / 3 * 3 + 2)) g
+        → Live d ug (t .solverFromGlobal) (set (t .records) g (getD (t .records) g 0 / 3 * 3 + 2)) g
         × ((gu2 gs a : List ℕ)
         → Room (deleteIfUnused g (tableOf d gu2 ug (t .solverFromGlobal) gs a (set (t .records) g (getD (t .records) g 0 / 3 * 3 + 2)))) (at + 3) room2)
     unfolding hide mid

@@ -12,7 +12,7 @@ use Rattle.base.specs.Choice.{pick}
 use Rattle.scope.specs.Table.{Table, modeOf, isolatedOf, recordOf, withMode, takeUser}
 use Rattle.scope.specs.Outcome.{stay, choose}
 use Rattle.scope.specs.Modes.{isUnused, show, hide, change, setMode}
-use Rattle.scope.proofs.MoveLaws.{undeleted-below}
+use Rattle.scope.proofs.MoveLaws.{undeleted-below, used-some}
 use Rattle.changes.specs.Live.{Live}
 use Rattle.changes.proofs.DeletionLaws.{cleared, delete-count}
 use Rattle.modes.specs.Asks.{There}
@@ -55,11 +55,18 @@ mode-notes-few solver w m = go (eqb (w % 3) m) (eqb m 2) (eqb solver 0 && eqb (i
 
 -- ---- a global that is there
 
-pub there-live : (t : Table) (g : ℕ) → There t g → Live (t .userFromGlobal) (t .solverFromGlobal) (t .records) g
+pub there-live : (t : Table) (g : ℕ) → There t g → Live (t .counts) (t .userFromGlobal) (t .solverFromGlobal) (t .records) g
 there-live t g h =
     let z = h .sound .sizes in
     let l = undeleted-below t g (h .sound) (h .undeleted) in
-    record { user = omega arith; solver = omega arith; words = omega arith; small = omega arith; undeleted = h .undeleted }
+    record {
+      user = omega arith;
+      solver = omega arith;
+      words = omega arith;
+      small = omega arith;
+      undeleted = h .undeleted;
+      used = used-some t g (h .sound) (h .undeleted);
+    }
 
 -- ---- the notes
 

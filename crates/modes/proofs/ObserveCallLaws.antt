@@ -21,10 +21,10 @@ use Rattle.scope.specs.Contract.{Does}
 use Rattle.scope.proofs.SoundLaws.{sound-of}
 use Rattle.scope.proofs.ResultLaws.{past}
 use Rattle.scope.proofs.ModeLaws.{Observed as ObservedTable, observe-passed}
-use Rattle.changes.specs.Cursor.{AllMapped}
+use Rattle.scope.specs.Cursor.{AllMapped}
 use Rattle.changes.specs.Leaves.{Leaves}
 use Rattle.changes.specs.Solvers.{solversOf}
-use Rattle.changes.proofs.CursorLaws.{cursor-start}
+use Rattle.scope.proofs.CursorLaws.{cursor-start}
 use Rattle.changes.proofs.LeavesLaws.{leaves-length, notes-told, notes-fit, SameSizes, same-sizes}
 use Rattle.changes.proofs.TurnLaws.{turns-none, turns-more, turns-room}
 use Rattle.changes.proofs.CallLaws.{call-refused, call-accepted, refused-words, accepted-words}

@@ -19,7 +19,7 @@ use Rattle.scope.specs.Map.{nextUser}
 use Rattle.scope.specs.Modes.{show, isHidden, observeOne, observe}
 use Rattle.scope.proofs.ResultLaws.{each-zero, each-value, each-notes, choose-then, choose-else}
 use Rattle.scope.proofs.ModeLaws.{hidden-of, next-user-below, observe-passed}
-use Rattle.changes.specs.Cursor.{AllMapped}
+use Rattle.scope.specs.Cursor.{AllMapped}
 use Rattle.changes.specs.Leaves.{Leaves, Room}
 use Rattle.changes.specs.Solvers.{solversOf}
 use Rattle.changes.proofs.LeavesLaws.{leaves-stay}

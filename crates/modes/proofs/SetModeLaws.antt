@@ -23,7 +23,7 @@ use Rattle.scope.proofs.SoundLaws.{sound-of}
 use Rattle.scope.proofs.ResultLaws.{past, by-choose, choose-then, choose-else}
 use Rattle.changes.specs.Leaves.{Leaves, Room}
 use Rattle.changes.specs.Solvers.{solversOf}
-use Rattle.changes.proofs.CursorLaws.{cursor-start}
+use Rattle.scope.proofs.CursorLaws.{cursor-start}
 use Rattle.changes.proofs.LeavesLaws.{leaves-stay, notes-fit}
 use Rattle.changes.proofs.CallLaws.{call-refused, call-accepted, call-noted}
 use Rattle.changes.proofs.DeletionLaws.{record-read}

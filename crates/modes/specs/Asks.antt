@@ -10,7 +10,7 @@ use Rattle.scope.specs.Table.{Table, tableOf, modeOf, recordOf}
 use Rattle.scope.specs.Sound.{Sound}
 use Rattle.scope.specs.Outcome.{Result}
 use Rattle.scope.specs.Modes.{hide, setMode, observeOne, observe}
-use Rattle.changes.specs.Cursor.{AllMapped}
+use Rattle.scope.specs.Cursor.{AllMapped}
 use Rattle.changes.specs.Leaves.{Room}
 use Rattle.changes.specs.Solvers.{Solvers, tableWith}
 

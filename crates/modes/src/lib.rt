@@ -1,12 +1,12 @@
 // Set mode and Observe. How the contracts read: crates/scope/specs/Contract.antt, and inside a call crates/changes/specs/Leaves.antt.
 use changes::Passed;
 use changes::delete_global_if_unused;
-use changes::least_free;
 use scope::Counts;
 use scope::Global;
 use scope::Note;
 use scope::SamplingMode;
 use scope::User;
+use scope::least_free;
 use table::is_sound;
 use table::put_note;
 ghost use mathlib.Core.Path.{_≡_};
@@ -22,7 +22,7 @@ ghost use Rattle.scope.specs.Contract.{before, lent, Does, Meets};
 ghost use Rattle.scope.specs.Table.{tableOf, assumedOf, withMode, leastFree};
 ghost use Rattle.scope.specs.Outcome.{noting};
 ghost use Rattle.scope.specs.Modes.{modeNumber, show, hide, setMode, setModeRefusal, setModeOf, isHidden, observeOne, observe, observeRefusal, observeOf};
-ghost use Rattle.changes.specs.Cursor.{AllMapped};
+ghost use Rattle.scope.specs.Cursor.{AllMapped};
 ghost use Rattle.changes.specs.Leaves.{Leaves};
 ghost use Rattle.changes.specs.Solvers.{Solvers, tableWith};
 ghost use Rattle.modes.specs.Asks.{ShowAsks, HideAsks, SetAsks, UsersFilled, ObserveAsks, ObserveAllAsks};
@@ -79,10 +79,9 @@ fn show(
     let g = global.0 as usize;
     let next = at + 3;
     let past = at + 6;
-    let w = records[g];
-    records[g] = w / 3 * 3 + m;
+    let w = records[g] / 3 * 3 + m;
     let user = User(least_free(gu, c.user, from));
-    let counts = c.map(gu, ug, user, global);
+    let counts = c.map(gu, ug, records, user, global, w);
     put_note(notes, at, Note::ModeChanged(global, m == 0));
     put_note(notes, next, Note::UserGranted(global, user));
     Revealed {

@@ -8,8 +8,6 @@ use lib.Dec.{ltb, leb}
 use lib.ListN.{length, getD}
 use borrow.Author.Tests.{lt-ltb, le-ltb, le-leb, lt-leb, leb-false, ltb-false, not-false}
 use Rattle.base.specs.Answer.{accepted, numberOf, valuesOf}
-use Rattle.base.specs.Bounded.{count}
-use Rattle.base.proofs.CountLaws.{count-most}
 use Rattle.scope.specs.declared.Counts.{Counts}
 use Rattle.scope.specs.declared.Global.{Global}
 use Rattle.scope.specs.declared.User.{User}
@@ -18,6 +16,7 @@ use Rattle.scope.specs.Sound.{Sizes, soundb}
 use Rattle.scope.specs.Outcome.{giving, short}
 use Rattle.scope.specs.Map.{mapUser, nextUser, newUser, toMap, unsampled, mapRefusal, mapOf, newUserRefusal, newUserOf}
 use Rattle.scope.specs.Contract.{Said, Does}
+use Rattle.scope.proofs.MoveLaws.{used-most}
 use Rattle.scope.proofs.SoundLaws.{sound-of}
 use Rattle.scope.proofs.MapLaws.{map-user-count, mapped-global, next-user-to-map, next-user-within}
 use Rattle.scope.proofs.ResultLaws.{past}
@@ -28,15 +27,11 @@ use Rattle.naming.specs.declared.UserMapped.{UserMapped}
 use Rattle.naming.specs.declared.UserMapped.the-variants as Map
 use Rattle.naming.specs.declared.NewUser.{NewUser}
 use Rattle.naming.specs.declared.NewUser.the-variants as New
-use Rattle.naming.specs.Parts.{alive, isUnsampled, MapBelow}
+use Rattle.naming.specs.Parts.{isUnsampled, MapBelow}
 use Rattle.naming.specs.Asks.{MapAsks}
 use Rattle.naming.specs.Answers.{userMapped, newUserMapped}
 
 -- ---- the parts over lists are those of the table
-
-pub undeleted-is : (t : Table) (n : ℕ) → soundb t ≡ true → n ≡ count (length (t .records)) (alive (t .records)) → n ≡ undeleted t
-unfolding undeleted alive
-undeleted-is t n y e = e ∙ ap (λ (k : ℕ). count k (λ g. ltb (getD (t .records) g 47) 36)) (sound-of t y .sizes .records)
 
 pub to-map-is : (t : Table) (u n : ℕ) → n ≡ word (u - t .counts .user + 1) (λ g. 0) (getD (t .globalFromUser) u 0) → n ≡ toMap t u
 unfolding toMap
@@ -59,22 +54,11 @@ all-inside t y = record { at = λ i. go i (getD (t .globalFromUser) i 0) refl }
 
 -- ---- the numbers are small
 
-pub records-small : (t : Table) → soundb t ≡ true → length (t .records) ≤ 4096
-records-small t y = let z = sound-of t y .sizes in omega arith
-
 pub user-small : (t : Table) (u : ℕ) → soundb t ≡ true → u < t .counts .capacity → u < 4096
 user-small t u y l = let z = sound-of t y .sizes in omega arith
 
-pub undeleted-most : (t : Table) → undeleted t ≤ t .counts .capacity
-unfolding undeleted
-undeleted-most t = count-most (t .counts .capacity) _
-
-pub used-small : (t : Table) (used : ℕ) → soundb t ≡ true → used ≡ count (length (t .records)) (alive (t .records)) → used ≤ 4096
-used-small t used y e =
-    let z = sound-of t y .sizes in
-    let a = undeleted-is t used y e in
-    let c = undeleted-most t in
-    omega arith
+pub used-small : (t : Table) → soundb t ≡ true → t .counts .used ≤ 4096
+used-small t y = let p = sound-of t y in let z = p .sizes in let m = used-most t p in omega arith
 
 to-map-most : (t : Table) (u : ℕ) → toMap t u ≤ u + 1
 unfolding toMap word
@@ -84,21 +68,20 @@ to-map-most t u = go (getD (t .globalFromUser) u 0)
     go zero = omega arith
     go (suc g) = omega arith
 
--- what the counting gave
-pub record MapCounts (t : Table) (u used n : ℕ) : Type 0 where
+-- the stored number of undeleted globals, and the number of users to map
+pub record MapCounts (t : Table) (u n : ℕ) : Type 0 where
   pub sizes : Sizes t
-  pub used-is : used ≡ undeleted t
+  pub used-is : t .counts .used ≡ undeleted t
   pub n-is : n ≡ toMap t u
-  pub used-most : used ≤ 4096
+  pub used-most : t .counts .used ≤ 4096
   pub n-most : n ≤ u + 1
 
-pub map-counts : (t : Table) (u used n : ℕ) → soundb t ≡ true → used ≡ count (length (t .records)) (alive (t .records))
-    → n ≡ word (u - t .counts .user + 1) (λ g. 0) (getD (t .globalFromUser) u 0) → MapCounts t u used n
-map-counts t u used n y e q =
-    let z = sound-of t y .sizes in
+pub map-counts : (t : Table) (u n : ℕ) → soundb t ≡ true → n ≡ word (u - t .counts .user + 1) (λ g. 0) (getD (t .globalFromUser) u 0) → MapCounts t u n
+map-counts t u n y q =
+    let p = sound-of t y in
     let b = to-map-is t u n q in
     let d = to-map-most t u in
-    record { sizes = z; used-is = undeleted-is t used y e; n-is = b; used-most = used-small t used y e; n-most = omega arith }
+    record { sizes = p .sizes; used-is = p .stored .used; n-is = b; used-most = used-small t y; n-most = omega arith }
 
 -- ---- refusals of Map
 
@@ -119,11 +102,11 @@ module _ (t : Table) (u : ℕ) (sampling : Bool) (room : ℕ) where
           let s : sampling && unsampled t u ≡ true = rw (← unsampled-is t u, ← q) e in
           rw (y, lt-leb (t .counts .capacity) u l, s)
 
-      module _ (b : Bool) (q : b ≡ isUnsampled (t .globalFromUser) (t .records) u) (e : sampling && b ≡ false) (used n : ℕ) (k : MapCounts t u used n) where
+      module _ (b : Bool) (q : b ≡ isUnsampled (t .globalFromUser) (t .records) u) (e : sampling && b ≡ false) (n : ℕ) (k : MapCounts t u n) where
         sampled : sampling && unsampled t u ≡ false
         sampled = rw (← unsampled-is t u, ← q) e
 
-        pub map-5 : t .counts .capacity < used + n → 5 ≡ mapRefusal t u sampling room
+        pub map-5 : t .counts .capacity < t .counts .used + n → 5 ≡ mapRefusal t u sampling room
         unfolding mapRefusal
         map-5 h =
             let a = k .used-is in
@@ -132,7 +115,7 @@ module _ (t : Table) (u : ℕ) (sampling : Bool) (room : ℕ) where
             lt-ltb _ _ (let x : t .counts .capacity < undeleted t + toMap t u = omega arith in x) in
             rw (y, lt-leb (t .counts .capacity) u l, sampled, f)
 
-        module _ (h : used + n ≤ t .counts .capacity) where
+        module _ (h : t .counts .used + n ≤ t .counts .capacity) where
           enough : ltb (t .counts .capacity) (undeleted t + toMap t u) ≡ false
           enough =
               let a = k .used-is in
@@ -199,16 +182,19 @@ module _ (t : Table) (room : ℕ) where
   unfolding newUserRefusal
   new-1 n = rw n
 
-  module _ (y : soundb t ≡ true) (used : ℕ) (a : used ≡ undeleted t) where
-    pub new-5 : t .counts .capacity < used + 1 → 5 ≡ newUserRefusal t room
+  module _ (y : soundb t ≡ true) where
+    pub new-5 : t .counts .capacity < t .counts .used + 1 → 5 ≡ newUserRefusal t room
     unfolding newUserRefusal
     new-5 h =
+        let a = sound-of t y .stored .used in
         let f : ltb (t .counts .capacity) (undeleted t + 1) ≡ true = lt-ltb _ _ (let x : t .counts .capacity < undeleted t + 1 = omega arith in x) in
         rw (y, f)
 
-    module _ (h : used + 1 ≤ t .counts .capacity) where
+    module _ (h : t .counts .used + 1 ≤ t .counts .capacity) where
       one-more : ltb (t .counts .capacity) (undeleted t + 1) ≡ false
-      one-more = le-ltb _ _ (let x : undeleted t + 1 ≤ t .counts .capacity = omega arith in x)
+      one-more =
+          let a = sound-of t y .stored .used in
+          le-ltb _ _ (let x : undeleted t + 1 ≤ t .counts .capacity = omega arith in x)
 
       pub new-2 : room < 3 → 2 ≡ newUserRefusal t room
       unfolding newUserRefusal

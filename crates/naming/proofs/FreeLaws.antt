@@ -5,19 +5,18 @@ use mathlib.Core.Bool.{true, false, _||_, not}
 use mathlib.Core.List.{List}
 use mathlib.Core.Logic.{⊎-elim}
 use native.Mathlib.Omega.{arith}
-use lib.Dec.{eqb, ltb, leb}
+use lib.Dec.{eqb, leb}
 use lib.ListN.{length, getD, set}
 use lib.Seq.{getD-set-same, getD-set-other}
-use borrow.Author.Tests.{lt-ltb, le-ltb, le-leb, lt-leb}
-use Rattle.base.specs.Bounded.{least, count}
+use borrow.Author.Tests.{le-leb, lt-leb}
+use Rattle.base.specs.Bounded.{least}
 use Rattle.base.proofs.Truth.{same}
-use Rattle.base.proofs.CountLaws.{count-up, count-stay}
 use Rattle.base.proofs.MemberLaws.{getD-default}
 use Rattle.scope.specs.Table.{modeOf}
 use Rattle.scope.proofs.ResultLaws.{word-none, word-some}
-use Rattle.changes.specs.Cursor.{NoneFree}
-use Rattle.changes.proofs.CursorLaws.{cursor-more, cursor-found, cursor-end, cursor-least, cursor-kept}
-use Rattle.naming.specs.Parts.{free, alive, freeFor, isUnsampled, MapBelow}
+use Rattle.scope.specs.Cursor.{NoneFree}
+use Rattle.scope.proofs.CursorLaws.{cursor-more, cursor-found, cursor-end, cursor-least, cursor-kept}
+use Rattle.naming.specs.Parts.{free, freeFor, isUnsampled, MapBelow}
 
 -- ---- the least deleted global
 
@@ -49,7 +48,7 @@ for-least records mark u g l e q = rw (← free-is records u l, e) q
 
 -- the cursor goes to the least deleted global
 pub for-passed : (records : List ℕ) (mark g : ℕ) → g ≡ least mark (free records) → NoneFree (free records) mark g
-for-passed records mark g e = cursor-least (free records) (free records) mark mark g e (omega arith) (λ k l n. n)
+for-passed records mark g e = cursor-least (free records) mark g e
 
 -- and is one after a global is taken
 pub taken-passed : (records : List ℕ) (mark mark′ g from : ℕ) → g < length records → mark ≤ mark′ → NoneFree (free records) mark from
@@ -62,17 +61,7 @@ taken-passed records mark mark′ g from b m h =
     (λ (e : k ≡ g → ⊥). rw (getD-set-other records g k 9 47 e) n)
     (same k g))
 
--- ---- the counts of a refusal
-
-pub undeleted-step : (records : List ℕ) (i n m : ℕ) → i < length records → n ≡ count i (alive records) → getD records i 0 < 36 → m ≡ n + 1
-    → m ≡ count (i + 1) (alive records)
-unfolding alive
-undeleted-step records i n m l e d q = count-up i n m (alive records) e (ap (λ (r : ℕ). ltb r 36) (getD-default records i 47 0 l) ∙ lt-ltb _ 36 d) q
-
-pub undeleted-stay : (records : List ℕ) (i n m : ℕ) → i < length records → n ≡ count i (alive records) → 36 ≤ getD records i 0 → m ≡ n
-    → m ≡ count (i + 1) (alive records)
-unfolding alive
-undeleted-stay records i n m l e d q = count-stay i n m (alive records) e (ap (λ (r : ℕ). ltb r 36) (getD-default records i 47 0 l) ∙ le-ltb _ 36 d) q
+-- ---- a user whose global is not Sample
 
 pub unsampled-none : (gu records : List ℕ) (u : ℕ) → getD gu u 0 ≡ 0 → false ≡ isUnsampled gu records u
 unfolding isUnsampled

@@ -1,5 +1,5 @@
 -- Laws of the inner mapping: the gap below a user is filled by the function itself, and the user is mapped after it.
-use Prim.Native.Nat.{ℕ, _+_, _-_, _≤_, _<_, max}
+use Prim.Native.Nat.{ℕ, _+_, _-_, _^_, _≤_, _<_, max}
 use mathlib.Core.Path.{_≡_, refl, sym, ap, _∙_, subst}
 use mathlib.Core.Bool.{true}
 use mathlib.Core.List.{List, [], _∷_, _++_}
@@ -10,7 +10,7 @@ use lib.Seq.{sets, length-sets}
 use Rattle.base.proofs.Truth.{split}
 use Rattle.scope.specs.declared.Counts.{Counts}
 use Rattle.scope.specs.declared.Global.{Global}
-use Rattle.scope.specs.Table.{Table, tableOf, coverUser, giveUser}
+use Rattle.scope.specs.Table.{Table, tableOf, mapCounts, giveUser}
 use Rattle.scope.specs.Sound.{soundb}
 use Rattle.scope.specs.Notes.{notesWords}
 use Rattle.scope.specs.Outcome.{Result, stay, _then_, each}
@@ -18,10 +18,10 @@ use Rattle.scope.specs.Map.{globalFor, mapOne, fillGap, mapUser}
 use Rattle.scope.proofs.SoundLaws.{sound-of, sound-to}
 use Rattle.scope.proofs.ResultLaws.{each-suc}
 use Rattle.scope.proofs.MapLaws.{Mappable, map-one-fresh, gapStep, Filled, GapRoom, fill-gap-filled, to-map-free, map-user-free, map-user-has, fill-gap-count}
-use Rattle.changes.specs.Cursor.{NoneFree}
+use Rattle.scope.specs.Cursor.{NoneFree}
 use Rattle.changes.specs.Leaves.{Leaves}
 use Rattle.changes.specs.Solvers.{Solvers, tableWith, solversOf}
-use Rattle.changes.proofs.CursorLaws.{cursor-start}
+use Rattle.scope.proofs.CursorLaws.{cursor-start}
 use Rattle.changes.proofs.LeavesLaws.{leaves-stay, leaves-giving, leaves-then, leaves-length, SameSizes, same-sizes}
 use Rattle.changes.proofs.TurnLaws.{turns-more}
 use Rattle.naming.specs.Parts.{free, freeFor}
@@ -165,17 +165,18 @@ OneAsks s u from at room =
     × ((u < length (s .globalFromUser))
     × ((u < length (s .records))
     × ((u < s .counts .capacity)
+    × ((s .counts .used + 1 < 2 ^ 32)
     × ((g < length (s .userFromGlobal))
     × ((g < length (s .records))
     × ((g < s .counts .capacity)
-    × (at + 3 ≤ room))))))))
+    × (at + 3 ≤ room)))))))))
 
 -- and what it leaves
 abbrev pub OneLeft : Table → ℕ → ℕ → Counts → Global → ℕ → ℕ → List ℕ → List ℕ → List ℕ → List ℕ → List ℕ → Type 0
 OneLeft s u at c global from next gu ug rc notes noted =
     let g = freeFor (s .records) (s .counts .global) u in
     (global .0 ≡ g)
-    × ((c ≡ coverUser (s .counts) u g)
+    × ((c ≡ mapCounts (s .counts) u g (getD (s .records) g 47))
     × ((NoneFree (free (s .records)) (s .counts .global) from)
     × ((next ≡ at + 3)
     × ((gu ≡ set (s .globalFromUser) u (g + 1))
@@ -227,14 +228,16 @@ module _ (t : Table) (u at i next : ℕ) (s : Table) (words words' : List ℕ) (
       let g = map-one-fresh s u m .within in
       let o = own-free s u in
       let z = m .sound .sizes in
+      let b = m .sound .stored .used in
       let w = m .within in
+      let r = m .room in
       let n = leaves-length _ _ _ _ _ _ (p .done) in
       let v = h .words in
       let q = p .done .moved in
       let c = fill-gap-count (i - t .counts .user) t in
       let d = gap-end t u at i next s words words' p l in
       let x = to-map-free t u (gap-new t u at i next s words words' h p e) in
-      (omega arith, (k, (omega arith, (omega arith, (omega arith, (omega arith, (omega arith, (omega arith, omega arith))))))))
+      (omega arith, (k, (omega arith, (omega arith, (omega arith, (omega arith, (omega arith, (omega arith, (omega arith, omega arith)))))))))
 
   -- what it leaves
   pub last-done : (c : Counts) (g : Global) (from next2 : ℕ) (gu ug rc words2 : List ℕ) → OneLeft s u next c g from next2 gu ug rc words' words2
@@ -251,7 +254,7 @@ module _ (t : Table) (u at i next : ℕ) (s : Table) (words words' : List ℕ) (
       words words2)
       (sym (map-user-free t u (gap-new t u at i next s words words' h p e))) (v, leaves-then (mapOne u) a (b .1)) in
       let q : c .global ≡ max (s .counts .global) (freeFor (s .records) (s .counts .global) u + 1) = ap (λ (d : Counts). d .global) (o .1 .0) in
-      let r = last-asks 0 (cursor-start _ _) .1 .1 .1 .1 .1 .1 .0 in (
+      let r = last-asks 0 (cursor-start _ _) .1 .1 .1 .1 .1 .1 .1 .0 in (
         (
           m .0,
           subst (λ (x : Table). Leaves (mapUser u t) at next2 x words words2)

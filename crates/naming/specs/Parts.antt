@@ -2,7 +2,7 @@
 use Prim.Native.Nat.{ℕ, _≤_}
 use mathlib.Core.Bool.{Bool, false, _||_, not}
 use mathlib.Core.List.{List}
-use lib.Dec.{eqb, ltb}
+use lib.Dec.{eqb}
 use lib.ListN.{getD}
 use Rattle.base.specs.Choice.{pick}
 use Rattle.base.specs.Bounded.{least}
@@ -11,10 +11,6 @@ use Rattle.scope.specs.Table.{word, modeOf, isDeleted}
 -- the test by which a global is free
 unfoldable pub free : List ℕ → ℕ → Bool
 free records g = isDeleted (getD records g 47)
-
--- and by which it is counted as undeleted
-unfoldable pub alive : List ℕ → ℕ → Bool
-alive records g = ltb (getD records g 47) 36
 
 -- `globalFor`, from the records and the global watermark
 unfoldable pub freeFor : List ℕ → ℕ → ℕ → ℕ

@@ -1,25 +1,25 @@
 // Map and New user. How the contracts read: crates/scope/specs/Contract.antt.
-use changes::least_free;
 use scope::Counts;
 use scope::Global;
 use scope::Note;
 use scope::User;
+use scope::least_free;
 use table::FoundGlobal;
 use table::global_of;
 use table::is_sound;
 use table::put_note;
 ghost use mathlib.Core.Path.{_≡_};
 ghost use mathlib.Core.List.{_∷_, []};
-ghost use Prim.Native.Nat.{_+_, _-_, _≤_, _<_};
+ghost use Prim.Native.Nat.{_+_, _-_, _^_, _≤_, _<_};
 ghost use lib.ListN.{length, getD, set};
-ghost use Rattle.base.specs.Bounded.{least, count};
+ghost use Rattle.base.specs.Bounded.{least};
 ghost use Rattle.base.specs.Lent.{old, new, Fills};
 ghost use Rattle.scope.specs.Contract.{before, lent, Meets};
-ghost use Rattle.scope.specs.Table.{word, coverUser};
+ghost use Rattle.scope.specs.Table.{word, mapCounts};
 ghost use Rattle.scope.specs.Map.{mapRefusal, mapOf, newUserRefusal, newUserOf};
-ghost use Rattle.changes.specs.Cursor.{NoneFree};
+ghost use Rattle.scope.specs.Cursor.{NoneFree};
 ghost use Rattle.naming.specs.Answers.{userMapped, newUserMapped};
-ghost use Rattle.naming.specs.Parts.{free, alive, freeFor, isUnsampled, MapBelow};
+ghost use Rattle.naming.specs.Parts.{free, freeFor, isUnsampled, MapBelow};
 ghost use Rattle.naming.specs.Asks.{UpAsks, UpLeaves};
 
 // A global and the cursor of free globals after its search.
@@ -102,12 +102,13 @@ fn map_one(
     requires { ⌜ user .0 < length (now gu) ⌝ }
     requires { ⌜ user .0 < length (now records) ⌝ }
     requires { ⌜ user .0 < c .capacity ⌝ }
+    requires { ⌜ c .used + 1 < 2 ^ 32 ⌝ }
     requires { let g = freeFor (now records) (c .global) (user .0) in
         ⌜ g < length (now ug) ⌝ ∗ ⌜ g < length (now records) ⌝ ∗ ⌜ g < c .capacity ⌝ }
     requires { ⌜ at + 3 ≤ length (now notes) ⌝ }
     ensures { λ r. let g = freeFor (old records) (c .global) (user .0) in
         ⌜ r .global .0 ≡ g ⌝
-        ∗ ⌜ r .counts ≡ coverUser c (user .0) g ⌝
+        ∗ ⌜ r .counts ≡ mapCounts c (user .0) g (getD (old records) g 47) ⌝
         ∗ ⌜ NoneFree (free (old records)) (c .global) (r .from) ⌝
         ∗ ⌜ r .at ≡ at + 3 ⌝ }
     ensures { λ _. let g = freeFor (old records) (c .global) (user .0) in
@@ -118,15 +119,14 @@ fn map_one(
 {
     let t = global_for(records, c.global, user, from);
     let global = t.global;
-    let next = at + 3;
-    records[global.0 as usize] = 9;
+    let past = at + 3;
     put_note(notes, at, Note::UserGranted(global, user));
-    let counts = c.map(gu, ug, user, global);
+    let counts = c.map(gu, ug, records, user, global, 9);
     Mapped {
         counts,
         global,
         from: t.from,
-        at: next,
+        at: past,
     }
 }
 
@@ -169,22 +169,6 @@ pub fn map_up(
         from: k,
         at: next,
     }
-}
-
-// How many globals are not deleted.
-pub fn count_undeleted(records: &[u32]) -> u32
-    requires { ⌜ length (now records) ≤ 4096 ⌝ }
-    ensures { λ r. ⌜ r ≡ count (length (old records)) (alive (old records)) ⌝ }
-{
-    let mut n: u32 = 0;
-    let mut i = 0;
-    while i < records.len() {
-        if records[i] < 36 {
-            n += 1;
-        }
-        i += 1;
-    }
-    n
 }
 
 // The user has a global, and that is not Sample.
@@ -244,9 +228,8 @@ fn map_refusal(
     if sampling & is_unsampled(gu, records, user) {
         return 4;
     }
-    let used = count_undeleted(records);
     let n = to_map(gu, c.user, user);
-    if c.capacity < used + n {
+    if c.capacity < c.used + n {
         return 5;
     }
     if room < 3 * (n as usize) {
@@ -309,7 +292,7 @@ fn new_user_refusal(
     if !is_sound(c, gu, ug, sg, gs, assignment, records) {
         return 1;
     }
-    if c.capacity < count_undeleted(records) + 1 {
+    if c.capacity < c.used + 1 {
         return 5;
     }
     if room < 3 {

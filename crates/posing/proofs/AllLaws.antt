@@ -16,11 +16,9 @@ use Rattle.scope.proofs.SoundLaws.{sound-of, sound-to}
 use Rattle.scope.proofs.ResultLaws.{each-value}
 use Rattle.scope.proofs.PoseLaws.{PoseRoom, poseStep, pose-room, pose-posed, pose-part-words, Posed}
 use Rattle.changes.specs.Leaves.{Leaves}
-use Rattle.changes.proofs.CursorLaws.{cursor-start}
 use Rattle.changes.proofs.LeavesLaws.{leaves-giving, leaves-length, SameSizes, same-sizes}
 use Rattle.changes.proofs.TurnLaws.{each-up, each-count, turns-none, turns-more}
-use Rattle.posing.specs.declared.Cursors.{Cursors}
-use Rattle.posing.specs.Asks.{Ahead, poseUser, PlaceAsks, PoseAsks}
+use Rattle.posing.specs.Asks.{poseUser, PlaceAsks, PoseAsks}
 use Rattle.posing.proofs.PlaceLaws.{place-small}
 
 -- The first i literals are done.
@@ -32,9 +30,6 @@ pub record LitsDone (t : Table) (lits : List ℕ) (i at : ℕ) (s : Table) (word
 pub lits-start : (t : Table) (lits words out : List ℕ) → LitsDone t lits 0 0 t words words out out
 unfolding each
 lits-start t lits words out = record { most = omega arith; step = turns-none (poseStep lits) t words; filled = refl }
-
-pub ahead-first : (t : Table) (k : Cursors) → k .solver ≡ 0 → k .global ≡ 0 → Ahead t k
-ahead-first t k e q = record { solver = rw e (cursor-start _ _); global = rw q (cursor-start _ _) }
 
 pose-room-asked : (t : Table) (lits : List ℕ) (outs room : ℕ) → PoseAsks t lits outs room → PoseRoom t lits
 pose-room-asked t lits outs room h = record { sound = sound-of t (h .sound); within = h .within .at; room = h .enough }

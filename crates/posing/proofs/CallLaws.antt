@@ -27,7 +27,7 @@ use Rattle.changes.specs.Leaves.{Leaves}
 use Rattle.changes.proofs.LeavesLaws.{notes-told}
 use Rattle.changes.proofs.CallLaws.{call-refused, call-accepted, refused-words, accepted-words}
 use Rattle.naming.specs.Parts.{isUnsampled}
-use Rattle.naming.proofs.CallLaws.{undeleted-most}
+use Rattle.scope.proofs.MoveLaws.{used-most}
 use Rattle.distinct.specs.declared.Needs.{Needs}
 use Rattle.scope.specs.Distinct.{countNamed, isLow, needsGrant, Within}
 use Rattle.distinct.specs.Users.{needsBy}
@@ -38,25 +38,27 @@ use Rattle.posing.specs.declared.PosedLits.the-variants.{Done, Refused}
 use Rattle.posing.specs.Answers.{posed}
 use Rattle.posing.specs.Asks.{PoseAsks}
 
--- ---- what the counting gave
+-- ---- the stored number of undeleted globals, and what the counting gave
 
-pub record PoseCounts (t : Table) (lits : List ℕ) (used low top grants : ℕ) : Type 0 where
-  pub used-is : used ≡ undeleted t
+pub record PoseCounts (t : Table) (lits : List ℕ) (low top grants : ℕ) : Type 0 where
+  pub used-is : t .counts .used ≡ undeleted t
   pub users-is : low + (top - t .counts .user) ≡ usersToMap t lits
   pub grants-is : grants ≡ usersToGrant t lits
-  pub used-most : used ≤ 4096
+  pub capacity-most : t .counts .capacity ≤ 4096
+  pub used-most : t .counts .used ≤ t .counts .capacity
   pub low-most : low ≤ 4096
   pub above : t .counts .user ≤ top
   pub top-most : top ≤ 4096
   pub grants-most : grants ≤ 4096
 
-pub counts-by : (t : Table) (lits : List ℕ) (used : ℕ) (n : Needs) → soundb t ≡ true → Within lits (t .counts .capacity)
-    → used ≡ undeleted t
+pub counts-by : (t : Table) (lits : List ℕ) (n : Needs) → soundb t ≡ true → Within lits (t .counts .capacity)
     → n ≡ needsBy (countNamed 4096) (t .counts .user) (t .globalFromUser) (t .solverFromGlobal) lits
-    → (used ≤ t .counts .capacity) × PoseCounts t lits used (n .low) (n .top) (n .grants)
-counts-by t lits used n y w e h =
-    let z = sound-of t y .sizes in
-    let c = undeleted-most t in
+    → PoseCounts t lits (n .low) (n .top) (n .grants)
+counts-by t lits n y w h =
+    let s = sound-of t y in
+    let z = s .sizes in
+    let e = s .stored .used in
+    let c = used-most t s in
     let l = ap (λ (k : Needs). k .low) h in
     let p = ap (λ (k : Needs). k .top) h in
     let g = ap (λ (k : Needs). k .grants) h in
@@ -64,19 +66,18 @@ counts-by t lits used n y w e h =
     let b = named-most 4096 (needsGrant (t .globalFromUser) (t .solverFromGlobal)) lits in
     let m = after-most t lits y w in
     let u = top-low (t .counts .user) lits in
-    let v = users-are t lits y w in (
-      omega arith,
-      record {
-        used-is = e;
-        users-is = omega arith;
-        grants-is = g ∙ grants-are t lits y w;
-        used-most = omega arith;
-        low-most = omega arith;
-        above = omega arith;
-        top-most = omega arith;
-        grants-most = omega arith;
-      },
-    )
+    let v = users-are t lits y w in
+    record {
+      used-is = e;
+      users-is = omega arith;
+      grants-is = g ∙ grants-are t lits y w;
+      capacity-most = omega arith;
+      used-most = omega arith;
+      low-most = omega arith;
+      above = omega arith;
+      top-most = omega arith;
+      grants-most = omega arith;
+    }
 
 -- ---- refusals
 
@@ -117,11 +118,11 @@ module _ (t : Table) (lits : List ℕ) (sampling : Bool) (outs room : ℕ) where
             rw (y, le-ltb 8192 (length lits) l, a, s)
 
         module _ (b : Bool) (q : b ≡ sampling && anyOf (λ c. isUnsampled (t .globalFromUser) (t .records) (indexOf c)) lits) (e : b ≡ false)
-            (used low top grants : ℕ) (k : PoseCounts t lits used low top grants) where
+            (low top grants : ℕ) (k : PoseCounts t lits low top grants) where
           sampled : sampling && anyOf (λ c. unsampled t (indexOf c)) lits ≡ false
           sampled = ap (λ (x : Bool). sampling && x) (sym (unsampled-are t lits)) ∙ sym q ∙ e
 
-          pub pose-5 : t .counts .capacity < used + (low + (top - t .counts .user)) → 5 ≡ poseRefusal t lits sampling outs room
+          pub pose-5 : t .counts .capacity < t .counts .used + (low + (top - t .counts .user)) → 5 ≡ poseRefusal t lits sampling outs room
           unfolding poseRefusal
           pose-5 h =
               let c = k .used-is in
@@ -130,7 +131,7 @@ module _ (t : Table) (lits : List ℕ) (sampling : Bool) (outs room : ℕ) where
               lt-ltb _ _ (let x : t .counts .capacity < undeleted t + usersToMap t lits = omega arith in x) in
               rw (y, le-ltb 8192 (length lits) l, a, sampled, f)
 
-          module _ (h : used + (low + (top - t .counts .user)) ≤ t .counts .capacity) where
+          module _ (h : t .counts .used + (low + (top - t .counts .user)) ≤ t .counts .capacity) where
             enough : ltb (t .counts .capacity) (undeleted t + usersToMap t lits) ≡ false
             enough =
                 let c = k .used-is in

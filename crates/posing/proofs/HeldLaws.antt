@@ -18,7 +18,7 @@ use Rattle.base.proofs.MemberLaws.{word-inside, any-append, any-intro, or-left,
 use Rattle.base.proofs.StoreLaws.{stored-part, copied, copy-start, copy-next, copy-end}
 use Rattle.base.proofs.Truth.{same, split}
 use Rattle.scope.specs.Literals.{codeOf, indexOf, signOf}
-use Rattle.scope.specs.Table.{Table, undeleted}
+use Rattle.scope.specs.Table.{Table}
 use Rattle.scope.specs.Sound.{soundb}
 use Rattle.scope.specs.Pose.{poseOf}
 use Rattle.scope.specs.Contract.{Said, Does}
@@ -35,7 +35,7 @@ use Rattle.posing.specs.declared.Tried.{Tried}
 use Rattle.posing.specs.Answers.{posed}
 use Rattle.posing.specs.Parts.{heldWord, heldCode, HeldTo, HeldRun, none, more, AllHeld, HeldTried}
 use Rattle.posing.proofs.AllLaws.{LitsDone, lits-start, lits-more, lits-end}
-use Rattle.posing.proofs.CallLaws.{pose-0, pose-done, counts-by}
+use Rattle.posing.proofs.CallLaws.{pose-0, pose-done, PoseCounts, counts-by}
 use Rattle.posing.proofs.PlaceLaws.{place-held}
 
 -- ---- a run
@@ -213,6 +213,10 @@ module _ (t : Table) (lits : List ℕ) (n : ℕ) (b : Bool) (y : soundb t ≡ tr
       → b ≡ anyOf (λ c. leb (t .counts .capacity) (indexOf c)) lits
   rest-outside e = e ∙ ap (anyOf (λ c. leb (t .counts .capacity) (indexOf c))) (part-is lits n) ∙ outside-rest t lits n y h
 
+  pub rest-inside : b ≡ anyOf (λ c. leb (t .counts .capacity) (indexOf c)) (take (length lits - n) (drop n lits)) → b ≡ false
+      → anyOf (λ c. leb (t .counts .capacity) (indexOf c)) lits ≡ false
+  rest-inside e q = sym (rest-outside e) ∙ q
+
   pub rest-asks : length lits ≤ 8192
       → b ≡ anyOf (λ c. leb (t .counts .capacity) (indexOf c)) (take (length lits - n) (drop n lits)) → b ≡ false
       → (length (take (length lits - n) (drop n lits)) ≤ 8192) × Within (take (length lits - n) (drop n lits)) 4096
@@ -221,12 +225,13 @@ module _ (t : Table) (lits : List ℕ) (n : ℕ) (b : Bool) (y : soundb t ≡ tr
       let d = ap length (part-is lits n) ∙ length-drop n lits in
       (omega arith, within-up _ (t .counts .capacity) 4096 (omega arith) (within-of _ (t .counts .capacity) (sym e ∙ q)))
 
-pub rest-needs : (t : Table) (lits : List ℕ) (n : ℕ) (k : Needs) → soundb t ≡ true → HeldTo (t .globalFromUser) (t .solverFromGlobal) lits n
-    → k ≡ needsBy (countNamed 4096) (t .counts .user) (t .globalFromUser) (t .solverFromGlobal) (take (length lits - n) (drop n lits))
-    → k ≡ needsBy (countNamed 4096) (t .counts .user) (t .globalFromUser) (t .solverFromGlobal) lits
-rest-needs t lits n k y h e =
-    e ∙ ap (needsBy (countNamed 4096) (t .counts .user) (t .globalFromUser) (t .solverFromGlobal)) (part-is lits n)
-    ∙ needs-rest t lits n y h
+  -- what is counted of the rest is what all need
+  pub rest-counts : (k : Needs) → b ≡ anyOf (λ c. leb (t .counts .capacity) (indexOf c)) (take (length lits - n) (drop n lits)) → b ≡ false
+      → k ≡ needsBy (countNamed 4096) (t .counts .user) (t .globalFromUser) (t .solverFromGlobal) (take (length lits - n) (drop n lits))
+      → PoseCounts t lits (k .low) (k .top) (k .grants)
+  rest-counts k e q s =
+      counts-by t lits k y (within-of _ (t .counts .capacity) (rest-inside e q))
+      (s ∙ ap (needsBy (countNamed 4096) (t .counts .user) (t .globalFromUser) (t .solverFromGlobal)) (part-is lits n) ∙ needs-rest t lits n y h)
 
 -- ---- where all users have solver indices nothing is needed
 
@@ -249,10 +254,9 @@ pub pose-held : (t : Table) (lits : List ℕ) (sampling : Bool) (out out' words 
     × (out' ≡ sets out 0 (poseOf t lits sampling (length out) (length words) .words))
 pose-held t lits sampling out out' words y a e =
     let w : Within lits (t .counts .capacity) = record { at = inside t lits (length lits) y (a .held) } in
-    let k = counts-by t lits (undeleted t) _ y w refl (none-needed t lits y (a .held)) in
-    let u = k .0 in
+    let k = counts-by t lits _ y w (none-needed t lits y (a .held)) in
     let r = pose-0 t lits sampling (length out) (length words) y (a .few) (within-none lits (t .counts .capacity) w) _ (sym (a .sampled)) refl
-    (undeleted t) 0 (t .counts .user) 0 (k .1) (omega arith)
+    0 (t .counts .user) 0 k (omega arith)
     (or-neither (le-ltb (length out) (length lits) (a .places)) (le-ltb (length words) _ (omega arith))) in
     pose-done t lits sampling 0 0 t out out' words words r refl
     (lits-end t lits (length lits) 0 t words words out out' (omega arith)

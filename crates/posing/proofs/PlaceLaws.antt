@@ -12,7 +12,7 @@ use Rattle.scope.proofs.ResultLaws.{word-none, word-some}
 use Rattle.scope.proofs.SoundLaws.{sound-of, sound-to}
 use Rattle.scope.proofs.MapLaws.{MapRoom, map-user-has, map-user-mapped, mapped-global}
 use Rattle.scope.proofs.GrantLaws.{grant-has, grant-granted}
-use Rattle.changes.specs.Cursor.{NoneFree, AllMapped}
+use Rattle.scope.specs.Cursor.{NoneFree}
 use Rattle.changes.specs.Leaves.{Leaves}
 use Rattle.changes.proofs.LeavesLaws.{leaves-stay, leaves-then, leaves-length}
 use Rattle.table.specs.declared.FoundSolver.{FoundSolver}
@@ -21,7 +21,7 @@ use Rattle.granting.specs.Asks.{GrantAsks}
 use Rattle.naming.specs.Parts.{free}
 use Rattle.naming.specs.Asks.{MapAsks}
 use Rattle.posing.specs.Parts.{heldWord}
-use Rattle.posing.specs.Asks.{Ahead, poseUser, PlaceAsks}
+use Rattle.posing.specs.Asks.{poseUser, PlaceAsks}
 
 map-room : (t : Table) (u at room : ℕ) → PlaceAsks t u at room → MapRoom t u
 map-room t u at room h = record { sound = sound-of t (h .sound); within = h .within; room = h .enough }
@@ -59,30 +59,17 @@ place-leaves t u at g at1 s at2 t1 t2 words words1 words2 e a f b = (
   leaves-then (grant (mapUser u t .value)) a (subst (λ (j : ℕ). Leaves (grant j t1) at1 at2 t2 words1 words2) e b),
 )
 
--- a mapping leaves the solver indices alone
-pub solver-ahead : (t : Table) (u at at1 from : ℕ) (t1 : Table) (words words1 : List ℕ) → PlaceAsks t u at (length words)
-    → Leaves (mapUser u t) at at1 t1 words words1
-    → AllMapped (t .globalFromSolver) (t .counts .solver) from
-    → AllMapped (t1 .globalFromSolver) (t1 .counts .solver) from
-solver-ahead t u at at1 from t1 words words1 h m p =
-    let x = map-user-mapped t u (map-room t u at _ h) .same in
-    let a : t1 .globalFromSolver ≡ t .globalFromSolver = ap (λ (s : Table). s .globalFromSolver) (m .table) ∙ x .globalFromSolver in
-    let b : t1 .counts .solver ≡ t .counts .solver = ap (λ (s : Table). s .counts .solver) (m .table) ∙ x .solver in
-    subst (λ (l : List ℕ). AllMapped l (t1 .counts .solver) from) (sym a)
-    (subst (λ (n : ℕ). AllMapped (t .globalFromSolver) n from) (sym b) p)
-
--- and a grant the globals
-pub global-ahead : (g at1 at2 from after : ℕ) (t1 t2 : Table) (words1 words2 : List ℕ)
+-- a grant leaves the globals alone
+pub global-ahead : (g at1 at2 from : ℕ) (t1 t2 : Table) (words1 words2 : List ℕ)
     → GrantAsks t1 g at1 (length words1)
     → Leaves (grant g t1) at1 at2 t2 words1 words2
     → NoneFree (free (t1 .records)) (t1 .counts .global) from
-    → AllMapped (t2 .globalFromSolver) (t2 .counts .solver) after
-    → Ahead t2 (record { solver = after; global = from })
-global-ahead g at1 at2 from after t1 t2 words1 words2 h m p q =
+    → NoneFree (free (t2 .records)) (t2 .counts .global) from
+global-ahead g at1 at2 from t1 t2 words1 words2 h m p =
     let x = grant-granted t1 g (sound-of t1 (h .sound)) (h .alive) .same in
     let a : t2 .records ≡ t1 .records = ap (λ (s : Table). s .records) (m .table) ∙ x .records in
     let b : t2 .counts .global ≡ t1 .counts .global = ap (λ (s : Table). s .counts .global) (m .table) ∙ x .global in
-    record { solver = q; global = rw (a, b) p }
+    rw (a, b) p
 
 -- ---- a user that has a solver index already
 

@@ -10,15 +10,7 @@ use Rattle.scope.specs.Outcome.{Result, _then_}
 use Rattle.scope.specs.Map.{mapUser, toMap}
 use Rattle.scope.specs.Grant.{grant}
 use Rattle.scope.specs.Pose.{pose, usersToMap}
-use Rattle.changes.specs.Cursor.{NoneFree, AllMapped}
-use Rattle.naming.specs.Parts.{free}
-use Rattle.posing.specs.declared.Cursors.{Cursors}
 use Rattle.scope.specs.Distinct.{Within}
-
--- the cursors of free solver indices and free globals
-pub record Ahead (t : Table) (k : Cursors) : Type 0 where
-  pub solver : AllMapped (t .globalFromSolver) (t .counts .solver) (k .solver)
-  pub global : NoneFree (free (t .records)) (t .counts .global) (k .global)
 
 -- a user is mapped, and its global granted a solver index
 abbrev pub poseUser : ℕ → Table → Result ℕ

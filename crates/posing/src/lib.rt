@@ -2,7 +2,6 @@
 use changes::Passed;
 use distinct::count_needs;
 use granting::grant_index;
-use naming::count_undeleted;
 use naming::is_unsampled;
 use naming::map_up;
 use scope::Counts;
@@ -25,24 +24,19 @@ ghost use Rattle.scope.specs.Literals.{indexOf};
 ghost use Rattle.scope.specs.Contract.{given, before, after, lent, Meets};
 ghost use Rattle.scope.specs.Pose.{pose, poseRefusal, poseOf};
 ghost use Rattle.scope.specs.Sound.{soundb};
+ghost use Rattle.scope.specs.Cursor.{NoneFree};
 ghost use Rattle.changes.specs.Leaves.{Leaves};
 ghost use Rattle.table.specs.Found.{foundSolver};
-ghost use Rattle.naming.specs.Parts.{isUnsampled, MapBelow};
+ghost use Rattle.naming.specs.Parts.{free, isUnsampled, MapBelow};
 ghost use Rattle.posing.specs.Answers.{posed};
 ghost use Rattle.posing.specs.Parts.{heldWord, HeldTo, HeldRun, HeldTried};
-ghost use Rattle.posing.specs.Asks.{Ahead, poseUser, PlaceAsks, PoseAsks};
+ghost use Rattle.posing.specs.Asks.{poseUser, PlaceAsks, PoseAsks};
 
-// Where the searches for a free solver index and for a free global go on.
-pub struct Cursors {
-    pub solver: u32,
-    pub global: u32,
-}
-
-// A user's solver index, with the counts, the cursors and the place in the notes after it.
+// A user's solver index, with the counts, the cursor of free globals and the place in the notes after it.
 pub struct Placed {
     pub counts: Counts,
     pub solver: Solver,
-    pub cursors: Cursors,
+    pub from: u32,
     pub at: usize,
 }
 
@@ -58,17 +52,6 @@ pub enum PosedLits {
     Refused(u32),
 }
 
-// Both searches start at 0.
-fn first_cursors() -> Cursors
-    ensures { λ r. ⌜ r .solver ≡ 0 ⌝ }
-    ensures { λ r. ⌜ r .global ≡ 0 ⌝ }
-{
-    Cursors {
-        solver: 0,
-        global: 0,
-    }
-}
-
 // The solver index that a user has already.
 fn held_solver(gu: &[u32], sg: &[u32], user: User) -> FoundSolver
     ensures { λ r. ⌜ r ≡ foundSolver (heldWord (old gu) (old sg) (user .0)) ⌝ }
@@ -79,7 +62,7 @@ fn held_solver(gu: &[u32], sg: &[u32], user: User) -> FoundSolver
     solver_of(sg, g)
 }
 
-// The solver index of a user of a sound table: mapped, then granted.
+// The solver index of a user of a sound table: mapped, where a free global is searched from the cursor on, then granted.
 fn place_new(
     c: Counts,
     gu: &mut [u32],
@@ -89,41 +72,27 @@ fn place_new(
     assignment: &mut [u32],
     records: &mut [u32],
     user: User,
-    k: Cursors,
+    from: u32,
     at: usize,
     notes: &mut [u32],
 ) -> Placed
     requires { ⌜ PlaceAsks (given c gu ug sg gs assignment records) (user .0) at (length (now notes)) ⌝ }
-    requires { ⌜ Ahead (given c gu ug sg gs assignment records) k ⌝ }
+    requires { ⌜ NoneFree (free (now records)) (c .global) from ⌝ }
     ensures { λ r. ⌜ r .solver .0 ≡ poseUser (user .0) (before c gu ug sg gs assignment records) .value ⌝ }
     ensures { λ r. ⌜ Leaves (poseUser (user .0) (before c gu ug sg gs assignment records)) at (r .at)
         (after (r .counts) gu ug sg gs assignment records) (old notes) (new notes) ⌝ }
-    ensures { λ r. ⌜ Ahead (after (r .counts) gu ug sg gs assignment records) (r .cursors) ⌝ }
+    ensures { λ r. ⌜ NoneFree (free (new records)) (r .counts .global) (r .from) ⌝ }
 {
-    let m = map_up(c, gu, ug, records, user, k.global, at, notes);
+    let m = map_up(c, gu, ug, records, user, from, at, notes);
     let counts = m.counts;
     let global = m.global;
-    let h = grant_index(
-        counts,
-        sg,
-        gs,
-        assignment,
-        records,
-        global,
-        k.solver,
-        m.at,
-        notes,
-    );
+    let h = grant_index(counts, sg, gs, assignment, records, global, m.at, notes);
     let counts = h.counts;
     let solver = h.solver;
-    let cursors = Cursors {
-        solver: h.from,
-        global: m.from,
-    };
     Placed {
         counts,
         solver,
-        cursors,
+        from: m.from,
         at: h.at,
     }
 }
@@ -165,7 +134,7 @@ fn place_all(
         ∗ ⌜ Fills out 0 (x .value) ⌝ }
 {
     let mut cur = c;
-    let mut k = first_cursors();
+    let mut k = 0;
     let mut at: usize = 0;
     let mut i: usize = 0;
     loop {
@@ -177,7 +146,7 @@ fn place_all(
         let user = User(code / 2);
         let p = place_new(cur, gu, ug, sg, gs, assignment, records, user, k, at, notes);
         cur = p.counts;
-        k = p.cursors;
+        k = p.from;
         at = p.at;
         let solver = p.solver;
         out[i] = 2 * solver.0 + code % 2;
@@ -302,10 +271,9 @@ fn pose_refusal(
     if any_unsampled(gu, records, lits, sampling) {
         return 4;
     }
-    let used = count_undeleted(records);
     let n = count_needs(c.user, gu, sg, rest);
     let users = n.low + (n.top - c.user);
-    if c.capacity < used + users {
+    if c.capacity < c.used + users {
         return 5;
     }
     let words = 3 * ((users + n.grants) as usize);

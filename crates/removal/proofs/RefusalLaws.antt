@@ -32,15 +32,15 @@ module _ (t : Table) (s : ℕ) (g : Global) (e : At g ≡ foundGlobal (getD (t .
   remove-is = let q = global-word _ (At g) e in let z : holderOf t s ≡ g .0 = omega arith in ap (λ (i : ℕ). removeHeld i s t) z
 
   pub remove-holding : soundb t ≡ true
-      → Holding (t .userFromGlobal) (t .solverFromGlobal) (t .globalFromSolver) (t .assignment) (t .records) (g .0) s
+      → Holding (t .counts) (t .userFromGlobal) (t .solverFromGlobal) (t .globalFromSolver) (t .assignment) (t .records) (g .0) s
   remove-holding y = holding-of t (sound-of t y) s (g .0) (global-word _ (At g) e)
 
   -- the words of the global are there; so is the record of the index's own number, so that a program that reads this one is refused for its answer
   pub remove-reads : soundb t ≡ true → (g .0 < length (t .userFromGlobal)) × (g .0 < length (t .records)) × (s < length (t .records))
   remove-reads y =
       let h = remove-holding y in
-      let l = h .live in
-      let k = h .solver in
+      let l = h .held .live in
+      let k = h .held .solver in
       let z = sound-of t y .sizes in
       (l .user, l .words, omega arith)
 
@@ -59,7 +59,7 @@ module _ (t : Table) (s room : ℕ) where
       count =
           ap (λ (x : Result (List ℕ)). length (x .notes)) (remove-is t s g e)
           ∙ removal-notes (g .0) s t
-          ∙ ap (removalNotes (getD (t .userFromGlobal) (g .0) 0)) (sym (record-read t (g .0) (remove-holding t s g e y .live .words)))
+          ∙ ap (removalNotes (getD (t .userFromGlobal) (g .0) 0)) (sym (record-read t (g .0) (remove-holding t s g e y .held .live .words)))
 
       held : eqb (getD (t .globalFromSolver) s 0) 0 ≡ false
       held = let q = global-word _ (At g) e in ne-eqb (getD (t .globalFromSolver) s 0) 0 (λ z. omega arith)
@@ -69,7 +69,7 @@ module _ (t : Table) (s room : ℕ) where
       read =
           let q = global-word _ (At g) e in
           let z : g .0 ≡ holderOf t s = omega arith in
-          record-read t (g .0) (remove-holding t s g e y .live .words) ∙ ap (recordOf t) z
+          record-read t (g .0) (remove-holding t s g e y .held .live .words) ∙ ap (recordOf t) z
 
       pub remove-16 : eqb (assumedOf (getD (t .records) (g .0) 0)) 1 ≡ true → 16 ≡ removeRefusal t s room
       unfolding removeRefusal notHeld

@@ -10,7 +10,7 @@ use lib.Seq.{sets}
 use borrow.Author.Tests.{eqb-false, ltb-false, not-false}
 use Rattle.scope.specs.declared.Counts.{Counts}
 use Rattle.scope.specs.declared.Global.{Global}
-use Rattle.scope.specs.Table.{Table, tableOf, recordOf, assumedOf, freshRecord, takeSolver}
+use Rattle.scope.specs.Table.{Table, tableOf, recordOf, assumedOf, freshRecord, takeSolver, removeCounts}
 use Rattle.scope.specs.Sound.{soundb}
 use Rattle.scope.specs.Notes.{solver-, notesWords}
 use Rattle.scope.specs.Outcome.{Result}
@@ -39,14 +39,15 @@ abbrev taken : ℕ → ℕ → Table → Result (List ℕ)
 taken g s t = record { value = []; table = takeSolver g s t; notes = solver- g ∷ [] }
 
 module _ (t : Table) (g s : ℕ) (d : Counts) (sg gs : List ℕ)
-    (e : (d ≡ t .counts) × ((sg ≡ set (t .solverFromGlobal) g 0) × (gs ≡ set (t .globalFromSolver) s 0))) where
+    (e : (d ≡ removeCounts (t .counts) gs) × ((sg ≡ set (t .solverFromGlobal) g 0) × (gs ≡ set (t .globalFromSolver) s 0))) where
   mid : Table
   mid = tableOf d (t .globalFromUser) (t .userFromGlobal) sg gs (t .assignment) (t .records)
 
   mid-is : mid ≡ takeSolver g s t
   unfolding mid takeSolver
   mid-is =
-      λ i. tableOf (e .0 i) (t .globalFromUser) (t .userFromGlobal) (e .1 .0 i) (e .1 .1 i) (t .assignment) (t .records)
+      let k = e .0 ∙ ap (removeCounts (t .counts)) (e .1 .1) in
+      λ i. tableOf (k i) (t .globalFromUser) (t .userFromGlobal) (e .1 .0 i) (e .1 .1 i) (t .assignment) (t .records)
 
   taken-leaves : (at : ℕ) (words words2 : List ℕ) → words2 ≡ sets words at (1 ∷ g ∷ 0 ∷ []) → Leaves (taken g s t) at (at + 3) mid words words2
   unfolding notesWords
@@ -60,24 +61,26 @@ module _ (t : Table) (g s : ℕ) (d : Counts) (sg gs : List ℕ)
       subst (λ (n : ℕ). Leaves (removeHeld g s t) at n left words words3) (sym e) (leaves-then (deleteIfUnused g) (taken-leaves at words words2 q) k)
 
   pub remove-asks : (at room room2 : ℕ)
-      → RemoveAsks (t .userFromGlobal) (t .solverFromGlobal) (t .globalFromSolver) (t .records) g s at room → room2 ≡ room
-      → Live (t .userFromGlobal) sg (t .records) g
+      → RemoveAsks (t .counts) (t .userFromGlobal) (t .solverFromGlobal) (t .globalFromSolver) (t .records) g s at room → room2 ≡ room
+      → Live d (t .userFromGlobal) sg (t .records) g
       × ((gu2 gs2 a : List ℕ) → Room (deleteIfUnused g (tableOf d gu2 (t .userFromGlobal) sg gs2 a (t .records))) (at + 3) room2)
   unfolding removeHeld mid
   remove-asks at room room2 h q = (live, delete-any g mid (at + 3) room2 (subst (λ (u : Table). Room (deleteIfUnused g u) (at + 3) room2) (sym mid-is) words))
     where
-      live : Live (t .userFromGlobal) sg (t .records) g
+      live : Live d (t .userFromGlobal) sg (t .records) g
       live =
-          let l = h .live in
+          let l = h .held .live in
+          let n : d .used ≡ t .counts .used = ap (λ (k : Counts). k .used) (e .0) in
+          let m = l .used in
           let x : length sg ≡ length (t .solverFromGlobal) = ap length (e .1 .0) ∙ length-set (t .solverFromGlobal) g 0 in
-          record { user = l .user; solver = omega arith; words = l .words; small = l .small; undeleted = l .undeleted }
+          record { user = l .user; solver = omega arith; words = l .words; small = l .small; undeleted = l .undeleted; used = omega arith }
 
       words : Room (deleteIfUnused g (takeSolver g s t)) (at + 3) room2
       words = let a = h .words in let k = removal-notes g s t in record { words = omega arith }
 
 -- there is room for S(g,-)
-pub remove-room : (ug sg gs records : List ℕ) (g s at room : ℕ) → RemoveAsks ug sg gs records g s at room → at + 3 ≤ room
-remove-room ug sg gs records g s at room h = let a = h .words in let k = removal-some (getD ug g 0) (getD records g freshRecord) in omega arith
+pub remove-room : (c : Counts) (ug sg gs records : List ℕ) (g s at room : ℕ) → RemoveAsks c ug sg gs records g s at room → at + 3 ≤ room
+remove-room c ug sg gs records g s at room h = let a = h .words in let k = removal-some (getD ug g 0) (getD records g freshRecord) in omega arith
 
 -- ---- the call
 
@@ -102,13 +105,13 @@ module _ (t : Table) (s room : ℕ) (h : Removable t s room) where
   never-nothing e = h .held (global-word _ Nothing e)
 
   module _ (g : Global) (e : At g ≡ foundGlobal (getD (t .globalFromSolver) s 0)) where
-    pub held-asks : RemoveAsks (t .userFromGlobal) (t .solverFromGlobal) (t .globalFromSolver) (t .records) (g .0) s 0 room
+    pub held-asks : RemoveAsks (t .counts) (t .userFromGlobal) (t .solverFromGlobal) (t .globalFromSolver) (t .records) (g .0) s 0 room
     held-asks =
         let k = remove-holding t s g e (h .sound) in
         let n = removal-notes (g .0) s t in
         let x = ap (λ (y : Result (List ℕ)). length (y .notes)) (remove-is t s g e) in
         let w = h .words in
-        record { live = k .live; solver = k .solver; words = omega arith }
+        record { held = k .held; words = omega arith }
 
     -- its notes are at most two
     pub held-fits : (next : ℕ) (left : Table) (words words2 : List ℕ) → Leaves (removeHeld (g .0) s t) 0 next left words words2 → next / 3 < 2 ^ 32

@@ -43,11 +43,12 @@ sweep-end t s at left words words2 e h = subst (λ (i : ℕ). Leaves (each i swe
 
 module _ (t : Table) (y : soundb t ≡ true) (s at : ℕ) (left : Table) (words words2 : List ℕ) (h : Leaves (each s sweepOne t) 0 at left words words2) where
   pub sweep-asks : (room : ℕ) → s < t .counts .solver → Room (sweep t) 0 room → room ≡ length words
-      → SweepAsks (left .userFromGlobal) (left .solverFromGlobal) (left .globalFromSolver) (left .assignment) (left .records) s at (length words2)
+      → SweepAsks (left .counts) (left .userFromGlobal) (left .solverFromGlobal) (left .globalFromSolver) (left .assignment) (left .records) s at
+      (length words2)
   unfolding sweep
   sweep-asks room l r e =
       let p = subst (λ (u : Table). Sound u) (sym (h .table)) (sweep-passed t (sound-of t y) s .sound) in
-      let n = one-notes s left (λ g q. holding-of left p s g q .live .words) in
+      let n = one-notes s left (λ g q. holding-of left p s g q .held .live .words) in
       let w = turns-room s (t .counts .solver) sweepOne t at left words words2
       (subst (λ (m : ℕ). Room (each (t .counts .solver) sweepOne t) 0 m) e r) l h .words in
       record { sweepable = holding-of left p s; words = omega arith }

@@ -72,7 +72,7 @@ pub swept-more : (t : Table) → Sound t → (s n k : ℕ) → n ≡ length (eac
 swept-more t h s n k p q =
     let a = sweep-passed t h s in
     let x = each-count s sweepOne t in
-    let y = one-notes s (each s sweepOne t .table) (λ g e. holding-of (each s sweepOne t .table) (a .sound) s g e .live .words) in
+    let y = one-notes s (each s sweepOne t .table) (λ g e. holding-of (each s sweepOne t .table) (a .sound) s g e .held .live .words) in
     let z = notes-ahead t s (each s sweepOne t .table) a in
     omega arith
 

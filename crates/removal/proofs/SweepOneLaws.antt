@@ -7,6 +7,7 @@ use native.Mathlib.Numerals.{add-one}
 use native.Mathlib.Omega.{arith}
 use lib.ListN.{length, getD, set, length-set}
 use lib.Seq.{set-getD, getD-set-same}
+use Rattle.scope.specs.declared.Counts.{Counts}
 use Rattle.scope.specs.declared.Global.{Global}
 use Rattle.scope.specs.Table.{Table, tableOf, word, recordOf, withUnit, putRecord}
 use Rattle.scope.specs.Outcome.{Result, stay}
@@ -38,12 +39,12 @@ learnt-small w zero l k = l
 learnt-small w (suc v) l k = omega arith
 
 -- the global of a held index, as the code reads it
-module _ (ug sg gs assignment records : List ℕ) (g s : ℕ) (h : Holding ug sg gs assignment records g s) where
+module _ (c : Counts) (ug sg gs assignment records : List ℕ) (g s : ℕ) (h : Holding c ug sg gs assignment records g s) where
   pub readable : SlotReadable ug assignment records g s
   readable =
-      let e = getD-default records g 0 47 (h .live .words) in
-      let l = h .live .undeleted in
-      record { user = h .live .user; words = h .live .words; undeleted = omega arith; value = h .value; small = h .small }
+      let e = getD-default records g 0 47 (h .held .live .words) in
+      let l = h .held .live .undeleted in
+      record { user = h .held .live .user; words = h .held .live .words; undeleted = omega arith; value = h .value; small = h .small }
 
   pub learn-asks : (getD records g 0 < 36) × (getD assignment s 0 ≤ 2)
   learn-asks = (readable .undeleted, readable .small)
@@ -73,19 +74,23 @@ module _ (ug gs assignment records : List ℕ) (s : ℕ) where
     notes-removed b n q = rw (held gs s g e, learnt-is assignment records (g .0) s w (h .words) p, b) q
 
 -- what the removal asks once the value is learnt
-pub one-asks : (ug sg gs assignment records : List ℕ) (s : ℕ) (g : Global) → At g ≡ foundGlobal (getD gs s 0)
-    → Holding ug sg gs assignment records (g .0) s → (w : ℕ) → w ≡ learnt (getD records (g .0) 0) (getD assignment s 0) → isLoose w ≡ true
-    → (at room : ℕ) → at + 3 * notesBy ug gs assignment records s ≤ room → RemoveAsks ug sg gs (set records (g .0) w) (g .0) s at room
-one-asks ug sg gs assignment records s g e h w p b at room r =
-    let l = h .live in
+pub one-asks : (c : Counts) (ug sg gs assignment records : List ℕ) (s : ℕ) (g : Global) → At g ≡ foundGlobal (getD gs s 0)
+    → Holding c ug sg gs assignment records (g .0) s → (w : ℕ) → w ≡ learnt (getD records (g .0) 0) (getD assignment s 0) → isLoose w ≡ true
+    → (at room : ℕ) → at + 3 * notesBy ug gs assignment records s ≤ room → RemoveAsks c ug sg gs (set records (g .0) w) (g .0) s at room
+one-asks c ug sg gs assignment records s g e h w p b at room r =
+    let l = h .held .live in
     let x = length-set records (g .0) w in
     let q = getD-set-same records (g .0) w 47 (l .words) in
     let i = learnt-is assignment records (g .0) s w (l .words) p in
     let f = learnt-small (getD records (g .0) 47) (getD assignment s 0) (l .undeleted) (h .small) in
-    let n = notes-removed ug gs assignment records s g e (readable ug sg gs assignment records (g .0) s h) w p b (removalNotes (getD ug (g .0) 0) w) refl in
+    let n = notes-removed ug gs assignment records s g e (readable c ug sg gs assignment records (g .0) s h) w p b (removalNotes (getD ug (g .0) 0) w) refl in
     record {
-      live = record { user = l .user; solver = l .solver; words = omega arith; small = l .small; undeleted = omega arith };
-      solver = h .solver;
+      held = record {
+        live = record { user = l .user; solver = l .solver; words = omega arith; small = l .small; undeleted = omega arith; used = l .used };
+        solver = h .held .solver;
+        below = h .held .below;
+        next = h .held .next;
+      };
       words = subst (λ (v : ℕ). at + 3 * removalNotes (getD ug (g .0) 0) v ≤ room) (sym q) (omega arith);
     }
 
@@ -97,7 +102,7 @@ module _ (t : Table) (s at : ℕ) where
   one-none words e = rw (global-word (getD (t .globalFromSolver) s 0) Nothing e) (leaves-stay t at words)
 
   module _ (g : Global) (e : At g ≡ foundGlobal (getD (t .globalFromSolver) s 0))
-      (h : Holding (t .userFromGlobal) (t .solverFromGlobal) (t .globalFromSolver) (t .assignment) (t .records) (g .0) s)
+      (h : Holding (t .counts) (t .userFromGlobal) (t .solverFromGlobal) (t .globalFromSolver) (t .assignment) (t .records) (g .0) s)
       (w : ℕ) (p : w ≡ learnt (getD (t .records) (g .0) 0) (getD (t .assignment) s 0)) where
     mid : Table
     mid = tableOf (t .counts) (t .globalFromUser) (t .userFromGlobal) (t .solverFromGlobal) (t .globalFromSolver) (t .assignment) (set (t .records) (g .0) w)
@@ -105,7 +110,7 @@ module _ (t : Table) (s at : ℕ) where
     -- a value that is none leaves the record
     mid-is : mid ≡ learn (g .0) s t
     unfolding mid learn learnt word putRecord
-    mid-is = ap at-record (sym (learnt-is (t .assignment) (t .records) (g .0) s w (h .live .words) p)) ∙ go (getD (t .assignment) s 0)
+    mid-is = ap at-record (sym (learnt-is (t .assignment) (t .records) (g .0) s w (h .held .live .words) p)) ∙ go (getD (t .assignment) s 0)
       where
         at-record : ℕ → Table
         at-record r = tableOf (t .counts) (t .globalFromUser) (t .userFromGlobal) (t .solverFromGlobal) (t .globalFromSolver) (t .assignment)
@@ -118,7 +123,7 @@ module _ (t : Table) (s at : ℕ) where
 
     mid-record : recordOf mid (g .0) ≡ w
     unfolding mid
-    mid-record = getD-set-same (t .records) (g .0) w 47 (h .live .words)
+    mid-record = getD-set-same (t .records) (g .0) w 47 (h .held .live .words)
 
     -- the sweep of the index is that of its global, on the table that has learnt the value
     one-is : sweepOne s t ≡ sweepHeld (g .0) s mid

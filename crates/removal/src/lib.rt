@@ -41,7 +41,7 @@ fn remove_held(
     at: usize,
     notes: &mut [u32],
 ) -> Passed
-    requires { ⌜ RemoveAsks (now ug) (now sg) (now gs) (now records) (global .0) (solver .0) at (length (now notes)) ⌝ }
+    requires { ⌜ RemoveAsks c (now ug) (now sg) (now gs) (now records) (global .0) (solver .0) at (length (now notes)) ⌝ }
     ensures { λ r. ⌜ ((gu a : List ℕ) → Leaves (removeHeld (global .0) (solver .0) (tableOf c gu (old ug) (old sg) (old gs) a (old records))) at (r .at)
         (tableOf (r .counts) gu (old ug) (new sg) (new gs) a (new records)) (old notes) (new notes)) ⌝ }
 {
@@ -205,7 +205,7 @@ fn sweep_one(
     at: usize,
     notes: &mut [u32],
 ) -> Passed
-    requires { ⌜ SweepAsks (now ug) (now sg) (now gs) (now assignment) (now records) (solver .0) at (length (now notes)) ⌝ }
+    requires { ⌜ SweepAsks c (now ug) (now sg) (now gs) (now assignment) (now records) (solver .0) at (length (now notes)) ⌝ }
     ensures { λ r. ⌜ ((gu : List ℕ) → Leaves (sweepOne (solver .0) (tableOf c gu (old ug) (old sg) (old gs) (old assignment) (old records))) at (r .at)
         (tableOf (r .counts) gu (old ug) (new sg) (new gs) (old assignment) (new records)) (old notes) (new notes)) ⌝ }
 {

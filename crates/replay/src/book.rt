@@ -1,5 +1,5 @@
 // What is known between the lines: how often each call met each refusal, the number of the line, how many calls agreed, and the table's
-// counts and the lengths of its lists, ten numbers as a line that loads a table has them.
+// counts and the lengths of its lists, twelve numbers as a line that loads a table has them.
 use crate::judge::counts_after;
 use crate::parts::GIVES;
 use crate::parts::arg;
@@ -19,7 +19,7 @@ pub struct Lengths {
     pub records: usize,
 }
 
-// Where the line's number, the count of calls and the table's ten numbers stand; the tally stands before.
+// Where the line's number, the count of calls and the table's twelve numbers stand; the tally stands before.
 const LINE: usize = 1024;
 
 const CALLS: usize = 1025;
@@ -52,7 +52,7 @@ pub fn tally(book: &[u64; 1056], call: u32, refusal: u32) -> u64 {
 }
 
 fn number(book: &[u64; 1056], i: usize) -> u32 {
-    if 10 <= i {
+    if 12 <= i {
         return 0;
     }
     (book[TABLE + i] % 4294967296) as u32
@@ -64,6 +64,8 @@ pub fn counts(book: &[u64; 1056]) -> Counts {
         user: number(book, 1),
         global: number(book, 2),
         solver: number(book, 3),
+        used: number(book, 4),
+        next: number(book, 5),
     }
 }
 
@@ -73,19 +75,19 @@ fn length_of(book: &[u64; 1056], i: usize) -> usize {
 
 pub fn lengths_in(book: &[u64; 1056]) -> Lengths {
     Lengths {
-        gu: length_of(book, 4),
-        ug: length_of(book, 5),
-        sg: length_of(book, 6),
-        gs: length_of(book, 7),
-        assignment: length_of(book, 8),
-        records: length_of(book, 9),
+        gu: length_of(book, 6),
+        ug: length_of(book, 7),
+        sg: length_of(book, 8),
+        gs: length_of(book, 9),
+        assignment: length_of(book, 10),
+        records: length_of(book, 11),
     }
 }
 
-// The ten numbers of a line that loads a table.
+// The twelve numbers of a line that loads a table.
 fn load(book: &mut [u64; 1056], line: &[u64; 16524]) {
     let mut i: usize = 0;
-    while i < 10 {
+    while i < 12 {
         book[TABLE + i] = wide(arg(line, i));
         i += 1;
     }
@@ -104,6 +106,8 @@ fn agreed(book: &mut [u64; 1056], line: &[u64; 16524], call: u32) {
     book[TABLE + 1] = wide(after.user);
     book[TABLE + 2] = wide(after.global);
     book[TABLE + 3] = wide(after.solver);
+    book[TABLE + 4] = wide(after.used);
+    book[TABLE + 5] = wide(after.next);
     up(book, CALLS);
     let refusal = small(line, GIVES, 0);
     if (call < 32) & (refusal < 32) {

@@ -24,6 +24,8 @@ pub fn counts_after(line: &[u64; 16524], before: Counts) -> Counts {
         user: small(line, COUNTS, 1),
         global: small(line, COUNTS, 2),
         solver: small(line, COUNTS, 3),
+        used: small(line, COUNTS, 4),
+        next: small(line, COUNTS, 5),
     }
 }
 
@@ -32,6 +34,8 @@ fn same_counts(a: Counts, b: Counts) -> bool {
         & (a.user == b.user)
         & (a.global == b.global)
         & (a.solver == b.solver)
+        & (a.used == b.used)
+        & (a.next == b.next)
 }
 
 // Field i of the answer; one that the line leaves out is 0.

@@ -20,7 +20,7 @@ fn args_of(call: u32) -> usize {
         0 | 1 | 5 | 7 | 11 => 2,
         12 => 4,
         13 => 5,
-        LOAD => 10,
+        LOAD => 12,
         _ => 1,
     }
 }
@@ -47,8 +47,8 @@ fn sizes(line: &[u64; 16524]) -> bool {
 
 // A list of a table has at most 4,100 words.
 fn lists(line: &[u64; 16524]) -> bool {
-    let maps = (arg(line, 4) <= 4100) & (arg(line, 5) <= 4100) & (arg(line, 6) <= 4100);
-    maps & (arg(line, 7) <= 4100) & (arg(line, 8) <= 4100) & (arg(line, 9) <= 4100)
+    let maps = (arg(line, 6) <= 4100) & (arg(line, 7) <= 4100) & (arg(line, 8) <= 4100);
+    maps & (arg(line, 9) <= 4100) & (arg(line, 10) <= 4100) & (arg(line, 11) <= 4100)
 }
 
 // A call has an answer of at most six numbers, and a load has none.
@@ -64,7 +64,7 @@ fn answered(line: &[u64; 16524], call: u32) -> bool {
 pub fn fits(line: &[u64; 16524], call: u32) -> bool {
     let taken = (count(line, ARGS) == args_of(call)) & (count(line, ROOM) == rooms_of(call));
     let n = count(line, COUNTS);
-    let table = ((n == 0) | (n == 4)) & (count(line, SET) % 3 == 0);
+    let table = ((n == 0) | (n == 6)) & (count(line, SET) % 3 == 0);
     if call == LOAD {
         return taken & table & (n == 0) & answered(line, call) & lists(line);
     }

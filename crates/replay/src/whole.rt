@@ -13,14 +13,15 @@ use answers::changed::HzChanged;
 use capi::poses::hz_pose;
 use scope::Counts;
 
-// The counts that a refused Open answers are the capacity and no watermarks; the table's counts stay.
+// The counts that a refused Open answers are the capacity and else 0; the table's counts stay.
 pub fn opened(r: HzChanged, c: Counts, capacity: u32) -> Answer {
     let counts = r.counts;
     if r.refusal == 0 {
         return none(counts, 0, 0);
     }
     let marks = (counts.user == 0) & (counts.global == 0) & (counts.solver == 0);
-    if marks & (counts.capacity == capacity) {
+    let stored = (counts.used == 0) & (counts.next == 0);
+    if marks & stored & (counts.capacity == capacity) {
         return none(c, r.refusal, 0);
     }
     none(c, r.refusal, COUNTS)

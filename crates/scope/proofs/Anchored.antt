@@ -3,7 +3,7 @@ use mathlib.Core.Path.{refl}
 use Rattle.base.specs.Bounded.{allBelow, least, count, everyOf, anyOf, keepOf}
 use Rattle.scope.specs.Table.{word, isShown, giveUser, takeUser, giveSolver, takeSolver, putRecord, putValue, dropGlobal, leastFree, undeleted}
 use Rattle.scope.specs.Table.{nextSolver}
-use Rattle.scope.specs.Sound.{soundb, sizesb, marksb, atMostb, tailb, backb, namedb, deletedb, tailsb, pairsb}
+use Rattle.scope.specs.Sound.{soundb, sizesb, marksb, atMostb, tailb, backb, namedb, deletedb, tailsb, pairsb, listsb, storedb}
 use Rattle.scope.specs.Notes.{notesWords, heldBy}
 use Rattle.scope.specs.Outcome.{choose, each, unless}
 use Rattle.scope.specs.Open.{emptyTable, openOf}
@@ -33,176 +33,190 @@ use Rattle.scope.specs.AnchorsMarks.{markRows, assigns}
 use Rattle.scope.specs.AnchorsSteps.{simplifies, kindAnchors, causes, renames, writeAnchors}
 use Rattle.scope.specs.AnchorsBinary.{binaries}
 use Rattle.scope.specs.AnchorsDistinct.{userCounts}
+use Rattle.scope.specs.AnchorsStored.{storedRows}
 
 literals-hold : AnchorsAgree literalAnchors
-unfolding allBelow least count anyOf keepOf word isShown giveUser takeUser giveSolver takeSolver putRecord putValue dropGlobal soundb sizesb marksb
-    atMostb tailb backb namedb deletedb tailsb pairsb notesWords heldBy choose each unless
+unfolding allBelow least count anyOf keepOf word isShown giveUser takeUser giveSolver takeSolver putRecord putValue dropGlobal soundb listsb storedb sizesb
+    marksb atMostb tailb backb namedb deletedb tailsb pairsb notesWords heldBy choose each unless leastFree nextSolver undeleted
 literals-hold = (refl, (refl, (refl, (refl, (refl, (refl, (refl, (refl, tt))))))))
 
 recordParts-hold : AnchorsAgree recordParts
-unfolding allBelow least count anyOf keepOf word isShown giveUser takeUser giveSolver takeSolver putRecord putValue dropGlobal soundb sizesb marksb
-    atMostb tailb backb namedb deletedb tailsb pairsb notesWords heldBy choose each unless isUnused deleteIfUnused show hide change setMode
-    setModeRefusal setModeOf isHidden observeOne observe observeRefusal observeOf
+unfolding allBelow least count anyOf keepOf word isShown giveUser takeUser giveSolver takeSolver putRecord putValue dropGlobal soundb listsb storedb sizesb
+    marksb atMostb tailb backb namedb deletedb tailsb pairsb notesWords heldBy choose each unless isUnused deleteIfUnused show hide change setMode
+    setModeRefusal setModeOf isHidden observeOne observe observeRefusal observeOf leastFree nextSolver undeleted
 recordParts-hold = (refl, (refl, (refl, (refl, (refl, (refl, (refl, (refl, (refl, (refl, (refl, (refl, (refl, (refl, (refl, (refl, (refl, (refl, (refl, (refl, (refl, (refl, (refl, (refl, (refl, (refl, (refl, tt)))))))))))))))))))))))))))
 
 everyPart-hold : AnchorsAgree everyPart
-unfolding allBelow least count anyOf keepOf word isShown giveUser takeUser giveSolver takeSolver putRecord putValue dropGlobal soundb sizesb marksb
-    atMostb tailb backb namedb deletedb tailsb pairsb notesWords heldBy choose each unless isUnused deleteIfUnused show hide change setMode
-    setModeRefusal setModeOf isHidden observeOne observe observeRefusal observeOf
+unfolding allBelow least count anyOf keepOf word isShown giveUser takeUser giveSolver takeSolver putRecord putValue dropGlobal soundb listsb storedb sizesb
+    marksb atMostb tailb backb namedb deletedb tailsb pairsb notesWords heldBy choose each unless isUnused deleteIfUnused show hide change setMode
+    setModeRefusal setModeOf isHidden observeOne observe observeRefusal observeOf leastFree nextSolver undeleted
 everyPart-hold = (refl, (refl, (refl, (refl, (refl, (refl, (refl, (refl, (refl, (refl, (refl, (refl, (refl, (refl, (refl, tt)))))))))))))))
 
 noteRows-hold : AnchorsAgree noteRows
-unfolding allBelow least count anyOf keepOf word isShown giveUser takeUser giveSolver takeSolver putRecord putValue dropGlobal soundb sizesb marksb
-    atMostb tailb backb namedb deletedb tailsb pairsb notesWords heldBy choose each unless
+unfolding allBelow least count anyOf keepOf word isShown giveUser takeUser giveSolver takeSolver putRecord putValue dropGlobal soundb listsb storedb sizesb
+    marksb atMostb tailb backb namedb deletedb tailsb pairsb notesWords heldBy choose each unless leastFree nextSolver undeleted
 noteRows-hold = (refl, (refl, (refl, (refl, (refl, (refl, (refl, (refl, (refl, tt)))))))))
 
 heldRows-hold : AnchorsAgree heldRows
-unfolding allBelow least count anyOf keepOf word isShown giveUser takeUser giveSolver takeSolver putRecord putValue dropGlobal soundb sizesb marksb
-    atMostb tailb backb namedb deletedb tailsb pairsb notesWords heldBy choose each unless
+unfolding allBelow least count anyOf keepOf word isShown giveUser takeUser giveSolver takeSolver putRecord putValue dropGlobal soundb listsb storedb sizesb
+    marksb atMostb tailb backb namedb deletedb tailsb pairsb notesWords heldBy choose each unless leastFree nextSolver undeleted
 heldRows-hold = (refl, (refl, (refl, (refl, (refl, (refl, (refl, (refl, (refl, (refl, (refl, tt)))))))))))
 
 sounds-hold : AnchorsAgree sounds
-unfolding allBelow least count anyOf keepOf word isShown giveUser takeUser giveSolver takeSolver putRecord putValue dropGlobal soundb sizesb marksb
-    atMostb tailb backb namedb deletedb tailsb pairsb notesWords heldBy choose each unless found lookupOf globalFromUserOf userFromGlobalOf
-    solverFromGlobalOf globalFromSolverOf recordWordOf assignmentWordOf
-sounds-hold = (refl, (refl, (refl, (refl, (refl, (refl, (refl, (refl, (refl, (refl, (refl, (refl, (refl, (refl, (refl, (refl, (refl, (refl, (refl, (refl, (refl, (refl, (refl, (refl, (refl, (refl, (refl, (refl, (refl, (refl, (refl, (refl, (refl, (refl, (refl, (refl, (refl, (refl, (refl, (refl, (refl, (refl, (refl, (refl, (refl, (refl, (refl, (refl, (refl, (refl, (refl, (refl, (refl, (refl, (refl, (refl, (refl, (refl, (refl, (refl, (refl, (refl, (refl, (refl, (refl, (refl, tt))))))))))))))))))))))))))))))))))))))))))))))))))))))))))))))))))
+unfolding allBelow least count anyOf keepOf word isShown giveUser takeUser giveSolver takeSolver putRecord putValue dropGlobal soundb listsb storedb sizesb
+    marksb atMostb tailb backb namedb deletedb tailsb pairsb notesWords heldBy choose each unless found lookupOf globalFromUserOf userFromGlobalOf
+    solverFromGlobalOf globalFromSolverOf recordWordOf assignmentWordOf leastFree nextSolver undeleted
+sounds-hold = (refl, (refl, (refl, (refl, (refl, (refl, (refl, (refl, (refl, (refl, (refl, (refl, (refl, (refl, (refl, (refl, (refl, (refl, (refl, (refl, (refl, (refl, (refl, (refl, (refl, (refl, (refl, (refl, (refl, (refl, (refl, (refl, (refl, (refl, (refl, (refl, (refl, (refl, (refl, (refl, (refl, (refl, (refl, (refl, (refl, (refl, (refl, (refl, (refl, (refl, (refl, (refl, (refl, (refl, (refl, (refl, (refl, (refl, (refl, (refl, (refl, (refl, (refl, (refl, (refl, (refl, (refl, (refl, (refl, (refl, (refl, (refl, (refl, (refl, (refl, (refl, (refl, (refl, (refl, (refl, (refl, (refl, (refl, (refl, (refl, (refl, tt))))))))))))))))))))))))))))))))))))))))))))))))))))))))))))))))))))))))))))))))))))))
 
 opens-hold : AnchorsAgree openAnchors
-unfolding allBelow least count anyOf keepOf word isShown giveUser takeUser giveSolver takeSolver putRecord putValue dropGlobal soundb sizesb marksb
-    atMostb tailb backb namedb deletedb tailsb pairsb notesWords heldBy choose each unless emptyTable openOf
+unfolding allBelow least count anyOf keepOf word isShown giveUser takeUser giveSolver takeSolver putRecord putValue dropGlobal soundb listsb storedb sizesb
+    marksb atMostb tailb backb namedb deletedb tailsb pairsb notesWords heldBy choose each unless emptyTable openOf leastFree nextSolver undeleted
 opens-hold = (refl, (refl, (refl, (refl, (refl, (refl, (refl, (refl, (refl, (refl, (refl, tt)))))))))))
 
 lookups-hold : AnchorsAgree lookups
-unfolding allBelow least count anyOf keepOf word isShown giveUser takeUser giveSolver takeSolver putRecord putValue dropGlobal soundb sizesb marksb
-    atMostb tailb backb namedb deletedb tailsb pairsb notesWords heldBy choose each unless found lookupOf globalFromUserOf userFromGlobalOf
-    solverFromGlobalOf globalFromSolverOf recordWordOf assignmentWordOf
+unfolding allBelow least count anyOf keepOf word isShown giveUser takeUser giveSolver takeSolver putRecord putValue dropGlobal soundb listsb storedb sizesb
+    marksb atMostb tailb backb namedb deletedb tailsb pairsb notesWords heldBy choose each unless found lookupOf globalFromUserOf userFromGlobalOf
+    solverFromGlobalOf globalFromSolverOf recordWordOf assignmentWordOf leastFree nextSolver undeleted
 lookups-hold = (refl, (refl, (refl, (refl, (refl, (refl, (refl, (refl, (refl, (refl, (refl, (refl, (refl, (refl, (refl, (refl, (refl, (refl, (refl, (refl, (refl, (refl, (refl, (refl, (refl, (refl, (refl, (refl, (refl, (refl, (refl, tt)))))))))))))))))))))))))))))))
 
 mapAnswers-hold : AnchorsAgree mapAnswers
-unfolding allBelow least count anyOf keepOf word isShown giveUser takeUser giveSolver takeSolver putRecord putValue dropGlobal soundb sizesb marksb
-    atMostb tailb backb namedb deletedb tailsb pairsb notesWords heldBy choose each unless leastFree globalFor mapOne fillGap mapUser nextUser newUser
-    undeleted toMap unsampled mapRefusal mapOf newUserRefusal newUserOf
+unfolding allBelow least count anyOf keepOf word isShown giveUser takeUser giveSolver takeSolver putRecord putValue dropGlobal soundb listsb storedb sizesb
+    marksb atMostb tailb backb namedb deletedb tailsb pairsb notesWords heldBy choose each unless leastFree globalFor mapOne fillGap mapUser nextUser newUser
+    undeleted toMap unsampled mapRefusal mapOf newUserRefusal newUserOf nextSolver
 mapAnswers-hold = (refl, (refl, (refl, (refl, (refl, tt)))))
 
 maps-hold : AnchorsAgree maps
-unfolding allBelow least count anyOf keepOf word isShown giveUser takeUser giveSolver takeSolver putRecord putValue dropGlobal soundb sizesb marksb
-    atMostb tailb backb namedb deletedb tailsb pairsb notesWords heldBy choose each unless leastFree globalFor mapOne fillGap mapUser nextUser newUser
-    undeleted toMap unsampled mapRefusal mapOf newUserRefusal newUserOf
-maps-hold = (refl, (refl, (refl, (refl, (refl, (refl, (refl, (refl, (refl, (refl, (refl, (refl, (refl, (refl, (refl, (refl, tt))))))))))))))))
+unfolding allBelow least count anyOf keepOf word isShown giveUser takeUser giveSolver takeSolver putRecord putValue dropGlobal soundb listsb storedb sizesb
+    marksb atMostb tailb backb namedb deletedb tailsb pairsb notesWords heldBy choose each unless leastFree globalFor mapOne fillGap mapUser nextUser newUser
+    undeleted toMap unsampled mapRefusal mapOf newUserRefusal newUserOf nextSolver
+maps-hold = (refl, (refl, (refl, (refl, (refl, (refl, (refl, (refl, (refl, (refl, (refl, (refl, (refl, (refl, (refl, (refl, (refl, tt)))))))))))))))))
 
 newUsers-hold : AnchorsAgree newUsers
-unfolding allBelow least count anyOf keepOf word isShown giveUser takeUser giveSolver takeSolver putRecord putValue dropGlobal soundb sizesb marksb
-    atMostb tailb backb namedb deletedb tailsb pairsb notesWords heldBy choose each unless leastFree globalFor mapOne fillGap mapUser nextUser newUser
-    undeleted toMap unsampled mapRefusal mapOf newUserRefusal newUserOf
-newUsers-hold = (refl, (refl, (refl, (refl, (refl, (refl, tt))))))
+unfolding allBelow least count anyOf keepOf word isShown giveUser takeUser giveSolver takeSolver putRecord putValue dropGlobal soundb listsb storedb sizesb
+    marksb atMostb tailb backb namedb deletedb tailsb pairsb notesWords heldBy choose each unless leastFree globalFor mapOne fillGap mapUser nextUser newUser
+    undeleted toMap unsampled mapRefusal mapOf newUserRefusal newUserOf nextSolver
+newUsers-hold = (refl, (refl, (refl, (refl, (refl, (refl, (refl, tt)))))))
 
 grants-hold : AnchorsAgree grantAnchors
-unfolding allBelow least count anyOf keepOf word isShown giveUser takeUser giveSolver takeSolver putRecord putValue dropGlobal soundb sizesb marksb
-    atMostb tailb backb namedb deletedb tailsb pairsb notesWords heldBy choose each unless leastFree globalFor mapOne fillGap mapUser nextUser newUser
+unfolding allBelow least count anyOf keepOf word isShown giveUser takeUser giveSolver takeSolver putRecord putValue dropGlobal soundb listsb storedb sizesb
+    marksb atMostb tailb backb namedb deletedb tailsb pairsb notesWords heldBy choose each unless leastFree globalFor mapOne fillGap mapUser nextUser newUser
     undeleted toMap unsampled mapRefusal mapOf newUserRefusal newUserOf nextSolver grantOne grant grantRefusal grantOf
 grants-hold = (refl, (refl, (refl, (refl, (refl, (refl, (refl, (refl, (refl, (refl, tt))))))))))
 
 poses-hold : AnchorsAgree poses
-unfolding allBelow least count anyOf keepOf word isShown giveUser takeUser giveSolver takeSolver putRecord putValue dropGlobal soundb sizesb marksb
-    atMostb tailb backb namedb deletedb tailsb pairsb notesWords heldBy choose each unless leastFree globalFor mapOne fillGap mapUser nextUser newUser
+unfolding allBelow least count anyOf keepOf word isShown giveUser takeUser giveSolver takeSolver putRecord putValue dropGlobal soundb listsb storedb sizesb
+    marksb atMostb tailb backb namedb deletedb tailsb pairsb notesWords heldBy choose each unless leastFree globalFor mapOne fillGap mapUser nextUser newUser
     undeleted toMap unsampled mapRefusal mapOf newUserRefusal newUserOf nextSolver grantOne grant grantRefusal grantOf poseOne pose wanted usersToMap
     poseRefusal poseOf
-poses-hold = (refl, (refl, (refl, (refl, (refl, (refl, (refl, (refl, (refl, (refl, (refl, (refl, (refl, (refl, (refl, tt)))))))))))))))
+poses-hold = (refl, (refl, (refl, (refl, (refl, (refl, (refl, (refl, (refl, (refl, (refl, (refl, (refl, (refl, (refl, (refl, tt))))))))))))))))
 
 setModes-hold : AnchorsAgree setModes
-unfolding allBelow least count anyOf keepOf word isShown giveUser takeUser giveSolver takeSolver putRecord putValue dropGlobal soundb sizesb marksb
-    atMostb tailb backb namedb deletedb tailsb pairsb notesWords heldBy choose each unless leastFree globalFor mapOne fillGap mapUser nextUser newUser
-    undeleted toMap unsampled mapRefusal mapOf newUserRefusal newUserOf isUnused deleteIfUnused show hide change setMode setModeRefusal setModeOf
-    isHidden observeOne observe observeRefusal observeOf
+unfolding allBelow least count anyOf keepOf word isShown giveUser takeUser giveSolver takeSolver putRecord putValue dropGlobal soundb listsb storedb sizesb
+    marksb atMostb tailb backb namedb deletedb tailsb pairsb notesWords heldBy choose each unless leastFree globalFor mapOne fillGap mapUser nextUser newUser
+    undeleted toMap unsampled mapRefusal mapOf newUserRefusal newUserOf isUnused deleteIfUnused show hide change setMode setModeRefusal setModeOf isHidden
+    observeOne observe observeRefusal observeOf nextSolver
 setModes-hold = (refl, (refl, (refl, (refl, (refl, (refl, (refl, (refl, (refl, (refl, (refl, (refl, (refl, (refl, (refl, (refl, (refl, (refl, (refl, (refl, (refl, (refl, tt))))))))))))))))))))))
 
 observes-hold : AnchorsAgree observes
-unfolding allBelow least count anyOf keepOf word isShown giveUser takeUser giveSolver takeSolver putRecord putValue dropGlobal soundb sizesb marksb
-    atMostb tailb backb namedb deletedb tailsb pairsb notesWords heldBy choose each unless leastFree globalFor mapOne fillGap mapUser nextUser newUser
-    undeleted toMap unsampled mapRefusal mapOf newUserRefusal newUserOf isUnused deleteIfUnused show hide change setMode setModeRefusal setModeOf
-    isHidden observeOne observe observeRefusal observeOf
+unfolding allBelow least count anyOf keepOf word isShown giveUser takeUser giveSolver takeSolver putRecord putValue dropGlobal soundb listsb storedb sizesb
+    marksb atMostb tailb backb namedb deletedb tailsb pairsb notesWords heldBy choose each unless leastFree globalFor mapOne fillGap mapUser nextUser newUser
+    undeleted toMap unsampled mapRefusal mapOf newUserRefusal newUserOf isUnused deleteIfUnused show hide change setMode setModeRefusal setModeOf isHidden
+    observeOne observe observeRefusal observeOf nextSolver
 observes-hold = (refl, (refl, (refl, (refl, (refl, (refl, (refl, (refl, tt))))))))
 
 removes-hold : AnchorsAgree removes
-unfolding allBelow least count anyOf keepOf word isShown giveUser takeUser giveSolver takeSolver putRecord putValue dropGlobal soundb sizesb marksb
-    atMostb tailb backb namedb deletedb tailsb pairsb notesWords heldBy choose each unless notHeld unheld heldElse litsHeldElse mark markRefusal
-    markOf assignRefusal assignOf leastFree globalFor mapOne fillGap mapUser nextUser newUser undeleted toMap unsampled mapRefusal mapOf
-    newUserRefusal newUserOf isUnused deleteIfUnused show hide change setMode setModeRefusal setModeOf isHidden observeOne observe observeRefusal
-    observeOf removeHeld remove removeRefusal removeOf learn sweepHeld sweepOne sweep sweepRefusal sweepOf
+unfolding allBelow least count anyOf keepOf word isShown giveUser takeUser giveSolver takeSolver putRecord putValue dropGlobal soundb listsb storedb sizesb
+    marksb atMostb tailb backb namedb deletedb tailsb pairsb notesWords heldBy choose each unless notHeld unheld heldElse litsHeldElse mark markRefusal markOf
+    assignRefusal assignOf leastFree globalFor mapOne fillGap mapUser nextUser newUser undeleted toMap unsampled mapRefusal mapOf newUserRefusal newUserOf
+    isUnused deleteIfUnused show hide change setMode setModeRefusal setModeOf isHidden observeOne observe observeRefusal observeOf removeHeld remove
+    removeRefusal removeOf learn sweepHeld sweepOne sweep sweepRefusal sweepOf nextSolver
 removes-hold = (refl, (refl, (refl, (refl, (refl, (refl, (refl, (refl, (refl, (refl, (refl, (refl, (refl, (refl, (refl, (refl, (refl, (refl, (refl, (refl, (refl, (refl, (refl, (refl, (refl, tt)))))))))))))))))))))))))
 
 sweeps-hold : AnchorsAgree sweeps
-unfolding allBelow least count anyOf keepOf word isShown giveUser takeUser giveSolver takeSolver putRecord putValue dropGlobal soundb sizesb marksb
-    atMostb tailb backb namedb deletedb tailsb pairsb notesWords heldBy choose each unless notHeld unheld heldElse litsHeldElse mark markRefusal
-    markOf assignRefusal assignOf leastFree globalFor mapOne fillGap mapUser nextUser newUser undeleted toMap unsampled mapRefusal mapOf
-    newUserRefusal newUserOf isUnused deleteIfUnused show hide change setMode setModeRefusal setModeOf isHidden observeOne observe observeRefusal
-    observeOf removeHeld remove removeRefusal removeOf learn sweepHeld sweepOne sweep sweepRefusal sweepOf
+unfolding allBelow least count anyOf keepOf word isShown giveUser takeUser giveSolver takeSolver putRecord putValue dropGlobal soundb listsb storedb sizesb
+    marksb atMostb tailb backb namedb deletedb tailsb pairsb notesWords heldBy choose each unless notHeld unheld heldElse litsHeldElse mark markRefusal markOf
+    assignRefusal assignOf leastFree globalFor mapOne fillGap mapUser nextUser newUser undeleted toMap unsampled mapRefusal mapOf newUserRefusal newUserOf
+    isUnused deleteIfUnused show hide change setMode setModeRefusal setModeOf isHidden observeOne observe observeRefusal observeOf removeHeld remove
+    removeRefusal removeOf learn sweepHeld sweepOne sweep sweepRefusal sweepOf nextSolver
 sweeps-hold = (refl, (refl, (refl, (refl, (refl, (refl, (refl, (refl, tt))))))))
 
 models-hold : AnchorsAgree models
-unfolding allBelow least count anyOf keepOf word isShown giveUser takeUser giveSolver takeSolver putRecord putValue dropGlobal soundb sizesb marksb
-    atMostb tailb backb namedb deletedb tailsb pairsb notesWords heldBy choose each unless globalValue rowOf globalModel userLiteral userModel
-    modelRefusal modelOf
+unfolding allBelow least count anyOf keepOf word isShown giveUser takeUser giveSolver takeSolver putRecord putValue dropGlobal soundb listsb storedb sizesb
+    marksb atMostb tailb backb namedb deletedb tailsb pairsb notesWords heldBy choose each unless globalValue rowOf globalModel userLiteral userModel
+    modelRefusal modelOf leastFree nextSolver undeleted
 models-hold = (refl, (refl, (refl, (refl, (refl, (refl, (refl, (refl, tt))))))))
 
 markRows-hold : AnchorsAgree markRows
-unfolding allBelow least count anyOf keepOf word isShown giveUser takeUser giveSolver takeSolver putRecord putValue dropGlobal soundb sizesb marksb
-    atMostb tailb backb namedb deletedb tailsb pairsb notesWords heldBy choose each unless notHeld unheld heldElse litsHeldElse mark markRefusal
-    markOf assignRefusal assignOf
+unfolding allBelow least count anyOf keepOf word isShown giveUser takeUser giveSolver takeSolver putRecord putValue dropGlobal soundb listsb storedb sizesb
+    marksb atMostb tailb backb namedb deletedb tailsb pairsb notesWords heldBy choose each unless notHeld unheld heldElse litsHeldElse mark markRefusal markOf
+    assignRefusal assignOf leastFree nextSolver undeleted
 markRows-hold = (refl, (refl, (refl, (refl, (refl, (refl, (refl, (refl, (refl, (refl, (refl, (refl, (refl, (refl, (refl, (refl, (refl, (refl, tt))))))))))))))))))
 
 assigns-hold : AnchorsAgree assigns
-unfolding allBelow least count anyOf keepOf word isShown giveUser takeUser giveSolver takeSolver putRecord putValue dropGlobal soundb sizesb marksb
-    atMostb tailb backb namedb deletedb tailsb pairsb notesWords heldBy choose each unless notHeld unheld heldElse litsHeldElse mark markRefusal
-    markOf assignRefusal assignOf
+unfolding allBelow least count anyOf keepOf word isShown giveUser takeUser giveSolver takeSolver putRecord putValue dropGlobal soundb listsb storedb sizesb
+    marksb atMostb tailb backb namedb deletedb tailsb pairsb notesWords heldBy choose each unless notHeld unheld heldElse litsHeldElse mark markRefusal markOf
+    assignRefusal assignOf leastFree nextSolver undeleted
 assigns-hold = (refl, (refl, (refl, (refl, (refl, (refl, (refl, (refl, (refl, (refl, tt))))))))))
 
 simplifies-hold : AnchorsAgree simplifies
-unfolding allBelow least count anyOf keepOf word isShown giveUser takeUser giveSolver takeSolver putRecord putValue dropGlobal soundb sizesb marksb
-    atMostb tailb backb namedb deletedb tailsb pairsb notesWords heldBy choose each unless notHeld unheld heldElse litsHeldElse mark markRefusal
-    markOf assignRefusal assignOf spell further bytesOf number numbers encodeStep encode renameLits unmatched outside stepRefusal renameRefusal
-    renameOf stepBytes writeRefusal writeOf unfalse simplified simplifyBytes simplifyRefusal simplifyOf
+unfolding allBelow least count anyOf keepOf word isShown giveUser takeUser giveSolver takeSolver putRecord putValue dropGlobal soundb listsb storedb sizesb
+    marksb atMostb tailb backb namedb deletedb tailsb pairsb notesWords heldBy choose each unless notHeld unheld heldElse litsHeldElse mark markRefusal markOf
+    assignRefusal assignOf spell further bytesOf number numbers encodeStep encode renameLits unmatched outside stepRefusal renameRefusal renameOf stepBytes
+    writeRefusal writeOf unfalse simplified simplifyBytes simplifyRefusal simplifyOf leastFree nextSolver undeleted
 simplifies-hold = (refl, (refl, (refl, (refl, (refl, (refl, (refl, (refl, (refl, (refl, (refl, (refl, (refl, (refl, (refl, (refl, (refl, (refl, (refl, (refl, (refl, (refl, (refl, (refl, tt))))))))))))))))))))))))
 
 kinds-hold : AnchorsAgree kindAnchors
-unfolding allBelow least count anyOf keepOf word isShown giveUser takeUser giveSolver takeSolver putRecord putValue dropGlobal soundb sizesb marksb
-    atMostb tailb backb namedb deletedb tailsb pairsb notesWords heldBy choose each unless
+unfolding allBelow least count anyOf keepOf word isShown giveUser takeUser giveSolver takeSolver putRecord putValue dropGlobal soundb listsb storedb sizesb
+    marksb atMostb tailb backb namedb deletedb tailsb pairsb notesWords heldBy choose each unless leastFree nextSolver undeleted
 kinds-hold = (refl, (refl, (refl, (refl, tt))))
 
 causes-hold : AnchorsAgree causes
-unfolding allBelow least count anyOf keepOf word isShown giveUser takeUser giveSolver takeSolver putRecord putValue dropGlobal soundb sizesb marksb
-    atMostb tailb backb namedb deletedb tailsb pairsb notesWords heldBy choose each unless
+unfolding allBelow least count anyOf keepOf word isShown giveUser takeUser giveSolver takeSolver putRecord putValue dropGlobal soundb listsb storedb sizesb
+    marksb atMostb tailb backb namedb deletedb tailsb pairsb notesWords heldBy choose each unless leastFree nextSolver undeleted
 causes-hold = (refl, (refl, (refl, tt)))
 
 renames-hold : AnchorsAgree renames
-unfolding allBelow least count anyOf keepOf word isShown giveUser takeUser giveSolver takeSolver putRecord putValue dropGlobal soundb sizesb marksb
-    atMostb tailb backb namedb deletedb tailsb pairsb notesWords heldBy choose each unless notHeld unheld heldElse litsHeldElse mark markRefusal
-    markOf assignRefusal assignOf renameLits unmatched outside stepRefusal renameRefusal renameOf stepBytes writeRefusal writeOf
+unfolding allBelow least count anyOf keepOf word isShown giveUser takeUser giveSolver takeSolver putRecord putValue dropGlobal soundb listsb storedb sizesb
+    marksb atMostb tailb backb namedb deletedb tailsb pairsb notesWords heldBy choose each unless notHeld unheld heldElse litsHeldElse mark markRefusal markOf
+    assignRefusal assignOf renameLits unmatched outside stepRefusal renameRefusal renameOf stepBytes writeRefusal writeOf leastFree nextSolver undeleted
 renames-hold = (refl, (refl, (refl, (refl, (refl, (refl, (refl, (refl, (refl, (refl, (refl, (refl, (refl, (refl, (refl, (refl, (refl, (refl, (refl, (refl, (refl, (refl, (refl, (refl, (refl, (refl, (refl, (refl, (refl, (refl, (refl, (refl, (refl, (refl, (refl, tt)))))))))))))))))))))))))))))))))))
 
 written-hold : AnchorsAgree writeAnchors
-unfolding allBelow least count anyOf keepOf word isShown giveUser takeUser giveSolver takeSolver putRecord putValue dropGlobal soundb sizesb marksb
-    atMostb tailb backb namedb deletedb tailsb pairsb notesWords heldBy choose each unless notHeld unheld heldElse litsHeldElse mark markRefusal
-    markOf assignRefusal assignOf spell further bytesOf number numbers encodeStep encode renameLits unmatched outside stepRefusal renameRefusal
-    renameOf stepBytes writeRefusal writeOf
+unfolding allBelow least count anyOf keepOf word isShown giveUser takeUser giveSolver takeSolver putRecord putValue dropGlobal soundb listsb storedb sizesb
+    marksb atMostb tailb backb namedb deletedb tailsb pairsb notesWords heldBy choose each unless notHeld unheld heldElse litsHeldElse mark markRefusal markOf
+    assignRefusal assignOf spell further bytesOf number numbers encodeStep encode renameLits unmatched outside stepRefusal renameRefusal renameOf stepBytes
+    writeRefusal writeOf leastFree nextSolver undeleted
 written-hold = (refl, (refl, (refl, (refl, (refl, (refl, (refl, (refl, (refl, (refl, (refl, (refl, (refl, (refl, (refl, (refl, (refl, (refl, (refl, (refl, (refl, (refl, (refl, (refl, (refl, (refl, (refl, (refl, (refl, (refl, (refl, (refl, (refl, (refl, (refl, tt)))))))))))))))))))))))))))))))))))
 
 binaries-hold : AnchorsAgree binaries
-unfolding allBelow everyOf anyOf keepOf word isShown soundb sizesb marksb atMostb tailb backb namedb deletedb tailsb pairsb notesWords unless notHeld
-    unheld litsHeldElse spell further bytesOf number numbers encodeStep encode renameLits cutsb sectionsOf eachSection times hasMirror mirrored keptAt
-    deletesAt sectionsFor filledCodes keptWords keptCount deleteBytes binaryRefusal binaryOf
+unfolding allBelow everyOf anyOf keepOf word isShown soundb listsb storedb sizesb marksb atMostb tailb backb namedb deletedb tailsb pairsb notesWords unless
+    notHeld unheld litsHeldElse spell further bytesOf number numbers encodeStep encode renameLits cutsb sectionsOf eachSection times hasMirror mirrored keptAt
+    deletesAt sectionsFor filledCodes keptWords keptCount deleteBytes binaryRefusal binaryOf leastFree nextSolver undeleted least count
 binaries-hold = (refl, (refl, (refl, (refl, (refl, (refl, (refl, (refl, (refl, (refl, (refl, (refl, (refl, (refl, (refl, (refl, (refl, (refl, (refl, (refl, (refl, (refl, (refl, (refl, (refl, (refl, (refl, (refl, (refl, (refl, (refl, (refl, (refl, (refl, tt))))))))))))))))))))))))))))))))))
 
 userCounts-hold : AnchorsAgree userCounts
 unfolding count anyOf word countNamed isFirst plainCount topOf isLow needsGrant usersBy
 userCounts-hold = (refl, (refl, (refl, (refl, (refl, (refl, (refl, (refl, (refl, (refl, (refl, (refl, (refl, (refl, (refl, (refl, (refl, (refl, (refl, (refl, (refl, (refl, (refl, (refl, (refl, (refl, (refl, (refl, (refl, (refl, (refl, (refl, (refl, (refl, (refl, (refl, (refl, (refl, (refl, (refl, tt))))))))))))))))))))))))))))))))))))))))
 
+storedRows-hold : AnchorsAgree storedRows
+unfolding allBelow least count anyOf keepOf word isShown giveUser takeUser giveSolver takeSolver putRecord putValue dropGlobal soundb listsb storedb
+    sizesb marksb atMostb tailb backb namedb deletedb tailsb pairsb notesWords heldBy choose each unless leastFree nextSolver undeleted isUnused
+    deleteIfUnused show hide change setMode setModeRefusal setModeOf isHidden observeOne observe observeRefusal observeOf found lookupOf
+    globalFromUserOf userFromGlobalOf solverFromGlobalOf globalFromSolverOf recordWordOf assignmentWordOf emptyTable openOf globalFor mapOne fillGap
+    mapUser nextUser newUser toMap unsampled mapRefusal mapOf newUserRefusal newUserOf grantOne grant grantRefusal grantOf poseOne pose wanted
+    usersToMap poseRefusal poseOf notHeld unheld heldElse litsHeldElse mark markRefusal markOf assignRefusal assignOf removeHeld remove removeRefusal
+    removeOf learn sweepHeld sweepOne sweep sweepRefusal sweepOf globalValue rowOf globalModel userLiteral userModel modelRefusal modelOf spell
+    further bytesOf number numbers encodeStep encode renameLits unmatched outside stepRefusal renameRefusal renameOf stepBytes writeRefusal writeOf
+    unfalse simplified simplifyBytes simplifyRefusal simplifyOf everyOf cutsb sectionsOf eachSection times hasMirror mirrored keptAt deletesAt
+    sectionsFor filledCodes keptWords keptCount deleteBytes binaryRefusal binaryOf countNamed isFirst plainCount topOf isLow needsGrant usersBy
+storedRows-hold = (refl, (refl, (refl, (refl, (refl, (refl, (refl, (refl, (refl, (refl, (refl, (refl, (refl, (refl, (refl, (refl, (refl, (refl, (refl, (refl, (refl, (refl, (refl, (refl, (refl, (refl, (refl, (refl, (refl, (refl, (refl, (refl, tt))))))))))))))))))))))))))))))))
+
 pub anchored : AnchorsAgree literalAnchors × AnchorsAgree recordParts × AnchorsAgree everyPart × AnchorsAgree noteRows × AnchorsAgree heldRows
     × AnchorsAgree sounds × AnchorsAgree openAnchors × AnchorsAgree lookups × AnchorsAgree mapAnswers × AnchorsAgree maps
     × AnchorsAgree newUsers × AnchorsAgree grantAnchors × AnchorsAgree poses × AnchorsAgree setModes × AnchorsAgree observes
     × AnchorsAgree removes × AnchorsAgree sweeps × AnchorsAgree models × AnchorsAgree markRows × AnchorsAgree assigns
     × AnchorsAgree simplifies × AnchorsAgree kindAnchors × AnchorsAgree causes × AnchorsAgree renames × AnchorsAgree writeAnchors
-    × AnchorsAgree binaries × AnchorsAgree userCounts
+    × AnchorsAgree binaries × AnchorsAgree userCounts × AnchorsAgree storedRows
 anchored = (
   literals-hold,
   recordParts-hold,
@@ -231,4 +245,5 @@ anchored = (
   written-hold,
   binaries-hold,
   userCounts-hold,
+  storedRows-hold,
 )

@@ -8,8 +8,8 @@ use Rattle.base.specs.Answer.{accepted, refused}
 use Rattle.base.specs.Bounded.{allBelow, least, count}
 use Rattle.base.specs.Lent.{Slice, Lent}
 use Rattle.scope.specs.declared.Counts.{Counts}
-use Rattle.scope.specs.Table.{Table, tableOf, word, isShown, giveUser, leastFree, undeleted}
-use Rattle.scope.specs.Sound.{soundb, sizesb, marksb, atMostb, tailb, backb, namedb, deletedb, tailsb, pairsb}
+use Rattle.scope.specs.Table.{Table, tableOf, word, isShown, giveUser, leastFree, undeleted, nextSolver}
+use Rattle.scope.specs.Sound.{soundb, sizesb, marksb, atMostb, tailb, backb, namedb, deletedb, tailsb, pairsb, listsb, storedb}
 use Rattle.scope.specs.Notes.{notesWords}
 use Rattle.scope.specs.Outcome.{each, unless}
 use Rattle.scope.specs.Map.{globalFor, mapOne, fillGap, mapUser, nextUser, newUser, newUserRefusal, newUserOf}
@@ -21,17 +21,17 @@ use Rattle.scope.specs.AnchorsNames.{opened2}
 pub meets-accepted : (said : Said) (leaves : Counts → Table) (noted : List ℕ)
     → Meets newUserOf said (record { table = opened2; leaves = leaves; notes = w4 7 7 7 7; noted = noted })
     → (said .answer ≡ accepted (w3 0 0 1))
-    × (leaves (said .counts) ≡ tab 2 1 1 0 (w2 1 0) (w2 1 0) (w2 0 0) (w2 0 0) (w2 0 0) (w2 9 47))
+    × (leaves (said .counts) ≡ tab 2 1 1 0 1 0 (w2 1 0) (w2 1 0) (w2 0 0) (w2 0 0) (w2 0 0) (w2 9 47))
     × (noted ≡ w4 0 0 1 7)
-unfolding allBelow least count word isShown giveUser soundb sizesb marksb atMostb tailb backb namedb deletedb tailsb pairsb notesWords each unless leastFree
-    globalFor mapOne fillGap mapUser nextUser newUser undeleted newUserRefusal newUserOf
+unfolding allBelow least count word isShown giveUser soundb listsb storedb sizesb marksb atMostb tailb backb namedb deletedb tailsb pairsb notesWords each
+    unless leastFree globalFor mapOne fillGap mapUser nextUser newUser undeleted newUserRefusal newUserOf nextSolver
 meets-accepted said leaves noted d = (d .answer, d .table, d .noted)
 
 pub meets-refused : (said : Said) (leaves : Counts → Table) (noted : List ℕ)
     → Meets newUserOf said (record { table = opened2; leaves = leaves; notes = w2 7 7; noted = noted })
     → (said .answer ≡ refused 2 []) × (leaves (said .counts) ≡ opened2) × (noted ≡ w2 7 7)
-unfolding allBelow least count word isShown giveUser soundb sizesb marksb atMostb tailb backb namedb deletedb tailsb pairsb notesWords each unless leastFree
-    globalFor mapOne fillGap mapUser nextUser newUser undeleted newUserRefusal newUserOf
+unfolding allBelow least count word isShown giveUser soundb listsb storedb sizesb marksb atMostb tailb backb namedb deletedb tailsb pairsb notesWords each
+    unless leastFree globalFor mapOne fillGap mapUser nextUser newUser undeleted newUserRefusal newUserOf nextSolver
 meets-refused said leaves noted d = (d .answer, d .table, d .noted)
 
 -- a table's lists, in the order of the parameters

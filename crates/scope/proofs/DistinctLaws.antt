@@ -11,10 +11,10 @@ use lib.Seq.{take-suc, take-all, getD-take}
 use borrow.Author.Tests.{eq-eqb, ne-eqb}
 use Rattle.base.specs.Choice.{pick}
 use Rattle.base.specs.Bounded.{count}
-use Rattle.base.proofs.CountLaws.{count-most}
+use Rattle.base.proofs.CountLaws.{count-most, count-never}
 use Rattle.base.proofs.MemberLaws.{any-start, any-more, any-some, or-neither}
 use Rattle.scope.specs.Literals.{indexOf}
-use Rattle.scope.proofs.WantedLaws.{count-either, count-never, count-point}
+use Rattle.scope.proofs.WantedLaws.{count-either, count-point}
 use Rattle.scope.specs.Distinct.{named, countNamed, isFirst, plainCount, topOf, Within}
 
 -- ---- the users named by a prefix

@@ -1,14 +1,14 @@
 -- The two counts answer the same, whatever the table and the literals; and on a sound table they are what refusals 5 and 2 of Pose count.
-use Prim.Native.Nat.{ℕ, zero, suc, _+_, _-_, _≤_, _<_}
+use Prim.Native.Nat.{ℕ, _+_, _-_, _≤_, _<_}
 use mathlib.Core.Path.{_≡_, refl, sym, _∙_}
 use mathlib.Core.Bool.{Bool, true, false, _&&_, _||_, true≢false}
 use mathlib.Core.List.{List, [], _∷_}
 use mathlib.Core.Logic.{⊎-elim}
-use native.Mathlib.Nat.{eq-or-lt-of-le}
 use native.Mathlib.Omega.{arith}
 use lib.Dec.{eqb, ltb, leb}
 use lib.ListN.{length, getD}
 use borrow.Author.Tests.{lt-ltb, le-ltb, le-leb, lt-leb, leb-false, ltb-false, eqb-false, ne-eqb, eq-eqb}
+use Rattle.base.proofs.CountLaws.{count-past}
 use Rattle.base.specs.Answer.{accepted, refused}
 use Rattle.base.specs.Choice.{pick}
 use Rattle.base.specs.Bounded.{count, anyOf}
@@ -58,22 +58,13 @@ plain-users mark gu sg lits = go (ltb 8192 (length lits)) (anyOf (λ c. leb 4096
 
 -- ---- what Pose counts
 
--- a test that fails from n up counts the same below any m above it
-count-up-to : (p : ℕ → Bool) (n m : ℕ) → n ≤ m → ((v : ℕ) → n ≤ v → p v ≡ false) → count m p ≡ count n p
-unfolding count
-count-up-to p n zero l h = let e : n ≡ 0 = omega arith in rw e refl
-count-up-to p n (suc m) l h = ⊎-elim
-    (λ (e : n ≡ suc m). rw e refl)
-    (λ (k : n < suc m). rw (h m (omega arith)) (count-up-to p n m (omega arith) h))
-    (eq-or-lt-of-le l)
-
 -- no user is named at or above a bound of the literals
 unnamed : (lits : List ℕ) (n : ℕ) → Within lits n → (v : ℕ) → n ≤ v → named lits v ≡ false
 unnamed lits n w v l = any-intro (λ c. eqb (indexOf c) v) lits 0 (λ i k. ne-eqb _ v (let x = w .at i k in λ e. omega arith))
 
 count-capped : (p : ℕ → Bool) (lits : List ℕ) (n : ℕ) → n ≤ 4096 → Within lits n → countNamed 4096 p lits ≡ count n (λ v. named lits v && p v)
 unfolding countNamed
-count-capped p lits n l w = count-up-to (λ v. named lits v && p v) n 4096 l (λ v k. and-not-left (named lits v) (p v) (unnamed lits n w v k))
+count-capped p lits n l w = count-past (λ v. named lits v && p v) n 4096 l (λ v k. and-not-left (named lits v) (p v) (unnamed lits n w v k))
 
 -- from the watermark up, a user is named or passed exactly below the watermark after
 covered : (mark : ℕ) (lits : List ℕ) (v : ℕ) → mark ≤ v → named lits v || isPassed lits v ≡ ltb v (topOf mark lits)

@@ -4,6 +4,8 @@ pub mod CountsLaws
 pub mod BiMapLaws
 pub mod SoundLaws
 pub mod PairLaws
+pub mod CursorLaws
+pub mod StoredLaws
 pub mod MoveLaws
 pub mod ResultLaws
 pub mod MapLaws
@@ -23,6 +25,7 @@ pub mod RuledOut
 pub mod NoteCounts
 pub mod NoteWords
 pub mod RecordLaws
+pub mod FillLaws
 pub mod Works
 pub mod WorksLists
 pub mod WordLaws

@@ -14,7 +14,7 @@ use Rattle.base.specs.Choice.{pick}
 use Rattle.base.specs.Bounded.{least, count}
 use Rattle.base.proofs.LeastLaws.{Least, least-has}
 use Rattle.base.proofs.CountLaws.{count-least, count-more}
-use Rattle.scope.specs.Table.{Table, word, recordOf, isDeleted, giveUser, undeleted}
+use Rattle.scope.specs.Table.{Table, word, recordOf, isDeleted, isUndeleted, giveUser, undeleted}
 use Rattle.scope.specs.Sound.{Sound}
 use Rattle.scope.specs.Outcome.{Result, stay, _then_, giving, each}
 use Rattle.scope.specs.Map.{globalFor, mapOne, fillGap, mapUser, nextUser, newUser, toMap}
@@ -55,7 +55,7 @@ fresh u t p hu hw room = go (ℕ-discrete u (t .counts .global)) (decLt (recordO
         capped (no c) =
             let h = q .within in
             let e =
-            count-least (t .counts .capacity) (t .counts .capacity) (λ g. ltb (recordOf t g) 36) (omega arith)
+            count-least (t .counts .capacity) (t .counts .capacity) (isUndeleted (t .records)) (omega arith)
             (λ i a. lt-ltb (recordOf t i) 36 (leb-false 36 (recordOf t i) (q .before i (omega arith)))) in
             absurd (omega arith)
 
@@ -115,7 +115,7 @@ map-one-undeleted t u m =
     let w = f .within in
     let g = globalFor t u in
     let e =
-    count-more (t .counts .capacity) (globalFor t u) (λ g. ltb (recordOf t g) 36) (λ k. ltb (getD (set (t .records) (globalFor t u) 9) k 47) 36) (f .within)
+    count-more (t .counts .capacity) (globalFor t u) (isUndeleted (t .records)) (isUndeleted (set (t .records) (globalFor t u) 9)) (f .within)
     (λ i n. rw (getD-set-other (t .records) (globalFor t u) i 9 47 n))
     (le-ltb (recordOf t (globalFor t u)) 36 (f .gone))
     (rw (getD-set-same (t .records) (globalFor t u) 9 47 (omega arith))) in
@@ -483,7 +483,7 @@ next-user-within t p room = capped (decLt (nextUser t) (t .counts .capacity))
     capped (yes c) = c
     capped (no c) =
         let e =
-        count-least (t .counts .capacity) (t .counts .capacity) (λ g. ltb (recordOf t g) 36) (omega arith)
+        count-least (t .counts .capacity) (t .counts .capacity) (isUndeleted (t .records)) (omega arith)
         (λ g h. lt-ltb (recordOf t g) 36 (named (omega arith) g h (ℕ-discrete (getD (t .userFromGlobal) g 0) 0))) in
         absurd (omega arith)
 

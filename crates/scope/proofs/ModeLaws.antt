@@ -103,7 +103,16 @@ stay-same t g =
 
 pub drop-same : (t : Table) (g : ℕ) → SameButRecord t g (dropGlobal g t)
 unfolding dropGlobal
-drop-same t g = put-record-same t g (recordOf t g + 36)
+drop-same t g =
+    record {
+      marks = record { capacity = refl; user = refl; global = refl; solver = refl };
+      globalFromUser = refl;
+      userFromGlobal = refl;
+      solverFromGlobal = refl;
+      globalFromSolver = refl;
+      assignment = refl;
+      records = λ k n. getD-set-other (t .records) g k (recordOf t g + 36) 47 n;
+    }
 
 pub delete-same : (t : Table) (g : ℕ) → SameButRecord t g (deleteIfUnused g t .table)
 unfolding deleteIfUnused

@@ -1,21 +1,26 @@
 -- Moves, a device of the proofs: the single changes of a table of which every operation is made, each with what a ledger enters of it and
 -- when it is allowed. An allowed move keeps a table sound; so an operation that is a path of allowed moves does. A path also leaves no assumed global
 -- without a solver index; and unless it is one of Released, it leaves a solver index with its assumed global.
-use Prim.Native.Nat.{ℕ, _+_, _<_, _≤_, max}
+use Prim.Native.Nat.{ℕ, _+_, _-_, _<_, _≤_, max}
 use mathlib.Core.Path.{_≡_, refl, sym, ap, _∙_, subst}
 use mathlib.Core.Bool.{Bool, false}
 use mathlib.Core.Logic.{_≢_}
 use mathlib.Core.List.{List, [], _∷_, _++_, append-assoc, append-nil}
 use native.Mathlib.Omega.{arith}
 use native.Mathlib.Decide.{decLt, ℕ-discrete}
+use lib.Dec.{ltb}
 use lib.ListN.{getD, length, length-set, set}
 use lib.Seq.{getD-set-same, getD-set-other}
-use Rattle.scope.specs.Table.{Table, recordOf, modeOf, unitOf, isolatedOf, assumedOf}
-use Rattle.scope.specs.Table.{giveUser, takeUser, giveSolver, takeSolver, putRecord, putValue, dropGlobal}
+use Rattle.base.specs.Choice.{pick}
+use Rattle.base.specs.Bounded.{count}
+use Rattle.scope.specs.Table.{Table, recordOf, modeOf, unitOf, isolatedOf, assumedOf, isDeleted, isUndeleted, undeleted, nextSolver, leastFree}
+use Rattle.scope.specs.Table.{tableOf, withUsed, giveUser, takeUser, giveSolver, takeSolver, putRecord, putValue, dropGlobal}
 use Rattle.scope.specs.Sound.{Shown, Row, Sound}
 use Rattle.scope.specs.Notes.{user+, user-, solver+, solver-, deletes, changes}
 use Rattle.scope.specs.Entries.{Entry, noted, hides}
+use Rattle.base.proofs.CountLaws.{count-most}
 use Rattle.scope.proofs.PairLaws.{pair-link, pair-cut, pair-grow, pair-flip, below-mark, off-set, off-same, rows-at, values-put}
+use Rattle.scope.proofs.StoredLaws.{count-kept, count-given, count-dropped, count-one}
 
 pub data Move : Type 0 where
   gives-user : (g u r : ℕ) → Move
@@ -128,6 +133,28 @@ undeleted-below t g p h = go (decLt g (t .counts .global))
     go (yes l) = l
     go (no n) = let z = p .rows .tail g (omega arith) in absurd (omega arith)
 
+-- and it is counted
+pub used-some : (t : Table) (g : ℕ) → Sound t → recordOf t g < 36 → 1 ≤ t .counts .used
+unfolding undeleted
+used-some t g h u =
+    let z = h .sizes in
+    let k = undeleted-below t g h u in
+    let e = h .stored .used in
+    let n = count-one (t .counts .capacity) (t .records) g (omega arith) (omega arith) u in
+    omega arith
+
+-- there are at most as many as the capacity, and the stored index is the least free one
+pub undeleted-most : (t : Table) → undeleted t ≤ t .counts .capacity
+unfolding undeleted
+undeleted-most t = count-most (t .counts .capacity) _
+
+pub used-most : (t : Table) → Sound t → t .counts .used ≤ t .counts .capacity
+used-most t p = let e = p .stored .used in let m = undeleted-most t in omega arith
+
+pub next-least : (t : Table) → Sound t → t .counts .next ≡ leastFree (t .globalFromSolver) (t .counts .solver)
+unfolding nextSolver
+next-least t p = p .stored .next
+
 -- ---- an allowed move keeps a table sound
 
 row-shown : (r u s : ℕ) → Shown r → Row r (u + 1) s
@@ -153,7 +180,7 @@ row-drop r u h k i w =
     }
 
 give-user-sound : (t : Table) (g u r : ℕ) → Sound t → GivesUser t g u r → Sound (giveUser g u r t)
-unfolding giveUser
+unfolding giveUser undeleted nextSolver
 give-user-sound t g u r p l =
     let z = p .sizes in
     let hu : u < length (t .globalFromUser) = rw (z .globalFromUser) (l .user) in
@@ -170,10 +197,15 @@ give-user-sound t g u r p l =
           (rw (getD-set-same (t .records) g r 47 hr, getD-set-same (t .userFromGlobal) g (u + 1) 0 hg)
           (row-shown r u (getD (t .solverFromGlobal) g 0) (l .shown)));
       values = p .values;
+      stored = record {
+        used = ap (λ (n : ℕ). n + pick (isDeleted (recordOf t g)) 1 0) (p .stored .used)
+            ∙ count-given (t .counts .capacity) (t .records) g r (l .global) hr (l .shown .0);
+        next = p .stored .next;
+      };
     }
 
 take-user-sound : (t : Table) (g u r : ℕ) → Sound t → TakesUser t g u r → Sound (takeUser g u r t)
-unfolding takeUser
+unfolding takeUser undeleted nextSolver
 take-user-sound t g u r p l =
     let z = p .sizes in
     let e : getD (t .globalFromUser) u 0 ≡ g + 1 = p .user .inverse u g .1 (l .has) in
@@ -192,10 +224,14 @@ take-user-sound t g u r p l =
           (rw (getD-set-same (t .records) g r 47 hr, getD-set-same (t .userFromGlobal) g 0 0 hg)
           (row-hidden r (getD (t .solverFromGlobal) g 0) (l .undeleted) (l .hidden)));
       values = p .values;
+      stored = record {
+        used = p .stored .used ∙ count-kept (t .counts .capacity) (t .records) g r hr (p .rows .row g .named (λ q. omega (arith, l .has)) .0) (l .undeleted);
+        next = p .stored .next;
+      };
     }
 
 give-solver-sound : (t : Table) (g s : ℕ) → Sound t → GivesSolver t g s → Sound (giveSolver g s t)
-unfolding giveSolver
+unfolding giveSolver undeleted nextSolver
 give-solver-sound t g s p l =
     let z = p .sizes in
     let gg : g < t .counts .global = undeleted-below t g p (l .undeleted) in
@@ -220,10 +256,11 @@ give-solver-sound t g s p l =
           (row-solver (recordOf t g) (getD (t .userFromGlobal) g 0) (getD (t .solverFromGlobal) g 0) (getD (set (t .solverFromGlobal) g (s + 1)) g 0)
           (l .undeleted) (p .rows .row g));
       values = values-put (max (t .counts .solver) (s + 1)) s (unitOf (recordOf t g)) (p .values) ha (omega arith) (omega arith) (omega arith);
+      stored = record { used = p .stored .used; next = refl };
     }
 
 take-solver-sound : (t : Table) (g s : ℕ) → Sound t → getD (t .solverFromGlobal) g 0 ≡ s + 1 → Sound (takeSolver g s t)
-unfolding takeSolver
+unfolding takeSolver undeleted nextSolver
 take-solver-sound t g s p l =
     let z = p .sizes in
     let e : getD (t .globalFromSolver) s 0 ≡ g + 1 = p .solver .inverse s g .1 l in
@@ -242,13 +279,26 @@ take-solver-sound t g s p l =
           (rw (getD-set-same (t .solverFromGlobal) g 0 0 hg)
           (record { small = w .small; named = w .named; seen = w .seen; gone = λ d. (w .gone d .0, w .gone d .1, refl) }));
       values = p .values;
+      stored = record { used = p .stored .used; next = refl };
     }
 
--- a record with which the global's row still agrees
-pub record-sound : (t : Table) (g r : ℕ) → Sound t → g < t .counts .global → Row r (getD (t .userFromGlobal) g 0) (getD (t .solverFromGlobal) g 0)
-    → Sound (putRecord g r t)
-unfolding putRecord
-record-sound t g r p gg w =
+-- the table with another record of g and another number of undeleted globals
+abbrev recorded : Table → ℕ → ℕ → ℕ → Table
+recorded t g r n =
+    tableOf
+    (withUsed n (t .counts))
+    (t .globalFromUser)
+    (t .userFromGlobal)
+    (t .solverFromGlobal)
+    (t .globalFromSolver)
+    (t .assignment)
+    (set (t .records) g r)
+
+-- a record with which the global's row still agrees, and the stored number with the recount
+record-sound : (t : Table) (g r n : ℕ) → Sound t → g < t .counts .global → Row r (getD (t .userFromGlobal) g 0) (getD (t .solverFromGlobal) g 0)
+    → n ≡ count (t .counts .capacity) (isUndeleted (set (t .records) g r)) → Sound (recorded t g r n)
+unfolding undeleted nextSolver
+record-sound t g r n p gg w e =
     let z = p .sizes in
     let hr : g < length (t .records) = rw (z .records) (omega arith) in
     record {
@@ -260,21 +310,28 @@ record-sound t g r p gg w =
           (omega arith) gg
           (rw (getD-set-same (t .records) g r 47 hr) w);
       values = p .values;
+      stored = record { used = e; next = p .stored .next };
     }
 
 put-record-sound : (t : Table) (g r : ℕ) → Sound t → PutsRecord t g r → Sound (putRecord g r t)
+unfolding putRecord undeleted
 put-record-sound t g r p l =
-    record-sound t g r p (undeleted-below t g p (l .old))
+    let b = undeleted-below t g p (l .old) in
+    record-sound t g r (t .counts .used) p b
     (row-record (recordOf t g) r (getD (t .userFromGlobal) g 0) (getD (t .solverFromGlobal) g 0) (l .old) (l .new) (l .to) (l .from) (p .rows .row g))
+    (p .stored .used ∙ count-kept (t .counts .capacity) (t .records) g r (omega (arith, p .sizes)) (l .old) (l .new))
 
 drop-sound : (t : Table) (g : ℕ) → Sound t → DeletesGlobal t g → Sound (dropGlobal g t)
-unfolding dropGlobal
+unfolding dropGlobal undeleted
 drop-sound t g p l =
-    record-sound t g (recordOf t g + 36) p (undeleted-below t g p (l .undeleted))
+    let b = undeleted-below t g p (l .undeleted) in
+    record-sound t g (recordOf t g + 36) (t .counts .used - 1) p b
     (rw (l .noSolver) (row-drop (recordOf t g) (getD (t .userFromGlobal) g 0) (l .undeleted) (l .hidden) (l .isolated) (rw (l .noSolver) at (p .rows .row g))))
+    (ap (λ (n : ℕ). n - 1) (p .stored .used)
+    ∙ count-dropped (t .counts .capacity) (t .records) g (recordOf t g + 36) (omega (arith, p .sizes)) (omega (arith, p .sizes)) (l .undeleted) (omega arith))
 
 put-value-sound : (t : Table) (s v : ℕ) → Sound t → s < t .counts .solver → v ≤ 2 → Sound (putValue s v t)
-unfolding putValue
+unfolding putValue undeleted nextSolver
 put-value-sound t s v p h k =
     let z = p .sizes in
     record {
@@ -283,6 +340,7 @@ put-value-sound t s v p h k =
       solver = p .solver;
       rows = p .rows;
       values = values-put (t .counts .solver) s v (p .values) (rw (z .assignment) (omega arith)) (omega arith) h k;
+      stored = record { used = p .stored .used; next = p .stored .next };
     }
 
 pub move-sound : (m : Move) (t : Table) → Sound t → Legal m t → Sound (apply m t)
@@ -335,7 +393,7 @@ give-assumes t h i g s l a =
     record { held = getD-set-other (t .globalFromSolver) i s (h + 1) 0 other ∙ c; assumed = a .assumed }
 
 drop-assumes : (t : Table) (h g s : ℕ) → Sound t → DeletesGlobal t h → HoldsAssumed t g s → HoldsAssumed (dropGlobal h t) g s
-unfolding dropGlobal putRecord
+unfolding dropGlobal
 drop-assumes t h g s p l a =
     let b = undeleted-below t h p (l .undeleted) in
     let z = p .sizes in

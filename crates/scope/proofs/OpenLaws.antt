@@ -4,11 +4,14 @@ use mathlib.Core.Path.{_≡_, refl, sym, subst}
 use mathlib.Core.List.{List, []}
 use mathlib.Core.Bool.{Bool, true, false, not}
 use native.Mathlib.Omega.{arith}
+use lib.Dec.{ltb}
 use lib.ListN.{getD, length-replicate, replicate}
 use Rattle.base.specs.Choice.{pick}
+use Rattle.base.specs.Bounded.{least}
 use Rattle.base.specs.Answer.{accepted, refused}
+use Rattle.base.proofs.CountLaws.{count-never}
 use Rattle.base.proofs.Truth.{truth}
-use Rattle.scope.specs.Table.{Table}
+use Rattle.scope.specs.Table.{Table, isUndeleted, undeleted, nextSolver, leastFree}
 use Rattle.scope.specs.Sound.{sizesb, Pair, Sound}
 use Rattle.scope.specs.Outcome.{unless, changing}
 use Rattle.scope.specs.Open.{emptyTable, openOf}
@@ -26,7 +29,7 @@ blank-pair n = record { inverse = λ i j. (λ e. absurd (none i j e), λ e. absu
     none i j e = let z = blank-at n 0 i in omega arith
 
 pub empty-sound : (n : ℕ) → 1 ≤ n → n ≤ 4096 → Sound (emptyTable n)
-unfolding emptyTable
+unfolding emptyTable undeleted nextSolver leastFree least
 empty-sound n h k =
     record {
       sizes = omega (arith, length-replicate {A = ℕ} n 0, length-replicate {A = ℕ} n 47);
@@ -34,6 +37,7 @@ empty-sound n h k =
       solver = blank-pair n;
       rows = record { row = λ g. rw (blank-at n 47 g, blank-at n 0 g) (omega arith); tail = λ g l. blank-at n 47 g };
       values = record { small = λ s. rw (blank-at n 0 s) (omega arith); tail = λ s l. blank-at n 0 s };
+      stored = record { used = sym (count-never n (isUndeleted (replicate n 47)) (λ g. rw (blank-at n 47 g))); next = refl };
     }
 
 -- what an accepted Open was asked for, and what it leaves

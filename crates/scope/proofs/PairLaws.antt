@@ -102,6 +102,12 @@ pub free-most : (a : List ℕ) (amark : ℕ) → leastFree a amark ≤ amark
 unfolding leastFree
 free-most a amark = least-has amark (λ i. eqb (getD a i 0) 0) .within
 
+-- below the watermark it is free
+pub free-word : (a : List ℕ) (amark i : ℕ) → i ≡ leastFree a amark → i < amark → getD a i 0 ≡ 0
+unfolding leastFree
+free-word a amark i e h =
+    rw e (eqb-true (getD a (leastFree a amark) 0) 0 (least-has amark (λ i. eqb (getD a i 0) 0) .here (omega arith)))
+
 -- below it every index is taken
 pub free-before : (a : List ℕ) (amark i : ℕ) → i < leastFree a amark → getD a i 0 ≢ 0
 unfolding leastFree

@@ -14,6 +14,7 @@ use lib.Seq.{take-suc, take-length}
 use borrow.Author.Tests.{eq-eqb, ne-eqb, leb-false, ltb-false}
 use Rattle.base.specs.Choice.{pick}
 use Rattle.base.specs.Bounded.{count, anyOf}
+use Rattle.base.proofs.CountLaws.{count-never}
 use Rattle.base.proofs.MemberLaws.{any-append, any-more, or-first, any-none}
 use Rattle.scope.specs.Literals.{indexOf}
 use Rattle.scope.specs.Table.{Table, word, undeleted}
@@ -27,7 +28,7 @@ use Rattle.scope.proofs.MoveLaws.{reach-sound}
 use Rattle.scope.proofs.ResultLaws.{Good, good-more, each-keeps, each-good}
 use Rattle.scope.proofs.MapLaws.{MapRoom, Mapped, map-user-mapped, mapped-global, isUngranted, ungranted-free, ungranted-has}
 use Rattle.scope.proofs.GrantLaws.{GrantDone, grant-granted, toGrant}
-use Rattle.scope.proofs.WantedLaws.{isFree, takesIn, to-map-count, map-frees, map-covers, count-either, count-within, count-never, count-point}
+use Rattle.scope.proofs.WantedLaws.{isFree, takesIn, to-map-count, map-frees, map-covers, count-either, count-within, count-point}
 
 -- ---- the literals of a prefix
 

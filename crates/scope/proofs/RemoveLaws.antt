@@ -151,7 +151,7 @@ take-same : (t : Table) (g s : ℕ) → SameButHeld t g s (takeSolver g s t)
 unfolding takeSolver
 take-same t g s =
     record {
-      marks = marks-stay (t .counts);
+      marks = record { capacity = refl; user = refl; global = refl; solver = refl };
       globalFromUser = refl;
       userFromGlobal = refl;
       assignment = refl;

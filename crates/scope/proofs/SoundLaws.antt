@@ -9,11 +9,12 @@ use native.Mathlib.Omega.{arith}
 use lib.Dec.{ltb}
 use lib.ListN.{length, getD, List·getD-eq-default}
 use borrow.Author.Tests.{ltb-true, lt-ltb, ne-eqb}
-use Rattle.base.proofs.BelowLaws.{and-left, all-at, all-intro}
+use Rattle.base.proofs.BelowLaws.{and-left, and-right, and-both, all-at, all-intro}
 use Rattle.base.proofs.MemberLaws.{getD-default}
 use Rattle.base.proofs.Truth.{truth, split}
 use Rattle.scope.specs.Table.{Table, modeOf, isolatedOf, isShown}
-use Rattle.scope.specs.Sound.{sizesb, marksb, atMostb, tailb, backb, namedb, deletedb, tailsb, pairsb, soundb, Sizes, Pair, Shown, Row, Sound}
+use Rattle.scope.specs.Sound.{sizesb, marksb, atMostb, tailb, backb, namedb, deletedb, tailsb, pairsb, listsb, storedb, soundb}
+use Rattle.scope.specs.Sound.{Sizes, Pair, Shown, Row, Stored, Sound}
 
 -- ---- shown
 
@@ -127,9 +128,19 @@ deleted-to : (records solvers : List ℕ)
 unfolding deletedb
 deleted-to records solvers f = all-intro (length records) _ (λ g l. simp truth (λ k. let z = f g k in ((z .0, z .1), z .2)))
 
+-- ---- the stored numbers
+
+stored-of : (t : Table) → storedb t ≡ true → Stored t
+unfolding storedb
+stored-of t h = let k = simp truth at h in record { used = omega (arith, k .0); next = omega (arith, k .1) }
+
+stored-to : (t : Table) → Stored t → storedb t ≡ true
+unfolding storedb
+stored-to t p = simp truth (omega (arith, p .used), omega (arith, p .next))
+
 -- ---- the whole
 
--- the eight tests of `soundb`, and of its two lists of tests
+-- the tests of `soundb`, and of its two lists of tests
 pub record Tests (t : Table) : Type 0 where
   pub sizes : sizesb t ≡ true
   pub marks : marksb (t .counts) ≡ true
@@ -139,11 +150,12 @@ pub record Tests (t : Table) : Type 0 where
   pub pairs : pairsb t ≡ true
   pub named : namedb (t .records) (t .userFromGlobal) ≡ true
   pub deleted : deletedb (t .records) (t .solverFromGlobal) ≡ true
+  pub stored : storedb t ≡ true
 
 pub tests-of : (t : Table) → soundb t ≡ true → Tests t
-unfolding soundb
+unfolding soundb listsb
 tests-of t h =
-    let k = simp truth at h in
+    let k = simp truth at (and-left (listsb t) (storedb t) h) in
     record {
       sizes = k .0 .0 .0 .0 .0 .0 .0;
       marks = k .0 .0 .0 .0 .0 .0 .1;
@@ -154,11 +166,14 @@ tests-of t h =
       pairs = k .0 .0 .1;
       named = k .0 .1;
       deleted = k .1;
+      stored = and-right (listsb t) (storedb t) h;
     }
 
 pub tests-to : (t : Table) → Tests t → soundb t ≡ true
-unfolding soundb
-tests-to t k = simp truth (((((((k .sizes, k .marks), k .records), k .values), k .tails), k .pairs), k .named), k .deleted)
+unfolding soundb listsb
+tests-to t k =
+    and-both {a = listsb t} {b = storedb t}
+    (simp truth (((((((k .sizes, k .marks), k .records), k .values), k .tails), k .pairs), k .named), k .deleted)) (k .stored)
 
 -- A table that passes the test is sound,
 pub sound-of : (t : Table) → soundb t ≡ true → Sound t
@@ -178,6 +193,7 @@ sound-of t h =
         tail = tail-of (t .counts .global) 47 (t .records) (x .1);
       };
       values = record { small = atMost-of 2 0 (t .assignment) (omega arith) (k .values); tail = tail-of (t .counts .solver) 0 (t .assignment) (x .0 .1) };
+      stored = stored-of t (k .stored);
     }
 
 -- and a sound table passes it.
@@ -210,4 +226,5 @@ sound-to t p =
       );
       named = named-to (t .records) (t .userFromGlobal) (λ g. p .rows .row g .named) (λ g. p .rows .row g .seen);
       deleted = deleted-to (t .records) (t .solverFromGlobal) (λ g. p .rows .row g .gone);
+      stored = stored-to t (p .stored);
     })

@@ -45,11 +45,6 @@ count-within (suc n) p q h = go (p n) (q n) (h n) (count-within n p q h)
     go false true f l = omega arith
     go false false f l = l
 
-pub count-never : (n : ℕ) (p : ℕ → Bool) → ((i : ℕ) → p i ≡ false) → count n p ≡ 0
-unfolding count
-count-never zero p h = refl
-count-never (suc n) p h = rw (h n) (count-never n p h)
-
 -- the numbers from a up and below b
 pub count-range : (n a b : ℕ) → count n (λ i. leb a i && ltb i b) ≡ min n b - a
 unfolding count

@@ -4,6 +4,8 @@ use Prim.Native.Nat.{ℕ}
 use mathlib.Core.Bool.{Bool}
 use mathlib.Core.Path.{_≡_}
 use mathlib.Core.List.{List, [], _∷_}
+use lib.Dec.{ltb}
+use Rattle.base.specs.Choice.{pick}
 use Rattle.base.specs.Answer.{Answer, accepted, refused}
 use Rattle.scope.specs.Table.{Table}
 use Rattle.scope.specs.Notes.{Note, notesWords}
@@ -53,12 +55,12 @@ w4 a b c d = a ∷ b ∷ c ∷ d ∷ []
 abbrev pub w6 : ℕ → ℕ → ℕ → ℕ → ℕ → ℕ → List ℕ
 w6 a b c d e f = a ∷ b ∷ c ∷ d ∷ e ∷ f ∷ []
 
--- A table: capacity, user, global and solver watermark; global from user, user from global; solver from global, global from solver;
--- assignment; records.
-abbrev pub tab : ℕ → ℕ → ℕ → ℕ → List ℕ → List ℕ → List ℕ → List ℕ → List ℕ → List ℕ → Table
-tab n u g s gu ug sg gs a r =
+-- A table: capacity, user, global and solver watermark, number of undeleted globals and least unmapped solver index; global from user, user from
+-- global; solver from global, global from solver; assignment; records.
+abbrev pub tab : ℕ → ℕ → ℕ → ℕ → ℕ → ℕ → List ℕ → List ℕ → List ℕ → List ℕ → List ℕ → List ℕ → Table
+tab n u g s k m gu ug sg gs a r =
     record {
-      counts = record { capacity = n; user = u; global = g; solver = s };
+      counts = record { capacity = n; user = u; global = g; solver = s; used = k; next = m };
       globalFromUser = gu;
       userFromGlobal = ug;
       solverFromGlobal = sg;
@@ -66,6 +68,10 @@ tab n u g s gu ug sg gs a r =
       assignment = a;
       records = r;
     }
+
+-- 1 for an undeleted record
+abbrev pub live : ℕ → ℕ
+live r = pick (ltb r 36) 1 0
 
 -- refused with this number: nothing is changed
 abbrev pub turns : ℕ → Table → CallSeen

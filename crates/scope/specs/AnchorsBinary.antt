@@ -17,7 +17,7 @@ empties n = replicate n 0
 
 -- index 0 is held and index 1 is not, and neither has a value
 abbrev pub holed1 : Table
-holed1 = tab 2 0 2 2 (w2 0 0) (w2 0 0) (w2 1 0) (w2 1 0) (w2 0 0) (w2 2 2)
+holed1 = tab 2 0 2 2 2 1 (w2 0 0) (w2 0 0) (w2 1 0) (w2 1 0) (w2 0 0) (w2 2 2)
 
 -- ---- 1, 15, 8, 2. Words; half the number of entries; bytes. `held4` has eight sections, `holed` four, of which index 0 is not held.
 

@@ -10,10 +10,10 @@ use Rattle.scope.specs.AnchorsModes.{lone, held1}
 
 -- `mixed` with other records, or with another assignment
 abbrev pub withRecords : ℕ → ℕ → ℕ → Table
-withRecords a b c = tab 4 3 3 2 (w4 2 3 1 0) (w4 3 1 2 0) (w4 2 0 1 0) (w4 3 1 0 0) (w4 2 0 0 0) (w4 a b c 47)
+withRecords a b c = tab 4 3 3 2 3 2 (w4 2 3 1 0) (w4 3 1 2 0) (w4 2 0 1 0) (w4 3 1 0 0) (w4 2 0 0 0) (w4 a b c 47)
 
 abbrev pub assigned : ℕ → ℕ → Table
-assigned a b = tab 4 3 3 2 (w4 2 3 1 0) (w4 3 1 2 0) (w4 2 0 1 0) (w4 3 1 0 0) (w4 a b 0 0) (w4 9 13 18 47)
+assigned a b = tab 4 3 3 2 3 2 (w4 2 3 1 0) (w4 3 1 2 0) (w4 2 0 1 0) (w4 3 1 0 0) (w4 a b 0 0) (w4 9 13 18 47)
 
 -- ---- Marks: 1, 8
 

@@ -22,7 +22,7 @@ use Rattle.scope.specs.AnchorsNames.{unsound, holed}
 -- Solver indices 0, 1, 2, 3 are held by the globals 3, 2, 0, 1, whose DIMACS numbers are 4, 3, 1, 2. 1 is false, 2 is true, the others have
 -- no value. So 2 and 5 are false, 3 and 4 are true, and 0, 1, 6, 7 are unknown.
 abbrev pub held4 : Table
-held4 = tab 4 0 4 4 (w4 0 0 0 0) (w4 0 0 0 0) (w4 3 4 2 1) (w4 4 3 1 2) (w4 0 1 2 0) (w4 2 2 2 2)
+held4 = tab 4 0 4 4 4 4 (w4 0 0 0 0) (w4 0 0 0 0) (w4 3 4 2 1) (w4 4 3 1 2) (w4 0 1 2 0) (w4 2 2 2 2)
 
 abbrev pub the : ℕ → Global
 the g = record { 0 = g }

@@ -1,4 +1,4 @@
--- Insertion into a map pair (document 01, `VarBiMapMut`): the four counts are lent and advanced by it.
+-- Insertion into a map pair (document 01, `VarBiMapMut`): the counts are lent, it advances watermarks, and the two stored numbers pass through.
 use Prim.Native.Nat.{ℕ, _+_, _≤_}
 use mathlib.Core.Path.{_≡_}
 use mathlib.Core.Bool.{_&&_}

@@ -1,7 +1,7 @@
 -- How the contracts read. This page first; the definitions of each call are in the file that its contract names.
 --
 -- Every call takes the table by the same parameters, in this order and by these names, which every contract repeats word for word:
---     c                the capacity and the three watermarks, by value: they come back in the answer
+--     c                the six counts: capacity, three watermarks, the two stored numbers; by value: they come back in the answer
 --     gu ug            global from user, user from global: the first letter is what a word holds, the second what it stands at
 --     sg gs            solver from global, global from solver
 --     assignment       a word for each solver index

@@ -1,6 +1,7 @@
 pub mod Literals
 pub mod Table
 pub mod BiMap
+pub mod Cursor
 pub mod Sound
 pub mod Notes
 pub mod Entries
@@ -30,3 +31,4 @@ pub mod AnchorsBinary
 pub mod AnchorsSound
 pub mod AnchorsWords
 pub mod AnchorsDistinct
+pub mod AnchorsStored

@@ -10,7 +10,7 @@ use Rattle.scope.specs.Outcome.{Outcome, unless, changing}
 
 -- the counts of a freshly opened table
 abbrev pub openCounts : ℕ → Counts
-openCounts capacity = record { capacity = capacity; user = 0; global = 0; solver = 0 }
+openCounts capacity = record { capacity = capacity; user = 0; global = 0; solver = 0; used = 0; next = 0 }
 
 -- a freshly opened, empty table
 unfoldable pub emptyTable : ℕ → Table

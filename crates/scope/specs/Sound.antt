@@ -1,4 +1,4 @@
--- When a table is sound (document 01, "Words used"): as a test, and as facts.
+-- When a table is sound (document 01, "Words used"; document 02, order 5): as a test, and as facts.
 use Prim.Native.Nat.{ℕ, _+_, _-_, _/_, _%_, _≤_, _<_}
 use mathlib.Core.Path.{_≡_}
 use mathlib.Core.Bool.{Bool, true, false, _&&_, _||_, not, Bool·beq}
@@ -8,7 +8,7 @@ use lib.Dec.{eqb, ltb, leb}
 use lib.ListN.{length, getD}
 use Rattle.base.specs.Bounded.{allBelow}
 use Rattle.scope.specs.declared.Counts.{Counts}
-use Rattle.scope.specs.Table.{Table, modeOf, isolatedOf, isShown}
+use Rattle.scope.specs.Table.{Table, modeOf, isolatedOf, isShown, nextSolver, undeleted}
 
 -- ---- the test
 
@@ -66,8 +66,9 @@ pairsb t =
     && backb (t .solverFromGlobal) (t .globalFromSolver)
     && backb (t .globalFromSolver) (t .solverFromGlobal)
 
-unfoldable pub soundb : Table → Bool
-soundb t =
+-- The maps, the records and the assignment, with the watermarks.
+unfoldable pub listsb : Table → Bool
+listsb t =
     sizesb t
     && marksb (t .counts)
     && atMostb 71 (t .records)
@@ -76,6 +77,13 @@ soundb t =
     && pairsb t
     && namedb (t .records) (t .userFromGlobal)
     && deletedb (t .records) (t .solverFromGlobal)
+
+-- The stored numbers are those of the recount (document 02, order 5).
+unfoldable pub storedb : Table → Bool
+storedb t = eqb (t .counts .used) (undeleted t) && eqb (t .counts .next) (nextSolver t)
+
+unfoldable pub soundb : Table → Bool
+soundb t = listsb t && storedb t
 
 -- ---- the facts. A word past the end of a list reads as the blank, so that they hold of every index.
 
@@ -121,9 +129,15 @@ pub record Values (assignment : List ℕ) (mark : ℕ) : Type 0 where
   pub small : (s : ℕ) → getD assignment s 0 ≤ 2
   pub tail : (s : ℕ) → mark ≤ s → getD assignment s 0 ≡ 0
 
+-- what `storedb` tests
+pub record Stored (t : Table) : Type 0 where
+  pub used : t .counts .used ≡ undeleted t
+  pub next : t .counts .next ≡ nextSolver t
+
 pub record Sound (t : Table) : Type 0 where
   pub sizes : Sizes t
   pub user : Pair (t .globalFromUser) (t .userFromGlobal) (t .counts .user) (t .counts .global)
   pub solver : Pair (t .globalFromSolver) (t .solverFromGlobal) (t .counts .solver) (t .counts .global)
   pub rows : Rows (t .records) (t .userFromGlobal) (t .solverFromGlobal) (t .counts .global)
   pub values : Values (t .assignment) (t .counts .solver)
+  pub stored : Stored t

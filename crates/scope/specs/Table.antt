@@ -4,6 +4,7 @@ use mathlib.Core.Bool.{Bool, _&&_, not}
 use mathlib.Core.List.{List}
 use lib.Dec.{eqb, ltb, leb}
 use lib.ListN.{getD, set}
+use Rattle.base.specs.Choice.{pick}
 use Rattle.base.specs.Bounded.{least, count}
 use Rattle.scope.specs.declared.Counts.{Counts}
 
@@ -75,7 +76,7 @@ withUnit r v = r / 18 * 18 + 9 + 3 * v + modeOf r
 abbrev pub recordOf : Table → ℕ → ℕ
 recordOf t g = getD (t .records) g freshRecord
 
--- ---- the next index, and how many globals are in use
+-- ---- the recount: the least free solver index, and how many globals are undeleted
 
 -- the least unmapped index of a map, which is its watermark where none below is free
 unfoldable pub leastFree : List ℕ → ℕ → ℕ
@@ -84,23 +85,51 @@ leastFree xs mark = least mark (λ i. eqb (getD xs i 0) 0)
 unfoldable pub nextSolver : Table → ℕ
 nextSolver t = leastFree (t .globalFromSolver) (t .counts .solver)
 
+-- the global g is undeleted
+abbrev pub isUndeleted : List ℕ → ℕ → Bool
+isUndeleted records g = ltb (getD records g freshRecord) 36
+
 unfoldable pub undeleted : Table → ℕ
-undeleted t = count (t .counts .capacity) (λ g. ltb (recordOf t g) 36)
+undeleted t = count (t .counts .capacity) (isUndeleted (t .records))
+
+-- The counts store both, as `used` and `next`: the stored numbers (document 02, order 5). The counts with another of either:
+abbrev pub withUsed : ℕ → Counts → Counts
+withUsed n c = record { capacity = c .capacity; user = c .user; global = c .global; solver = c .solver; used = n; next = c .next }
+
+abbrev pub withNext : ℕ → Counts → Counts
+withNext n c = record { capacity = c .capacity; user = c .user; global = c .global; solver = c .solver; used = c .used; next = n }
 
 -- ---- single changes
 
 -- Inserting raises the watermarks to cover the two indices.
 abbrev pub coverUser : Counts → ℕ → ℕ → Counts
-coverUser c u g = record { capacity = c .capacity; user = max (c .user) (u + 1); global = max (c .global) (g + 1); solver = c .solver }
+coverUser c u g =
+    record { capacity = c .capacity; user = max (c .user) (u + 1); global = max (c .global) (g + 1); solver = c .solver; used = c .used; next = c .next }
 
 abbrev pub coverSolver : Counts → ℕ → ℕ → Counts
-coverSolver c s g = record { capacity = c .capacity; user = c .user; global = max (c .global) (g + 1); solver = max (c .solver) (s + 1) }
+coverSolver c s g =
+    record { capacity = c .capacity; user = c .user; global = max (c .global) (g + 1); solver = max (c .solver) (s + 1); used = c .used; next = c .next }
+
+-- A user goes to a global, whose record was `was`: one that was deleted is counted.
+abbrev pub mapCounts : Counts → ℕ → ℕ → ℕ → Counts
+mapCounts c u g was = withUsed (c .used + pick (isDeleted was) 1 0) (coverUser c u g)
+
+-- A solver index goes to a global, or is withdrawn, and the map of solver indices becomes gs.
+abbrev pub grantCounts : Counts → ℕ → ℕ → List ℕ → Counts
+grantCounts c s g gs = withNext (leastFree gs (max (c .solver) (s + 1))) (coverSolver c s g)
+
+abbrev pub removeCounts : Counts → List ℕ → Counts
+removeCounts c gs = withNext (leastFree gs (c .solver)) c
+
+-- A global is deleted, and counted no more.
+abbrev pub dropCounts : Counts → Counts
+dropCounts c = withUsed (c .used - 1) c
 
 -- the user u and the record r go to the global g
 unfoldable pub giveUser : ℕ → ℕ → ℕ → Table → Table
 giveUser g u r t =
     tableOf
-    (coverUser (t .counts) u g)
+    (mapCounts (t .counts) u g (recordOf t g))
     (set (t .globalFromUser) u (g + 1))
     (set (t .userFromGlobal) g (u + 1))
     (t .solverFromGlobal)
@@ -123,7 +152,7 @@ takeUser g u r t =
 unfoldable pub giveSolver : ℕ → ℕ → Table → Table
 giveSolver g s t =
     tableOf
-    (coverSolver (t .counts) s g)
+    (grantCounts (t .counts) s g (set (t .globalFromSolver) s (g + 1)))
     (t .globalFromUser)
     (t .userFromGlobal)
     (set (t .solverFromGlobal) g (s + 1))
@@ -134,7 +163,7 @@ giveSolver g s t =
 -- the solver index s of the global g is withdrawn; its assignment word stays
 unfoldable pub takeSolver : ℕ → ℕ → Table → Table
 takeSolver g s t =
-    tableOf (t .counts)
+    tableOf (removeCounts (t .counts) (set (t .globalFromSolver) s 0))
     (t .globalFromUser)
     (t .userFromGlobal)
     (set (t .solverFromGlobal) g 0)
@@ -154,4 +183,12 @@ putValue s v t =
 
 -- the global g is deleted
 unfoldable pub dropGlobal : ℕ → Table → Table
-dropGlobal g t = putRecord g (recordOf t g + 36) t
+dropGlobal g t =
+    tableOf
+    (dropCounts (t .counts))
+    (t .globalFromUser)
+    (t .userFromGlobal)
+    (t .solverFromGlobal)
+    (t .globalFromSolver)
+    (t .assignment)
+    (set (t .records) g (recordOf t g + 36))

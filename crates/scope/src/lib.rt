@@ -1,18 +1,22 @@
 // The types of document 01, and how the counts go through a single change. Its definitions are in specs/, their laws in proofs/.
 ghost use mathlib.Core.Path.{_≡_};
-ghost use Prim.Native.Nat.{_+_, _^_, _≤_, _<_, max};
-ghost use lib.ListN.{length, set};
+ghost use Prim.Native.Nat.{_+_, _^_, _≤_, _<_, max, min};
+ghost use lib.ListN.{length, getD, set};
+ghost use Rattle.base.specs.Choice.{pick};
 ghost use Rattle.base.specs.Lent.{old, new};
-ghost use Rattle.scope.specs.Table.{coverUser, coverSolver};
+ghost use Rattle.scope.specs.Table.{coverUser, coverSolver, isDeleted, leastFree, mapCounts, grantCounts, removeCounts, dropCounts};
 ghost use Rattle.scope.specs.BiMap.{indexIn, coverName, Inserts};
+ghost use Rattle.scope.specs.Cursor.{AllMapped};
 
-// The capacity and the three watermarks. The C surface has it as it is.
+// The capacity, the three watermarks, how many globals are undeleted, and the least unmapped solver index. The C surface has it as it is.
 #[repr(C)]
 pub struct Counts {
     pub capacity: u32,
     pub user: u32,
     pub global: u32,
     pub solver: u32,
+    pub used: u32,
+    pub next: u32,
 }
 
 // Two words of a map pair: the first takes i to j, the second j to i.
@@ -45,6 +49,36 @@ pub fn larger(a: u32, b: u32) -> u32
     if a < b { b } else { a }
 }
 
+fn smaller(a: u32, b: u32) -> u32
+    ensures { λ r. ⌜ r ≡ min a b ⌝ }
+{
+    if a < b { a } else { b }
+}
+
+// The least index below the mark at which the map has 0, else the mark; below `from` it has none.
+pub fn least_free(xs: &[u32], mark: u32, from: u32) -> u32
+    requires { ⌜ mark ≤ length (now xs) ⌝ }
+    requires { ⌜ AllMapped (now xs) mark from ⌝ }
+    ensures { λ r. ⌜ r ≡ leastFree (old xs) mark ⌝ }
+{
+    let mut i = from;
+    while i < mark {
+        if xs[i as usize] == 0 {
+            return i;
+        }
+        i += 1;
+    }
+    i
+}
+
+// How many globals are undeleted once one whose record was `was` gets a user.
+fn used_with(used: u32, was: u32) -> u32
+    requires { ⌜ used + 1 < 2 ^ 32 ⌝ }
+    ensures { λ r. ⌜ r ≡ used + pick (isDeleted was) 1 0 ⌝ }
+{
+    if 36 <= was { used + 1 } else { used }
+}
+
 // A name that is not global.
 pub enum Name {
     User(User),
@@ -71,10 +105,10 @@ fn cover_user(c: Counts, u: User, g: Global) -> Counts
     requires { ⌜ g .0 < c .capacity ⌝ }
     ensures { λ r. ⌜ r ≡ coverUser c (u .0) (g .0) ⌝ }
 {
-    let mut next = c;
-    next.user = larger(c.user, u.0 + 1);
-    next.global = larger(c.global, g.0 + 1);
-    next
+    let mut covered = c;
+    covered.user = larger(c.user, u.0 + 1);
+    covered.global = larger(c.global, g.0 + 1);
+    covered
 }
 
 fn cover_solver(c: Counts, s: Solver, g: Global) -> Counts
@@ -82,10 +116,10 @@ fn cover_solver(c: Counts, s: Solver, g: Global) -> Counts
     requires { ⌜ g .0 < c .capacity ⌝ }
     ensures { λ r. ⌜ r ≡ coverSolver c (s .0) (g .0) ⌝ }
 {
-    let mut next = c;
-    next.solver = larger(c.solver, s.0 + 1);
-    next.global = larger(c.global, g.0 + 1);
-    next
+    let mut covered = c;
+    covered.solver = larger(c.solver, s.0 + 1);
+    covered.global = larger(c.global, g.0 + 1);
+    covered
 }
 
 // The counts that cover a name and its global.
@@ -142,18 +176,33 @@ pub fn inserted(counts: Counts, fwd: &mut [u32], bwd: &mut [u32], n: Name, g: Gl
 }
 
 impl Counts {
-    // The user goes to the global.
-    pub fn map(mut self, gu: &mut [u32], ug: &mut [u32], user: User, global: Global) -> Counts
+    // The user goes to the global, and its record becomes w; a global that was deleted is counted.
+    pub fn map(
+        mut self,
+        gu: &mut [u32],
+        ug: &mut [u32],
+        records: &mut [u32],
+        user: User,
+        global: Global,
+        w: u32,
+    ) -> Counts
         requires { ⌜ user .0 < length (now gu) ⌝ }
         requires { ⌜ global .0 < length (now ug) ⌝ }
+        requires { ⌜ global .0 < length (now records) ⌝ }
         requires { ⌜ user .0 < self .capacity ⌝ }
         requires { ⌜ global .0 < self .capacity ⌝ }
-        ensures { λ r. ⌜ r ≡ coverUser self (user .0) (global .0) ⌝ }
+        requires { ⌜ self .used + 1 < 2 ^ 32 ⌝ }
+        ensures { λ r. ⌜ r ≡ mapCounts self (user .0) (global .0) (getD (old records) (global .0) 47) ⌝ }
         ensures { λ _. ⌜ new gu ≡ set (old gu) (user .0) (global .0 + 1) ⌝ }
         ensures { λ _. ⌜ new ug ≡ set (old ug) (global .0) (user .0 + 1) ⌝ }
+        ensures { λ _. ⌜ new records ≡ set (old records) (global .0) w ⌝ }
     {
+        let g = global.0 as usize;
+        let used = used_with(self.used, records[g]);
+        records[g] = w;
         let p = inserted(self, gu, ug, Name::User(user), global);
         self = p.counts;
+        self.used = used;
         self
     }
 
@@ -169,22 +218,25 @@ impl Counts {
         self
     }
 
-    // The solver index goes to the global.
+    // The solver index, which is the least free one, goes to the global; the next is searched from there on.
     pub fn grant(mut self, sg: &mut [u32], gs: &mut [u32], global: Global, solver: Solver) -> Counts
         requires { ⌜ global .0 < length (now sg) ⌝ }
         requires { ⌜ solver .0 < length (now gs) ⌝ }
         requires { ⌜ global .0 < self .capacity ⌝ }
         requires { ⌜ solver .0 < self .capacity ⌝ }
-        ensures { λ r. ⌜ r ≡ coverSolver self (solver .0) (global .0) ⌝ }
+        requires { ⌜ self .solver ≤ length (now gs) ⌝ }
+        requires { ⌜ AllMapped (now gs) (self .solver) (solver .0) ⌝ }
+        ensures { λ r. ⌜ r ≡ grantCounts self (solver .0) (global .0) (new gs) ⌝ }
         ensures { λ _. ⌜ new sg ≡ set (old sg) (global .0) (solver .0 + 1) ⌝ }
         ensures { λ _. ⌜ new gs ≡ set (old gs) (solver .0) (global .0 + 1) ⌝ }
     {
         let p = inserted(self, gs, sg, Name::Solver(solver), global);
         self = p.counts;
+        self.next = least_free(gs, self.solver, solver.0 + 1);
         self
     }
 
-    // The solver index of the global is withdrawn.
+    // The solver index of the global is withdrawn; the least free one is the smaller of it and the one before.
     pub fn remove(
         mut self,
         sg: &mut [u32],
@@ -194,11 +246,29 @@ impl Counts {
     ) -> Counts
         requires { ⌜ global .0 < length (now sg) ⌝ }
         requires { ⌜ solver .0 < length (now gs) ⌝ }
-        ensures { λ r. ⌜ r ≡ self ⌝ }
+        requires { ⌜ solver .0 < self .solver ⌝ }
+        requires { ⌜ self .next ≡ leastFree (now gs) (self .solver) ⌝ }
+        ensures { λ r. ⌜ r ≡ removeCounts self (new gs) ⌝ }
         ensures { λ _. ⌜ new sg ≡ set (old sg) (global .0) 0 ⌝ }
         ensures { λ _. ⌜ new gs ≡ set (old gs) (solver .0) 0 ⌝ }
     {
         cut(sg, gs, global.0, solver.0);
+        self.next = smaller(self.next, solver.0);
+        self
+    }
+
+    // The global is deleted, and counted no more.
+    pub fn delete(mut self, records: &mut [u32], global: Global) -> Counts
+        requires { ⌜ global .0 < length (now records) ⌝ }
+        requires { ⌜ getD (now records) (global .0) 47 < 36 ⌝ }
+        requires { ⌜ 1 ≤ self .used ⌝ }
+        ensures { λ r. ⌜ r ≡ dropCounts self ⌝ }
+        ensures { λ _. ⌜ new records ≡ set (old records) (global .0) (getD (old records) (global .0) 47 + 36) ⌝ }
+    {
+        let g = global.0 as usize;
+        let w = records[g];
+        records[g] = w + 36;
+        self.used = self.used - 1;
         self
     }
 }

@@ -18,7 +18,7 @@ use Rattle.scope.specs.declared.ProofStep.the-variants.{AddClause, AtClause, Un
 use Rattle.scope.specs.declared.DeleteClauseProof.the-variants.{Redundant}
 use Rattle.scope.specs.Table.{Table, tableOf, word, isShown, giveUser, takeUser, giveSolver, takeSolver, putRecord, putValue, dropGlobal, leastFree, nextSolver}
 use Rattle.scope.specs.Table.{undeleted}
-use Rattle.scope.specs.Sound.{soundb, sizesb, marksb, atMostb, tailb, backb, namedb, deletedb, tailsb, pairsb}
+use Rattle.scope.specs.Sound.{soundb, sizesb, marksb, atMostb, tailb, backb, namedb, deletedb, tailsb, pairsb, listsb, storedb}
 use Rattle.scope.specs.Outcome.{choose, each, unless}
 use Rattle.scope.specs.Open.{emptyTable}
 use Rattle.scope.specs.Notes.{notesWords, Note, user+, user-, solver+, solver-, deletes, changes, Held, latest, older}
@@ -105,12 +105,11 @@ pub handed-on :
     ∷ [])
     × (run Text (start (emptyTable 8)) handedOn .lines ≡ handedLines)
     × (run Text (start (emptyTable 8)) handedOn .bytes ≡ 45 ∷ 51 ∷ 32 ∷ 48 ∷ 10 ∷ 45 ∷ 50 ∷ 32 ∷ 48 ∷ 10 ∷ [])
-unfolding allBelow least count anyOf spell further bytesOf number numbers encodeStep encode word isShown giveUser takeUser giveSolver takeSolver
-    putRecord dropGlobal soundb sizesb marksb atMostb tailb backb namedb deletedb tailsb pairsb choose each unless emptyTable leastFree M.globalFor M.mapOne
-    M.fillGap M.mapUser M.nextUser undeleted M.toMap M.unsampled M.mapRefusal M.mapOf nextSolver G.grantOne G.grant G.grantRefusal G.grantOf
-    D.isUnused D.deleteIfUnused D.show D.hide D.change D.setMode D.setModeRefusal D.setModeOf D.isHidden D.observeOne D.observe D.observeRefusal
-    D.observeOf R.removeHeld R.learn R.sweepHeld R.sweepOne R.sweep R.sweepRefusal R.sweepOf notHeld heldElse renameLits unmatched outside unheld litsHeldElse
-    stepRefusal
+unfolding allBelow least count anyOf spell further bytesOf number numbers encodeStep encode word isShown giveUser takeUser giveSolver takeSolver putRecord
+    dropGlobal soundb listsb storedb sizesb marksb atMostb tailb backb namedb deletedb tailsb pairsb choose each unless emptyTable leastFree M.globalFor
+    M.mapOne M.fillGap M.mapUser M.nextUser undeleted M.toMap M.unsampled M.mapRefusal M.mapOf nextSolver G.grantOne G.grant G.grantRefusal G.grantOf
+    D.isUnused D.deleteIfUnused D.show D.hide D.change D.setMode D.setModeRefusal D.setModeOf D.isHidden D.observeOne D.observe D.observeRefusal D.observeOf
+    R.removeHeld R.learn R.sweepHeld R.sweepOne R.sweep R.sweepRefusal R.sweepOf notHeld heldElse renameLits unmatched outside unheld litsHeldElse stepRefusal
     stepBytes writeRefusal writeOf notesOf perform turnDoes entriesOf linesOf enter afterTurn run
 handed-on = (refl, refl, refl, refl)
 
@@ -150,12 +149,10 @@ pub hidden-log :
     (run Text (start (emptyTable 8)) hiding .log ≡ hiddenLog)
     × (run Text (run Text (start (emptyTable 8)) hiding) (turn observe (lending 6 1 0 0) ∷ []) .log
     ≡ hiddenLog ++ noted (changes 1 false) ∷ noted (user+ 1 1) ∷ [])
-unfolding allBelow least count anyOf word isShown giveUser takeUser giveSolver putRecord dropGlobal soundb sizesb marksb atMostb tailb backb namedb deletedb
-    tailsb pairsb choose each unless emptyTable leastFree M.globalFor M.mapOne M.fillGap M.mapUser M.nextUser undeleted M.toMap M.unsampled
-    M.mapRefusal M.mapOf nextSolver G.grantOne G.grant G.grantRefusal G.grantOf D.isUnused D.deleteIfUnused D.show D.hide D.change D.setMode
-    D.setModeRefusal D.setModeOf D.isHidden D.observeOne D.observe D.observeRefusal D.observeOf notHeld heldElse notesOf perform turnDoes entriesOf linesOf
-    enter afterTurn
-    run
+unfolding allBelow least count anyOf word isShown giveUser takeUser giveSolver putRecord dropGlobal soundb listsb storedb sizesb marksb atMostb tailb backb
+    namedb deletedb tailsb pairsb choose each unless emptyTable leastFree M.globalFor M.mapOne M.fillGap M.mapUser M.nextUser undeleted M.toMap M.unsampled
+    M.mapRefusal M.mapOf nextSolver G.grantOne G.grant G.grantRefusal G.grantOf D.isUnused D.deleteIfUnused D.show D.hide D.change D.setMode D.setModeRefusal
+    D.setModeOf D.isHidden D.observeOne D.observe D.observeRefusal D.observeOf notHeld heldElse notesOf perform turnDoes entriesOf linesOf enter afterTurn run
 hidden-log = (refl, refl)
 
 -- of the globals 0 to 3, only 0 is shown, and then 0 and 1
@@ -241,12 +238,10 @@ pub all-clauses :
     ∷ 45 ∷ 56 ∷ 32 ∷ 48 ∷ 10
     ∷ [])
 unfolding allBelow least count anyOf keepOf spell further bytesOf number numbers encodeStep encode word isShown giveUser giveSolver putRecord dropGlobal
-    putValue
-    soundb sizesb marksb atMostb tailb backb namedb deletedb tailsb pairsb choose each unless emptyTable leastFree M.globalFor M.mapOne M.fillGap
-    M.mapUser undeleted M.unsampled nextSolver G.grantOne G.grant P.poseOne P.pose P.wanted P.usersToMap P.poseRefusal P.poseOf notHeld heldElse assignRefusal
-    assignOf renameLits unmatched outside unheld litsHeldElse stepRefusal stepBytes writeRefusal writeOf unfalse simplified simplifyBytes simplifyRefusal
-    simplifyOf
-    notesOf perform turnDoes entriesOf linesOf enter afterTurn run
+    putValue soundb listsb storedb sizesb marksb atMostb tailb backb namedb deletedb tailsb pairsb choose each unless emptyTable leastFree M.globalFor
+    M.mapOne M.fillGap M.mapUser undeleted M.unsampled nextSolver G.grantOne G.grant P.poseOne P.pose P.wanted P.usersToMap P.poseRefusal P.poseOf notHeld
+    heldElse assignRefusal assignOf renameLits unmatched outside unheld litsHeldElse stepRefusal stepBytes writeRefusal writeOf unfalse simplified
+    simplifyBytes simplifyRefusal simplifyOf notesOf perform turnDoes entriesOf linesOf enter afterTurn run
 all-clauses = (refl, refl, refl, refl)
 
 held0 : Held 0 3 posed
@@ -317,12 +312,11 @@ pub all-pairs :
     ∷ 100 ∷ 32 ∷ 52 ∷ 32 ∷ 49 ∷ 32 ∷ 48 ∷ 10
     ∷ 100 ∷ 32 ∷ 49 ∷ 32 ∷ 51 ∷ 32 ∷ 48 ∷ 10
     ∷ [])
-unfolding allBelow least count everyOf anyOf keepOf spell further bytesOf number numbers encodeStep encode word isShown giveUser giveSolver putValue
-    soundb sizesb marksb atMostb tailb backb namedb deletedb tailsb pairsb choose each unless emptyTable leastFree M.globalFor M.mapOne M.fillGap
-    M.mapUser undeleted M.unsampled nextSolver G.grantOne G.grant P.poseOne P.pose P.wanted P.usersToMap P.poseRefusal P.poseOf notHeld heldElse
-    assignRefusal assignOf renameLits unheld litsHeldElse cutsb sectionsOf eachSection times hasMirror mirrored keptAt deletesAt sectionsFor filledCodes
-    keptWords keptCount deleteBytes binaryRefusal binaryOf notesOf perform turnDoes entriesOf sectionsIn goneLines binaryLines linesOf enter
-    afterTurn run
+unfolding allBelow least count everyOf anyOf keepOf spell further bytesOf number numbers encodeStep encode word isShown giveUser giveSolver putValue soundb
+    listsb storedb sizesb marksb atMostb tailb backb namedb deletedb tailsb pairsb choose each unless emptyTable leastFree M.globalFor M.mapOne M.fillGap
+    M.mapUser undeleted M.unsampled nextSolver G.grantOne G.grant P.poseOne P.pose P.wanted P.usersToMap P.poseRefusal P.poseOf notHeld heldElse assignRefusal
+    assignOf renameLits unheld litsHeldElse cutsb sectionsOf eachSection times hasMirror mirrored keptAt deletesAt sectionsFor filledCodes keptWords keptCount
+    deleteBytes binaryRefusal binaryOf notesOf perform turnDoes entriesOf sectionsIn goneLines binaryLines linesOf enter afterTurn run
 all-pairs = (refl, refl, refl)
 
 pub pairs-enter : Enters pairLines (stepOf Delete (7 ∷ 4 ∷ []) ∷ stepOf Delete (6 ∷ 0 ∷ []) ∷ stepOf Delete (0 ∷ 4 ∷ []) ∷ [])
@@ -367,18 +361,18 @@ pub held-on :
     × (run Text (start (emptyTable 1)) heldOn .lines ≡ line Add true (1 ∷ []) (user+ 0 0 ∷ solver+ 0 0 ∷ []) ∷ [])
     × (run Text (start (emptyTable 1)) heldOn .bytes ≡ 45 ∷ 49 ∷ 32 ∷ 48 ∷ 10 ∷ [])
     × AssumedBy (run Text (start (emptyTable 1)) assuming .table) 0 0
-unfolding allBelow least count anyOf spell further bytesOf number numbers encodeStep encode word isShown giveUser giveSolver takeSolver
-    putRecord dropGlobal soundb sizesb marksb atMostb tailb backb namedb deletedb tailsb pairsb choose each unless emptyTable leastFree M.globalFor M.mapOne
-    M.fillGap M.mapUser undeleted M.toMap M.unsampled M.mapRefusal M.mapOf nextSolver G.grantOne G.grant G.grantRefusal G.grantOf D.isUnused
-    D.deleteIfUnused K.mark K.markRefusal K.markOf R.removeHeld R.remove R.removeRefusal R.removeOf R.learn R.sweepHeld R.sweepOne R.sweep R.sweepRefusal
-    R.sweepOf notHeld heldElse renameLits unmatched outside unheld litsHeldElse stepRefusal stepBytes writeRefusal writeOf found lookupOf globalFromSolverOf
-    recordWordOf notesOf perform turnDoes entriesOf linesOf enter afterTurn run
+unfolding allBelow least count anyOf spell further bytesOf number numbers encodeStep encode word isShown giveUser giveSolver takeSolver putRecord dropGlobal
+    soundb listsb storedb sizesb marksb atMostb tailb backb namedb deletedb tailsb pairsb choose each unless emptyTable leastFree M.globalFor M.mapOne
+    M.fillGap M.mapUser undeleted M.toMap M.unsampled M.mapRefusal M.mapOf nextSolver G.grantOne G.grant G.grantRefusal G.grantOf D.isUnused D.deleteIfUnused
+    K.mark K.markRefusal K.markOf R.removeHeld R.remove R.removeRefusal R.removeOf R.learn R.sweepHeld R.sweepOne R.sweep R.sweepRefusal R.sweepOf notHeld
+    heldElse renameLits unmatched outside unheld litsHeldElse stepRefusal stepBytes writeRefusal writeOf found lookupOf globalFromSolverOf recordWordOf
+    notesOf perform turnDoes entriesOf linesOf enter afterTurn run
 held-on = (refl, refl, refl, record { held = refl; word = 27; recorded = refl; assumed = refl })
 
 -- ---- a program, as it stands in memory
 
 abbrev pub countsAt : ℕ → ℕ → Counts
-countsAt names solvers = record { capacity = 1; user = names; global = names; solver = solvers }
+countsAt names solvers = record { capacity = 1; user = names; global = names; solver = solvers; used = names; next = solvers }
 
 abbrev pub saying : List ℕ → Counts → Said
 saying values c = record { answer = accepted values; counts = c }
@@ -414,8 +408,8 @@ abbrev pub program : List Made
 program = mapping ∷ granting ∷ writing ∷ []
 
 pub program-met : Program Text (emptyTable 1) program
-unfolding allBelow least count anyOf spell further bytesOf number numbers encodeStep encode word isShown giveUser giveSolver soundb sizesb marksb
-    atMostb tailb backb namedb deletedb tailsb pairsb choose each unless emptyTable notesWords leastFree M.globalFor M.mapOne M.fillGap M.mapUser
+unfolding allBelow least count anyOf spell further bytesOf number numbers encodeStep encode word isShown giveUser giveSolver soundb listsb storedb sizesb
+    marksb atMostb tailb backb namedb deletedb tailsb pairsb choose each unless emptyTable notesWords leastFree M.globalFor M.mapOne M.fillGap M.mapUser
     undeleted M.toMap M.unsampled M.mapRefusal M.mapOf nextSolver G.grantOne G.grant G.grantRefusal G.grantOf notHeld heldElse renameLits unmatched outside
     unheld litsHeldElse stepRefusal stepBytes writeRefusal writeOf perform turnDoes
 program-met =

@@ -11,7 +11,7 @@ use Rattle.drat.specs.declared.Format.the-variants.{Text}
 use Rattle.scope.specs.declared.Mark.the-variants.{Used, Assumed, Released}
 use Rattle.scope.specs.declared.SamplingMode.the-variants.{Hide}
 use Rattle.scope.specs.Table.{Table, word, isShown, giveUser, giveSolver, putRecord, leastFree, nextSolver, undeleted}
-use Rattle.scope.specs.Sound.{soundb, sizesb, marksb, atMostb, tailb, backb, namedb, deletedb, tailsb, pairsb}
+use Rattle.scope.specs.Sound.{soundb, sizesb, marksb, atMostb, tailb, backb, namedb, deletedb, tailsb, pairsb, listsb, storedb}
 use Rattle.scope.specs.Outcome.{choose, each, unless}
 use Rattle.scope.specs.Open.{emptyTable}
 use Rattle.scope.specs.Map as M
@@ -59,18 +59,18 @@ abbrev once : Table
 once = run Text (start (emptyTable 2)) (turn (mapUser 0 false) (lending 3 0 0 0) ∷ turn (grant 0) (lending 3 0 0 0) ∷ []) .table
 
 other-index : mark Released 1 ≢ mark Released 0
-unfolding allBelow least count word isShown giveUser giveSolver putRecord soundb sizesb marksb atMostb tailb backb namedb deletedb tailsb pairsb choose each
-    unless emptyTable leastFree M.globalFor M.mapOne M.fillGap M.mapUser undeleted M.toMap M.unsampled M.mapRefusal M.mapOf nextSolver G.grantOne G.grant
-    G.grantRefusal G.grantOf K.notHeld K.heldElse K.mark K.markRefusal K.markOf found lookupOf globalFromSolverOf recordWordOf notesOf perform turnDoes
-    entriesOf linesOf enter afterTurn run
+unfolding allBelow least count word isShown giveUser giveSolver putRecord soundb listsb storedb sizesb marksb atMostb tailb backb namedb deletedb tailsb
+    pairsb choose each unless emptyTable leastFree M.globalFor M.mapOne M.fillGap M.mapUser undeleted M.toMap M.unsampled M.mapRefusal M.mapOf nextSolver
+    G.grantOne G.grant G.grantRefusal G.grantOf K.notHeld K.heldElse K.mark K.markRefusal K.markOf found lookupOf globalFromSolverOf recordWordOf notesOf
+    perform turnDoes entriesOf linesOf enter afterTurn run
 other-index q = let x : _≡_ {A = ℕ} 8 0 = ap (λ (call : Call). numberOf (perform Text call (lending 0 0 0 0) once .answer)) q in omega arith
 
 -- solver code 1 is global code 3, before these calls and after them
 pub case-assumed : LitsAssumed crossed others (1 ∷ []) (3 ∷ [])
-unfolding allBelow least count word isShown giveUser giveSolver putRecord soundb sizesb marksb atMostb tailb backb namedb deletedb tailsb pairsb choose each
-    unless emptyTable leastFree M.globalFor M.mapOne M.fillGap M.mapUser undeleted M.toMap M.unsampled M.mapRefusal M.mapOf nextSolver G.grantOne G.grant
-    G.grantRefusal G.grantOf K.notHeld K.heldElse K.mark K.markRefusal K.markOf found lookupOf globalFromSolverOf recordWordOf notesOf perform turnDoes
-    entriesOf linesOf enter afterTurn run
+unfolding allBelow least count word isShown giveUser giveSolver putRecord soundb listsb storedb sizesb marksb atMostb tailb backb namedb deletedb tailsb
+    pairsb choose each unless emptyTable leastFree M.globalFor M.mapOne M.fillGap M.mapUser undeleted M.toMap M.unsampled M.mapRefusal M.mapOf nextSolver
+    G.grantOne G.grant G.grantRefusal G.grantOf K.notHeld K.heldElse K.mark K.markRefusal K.markOf found lookupOf globalFromSolverOf recordWordOf notesOf
+    perform turnDoes entriesOf linesOf enter afterTurn run
 case-assumed = (record { held = refl; word = 27; recorded = refl; assumed = refl }, refl, none, tt)
   where
     none : NoneReleases others 0

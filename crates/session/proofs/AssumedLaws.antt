@@ -28,20 +28,16 @@ use Rattle.scope.specs.Lookup.{recordWordOf}
 use Rattle.scope.specs.Simplify.{isTrue, isFalse, unfalse, simplified, restOf, simplifyBytes, simplifyRefusal, simplifyOf}
 use Rattle.scope.specs.Calls
 use Rattle.scope.proofs.PairLaws.{below-mark, pair-flip}
-use Rattle.scope.proofs.MoveLaws.{HoldsAssumed, Indexed, reach-sound, reach-indexed, reach-assumes}
+use Rattle.scope.proofs.MoveLaws.{HoldsAssumed, Indexed, reach-indexed, reach-assumes}
 use Rattle.scope.proofs.OpenLaws.{blank-at, open-opened, open-sound}
 use Rattle.scope.proofs.ResultLaws.{past}
 use Rattle.scope.proofs.MarkLaws.{held-past, mark-assumes}
 use Rattle.session.specs.Session.{Turn, turn, turnDoes, State, start, enter, afterTurn, run, Says}
 use Rattle.session.specs.Assumed.{AssumedBy, NoneReleases, LitsAssumed}
-use Rattle.session.proofs.CallLaws.{Owed, refusing, accepting, releasing, turn-owed}
+use Rattle.session.proofs.CallLaws.{Owed, refusing, accepting, releasing, owed-sound, turn-owed}
 use Rattle.session.proofs.LookupLaws.{says-sound, says-holder, says-record}
 
 -- ---- one call
-
-owed-sound : (f : Format) (x : Turn) (t : Table) (o : Outcome) → Owed f x t o → Sound t → Sound (o .table)
-owed-sound f x t o refusing p = p
-owed-sound f x t o (accepting e l) p = reach-sound (l .path) p
 
 owed-indexed : (f : Format) (x : Turn) (t : Table) (o : Outcome) → Owed f x t o → Sound t → Indexed t → Indexed (o .table)
 owed-indexed f x t o refusing p w = w

@@ -46,7 +46,7 @@ use Rattle.scope.specs.Binary.{cutsb, mirrored, sectionsFor, sectionCount, each
 use Rattle.scope.specs.Models.{modelOf}
 use Rattle.scope.specs.Calls
 use Rattle.scope.proofs.SoundLaws.{sound-of}
-use Rattle.scope.proofs.MoveLaws.{Path, Reach, stop}
+use Rattle.scope.proofs.MoveLaws.{Path, Reach, stop, reach-sound}
 use Rattle.scope.proofs.ResultLaws.{past}
 use Rattle.scope.proofs.MapLaws.{map-room-of, map-user-reach, new-user-reach}
 use Rattle.scope.proofs.GrantLaws.{grant-reach}
@@ -97,6 +97,11 @@ pub record Lawful (f : Format) (x : Turn) (t : Table) (vs : List ℕ) (o : Outco
 pub data Owed (f : Format) (x : Turn) (t : Table) : Outcome → Type 0 where
   refusing : {n : ℕ} → Owed f x t (refusal n t)
   accepting : {o : Outcome} {vs : List ℕ} → o .answer ≡ accepted vs → Lawful f x t vs o → Owed f x t o
+
+-- either way a sound table stays sound
+pub owed-sound : (f : Format) (x : Turn) (t : Table) (o : Outcome) → Owed f x t o → Sound t → Sound (o .table)
+owed-sound f x t o refusing p = p
+owed-sound f x t o (accepting e l) p = reach-sound (l .path) p
 
 owed : (f : Format) (x : Turn) (t : Table) (n : ℕ) (o : Outcome) → (n ≡ 0 → Owed f x t o) → Owed f x t (unless n t o)
 unfolding unless

@@ -8,6 +8,7 @@ pub mod AgreeLaws
 pub mod ToldLaws
 pub mod BinaryLines
 pub mod CallLaws
+pub mod KeptLaws
 pub mod LookupLaws
 pub mod SessionLaws
 pub mod AssumedLaws

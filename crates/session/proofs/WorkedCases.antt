@@ -7,7 +7,7 @@ use Rattle.drat.specs.Reading.{digitsFrom, signedFrom, thenBlank, lebFrom, endF
 use Rattle.drat.specs.Reading.{consStep, stepsFrom, readProof}
 use Rattle.drat.specs.Filled.{answerOf, codesOf, endsFrom, kindsOf}
 use Rattle.scope.specs.Table.{word, isShown, giveUser, takeUser, giveSolver, takeSolver, putRecord, putValue, dropGlobal, leastFree, undeleted, nextSolver}
-use Rattle.scope.specs.Sound.{soundb, sizesb, marksb, atMostb, tailb, backb, namedb, deletedb, tailsb, pairsb}
+use Rattle.scope.specs.Sound.{soundb, sizesb, marksb, atMostb, tailb, backb, namedb, deletedb, tailsb, pairsb, listsb, storedb}
 use Rattle.scope.specs.Outcome.{choose, each, unless}
 use Rattle.scope.specs.Open.{emptyTable, openOf}
 use Rattle.scope.specs.Map.{globalFor, mapOne, fillGap, mapUser, nextUser, newUser}
@@ -25,16 +25,13 @@ _and_ : {A B : Type 0} → A → B → A × B
 x and y = (x, y)
 
 pub worked : CasesAgree cases
-unfolding allBelow least count everyOf anyOf keepOf spell further bytesOf number numbers encodeStep encode digitsFrom signedFrom thenBlank lebFrom
-    endFrom lineFrom token blankFrom
-    opening consPart body asStep oneStep consStep stepsFrom readProof answerOf codesOf endsFrom kindsOf word isShown giveUser takeUser giveSolver
-    takeSolver putRecord dropGlobal putValue soundb sizesb marksb atMostb tailb backb namedb deletedb tailsb pairsb choose each unless emptyTable openOf
-    leastFree
-    globalFor mapOne fillGap mapUser nextUser newUser undeleted toMap unsampled mapRefusal mapOf newUserRefusal newUserOf nextSolver grantOne grant
-    grantRefusal grantOf isUnused deleteIfUnused show hide change setMode setModeRefusal setModeOf isHidden observeOne observe observeRefusal observeOf
-    notHeld heldElse mark markRefusal markOf removeHeld learn sweepHeld sweepOne sweep sweepRefusal sweepOf renameLits unmatched outside unheld litsHeldElse
-    stepRefusal
-    stepBytes writeRefusal writeOf
+unfolding allBelow least count everyOf anyOf keepOf spell further bytesOf number numbers encodeStep encode digitsFrom signedFrom thenBlank lebFrom endFrom
+    lineFrom token blankFrom opening consPart body asStep oneStep consStep stepsFrom readProof answerOf codesOf endsFrom kindsOf word isShown giveUser
+    takeUser giveSolver takeSolver putRecord dropGlobal putValue soundb listsb storedb sizesb marksb atMostb tailb backb namedb deletedb tailsb pairsb choose
+    each unless emptyTable openOf leastFree globalFor mapOne fillGap mapUser nextUser newUser undeleted toMap unsampled mapRefusal mapOf newUserRefusal
+    newUserOf nextSolver grantOne grant grantRefusal grantOf isUnused deleteIfUnused show hide change setMode setModeRefusal setModeOf isHidden observeOne
+    observe observeRefusal observeOf notHeld heldElse mark markRefusal markOf removeHeld learn sweepHeld sweepOne sweep sweepRefusal sweepOf renameLits
+    unmatched outside unheld litsHeldElse stepRefusal stepBytes writeRefusal writeOf
 worked =
     refl and refl and refl and refl and refl and refl and refl and refl and refl and refl and
     refl and refl and refl and refl and refl and refl and refl and refl and refl and refl and

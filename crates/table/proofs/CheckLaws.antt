@@ -11,15 +11,19 @@ use native.Mathlib.Omega.{arith}
 use lib.Dec.{eqb, ltb, leb}
 use lib.ListN.{length, getD, take}
 use lib.Seq.{take-all}
-use borrow.Author.Tests.{lt-ltb, le-ltb, le-leb, leb-true, eqb-true, not-true, not-false}
+use borrow.Author.Tests.{lt-ltb, le-ltb, le-leb, leb-true, eqb-true, eq-eqb, ne-eqb, not-true, not-false}
 use Rattle.base.specs.Choice.{pick}
 use Rattle.base.specs.Bounded.{allBelow, count, anyOf}
+use Rattle.base.proofs.CountLaws.{count-past}
 use Rattle.base.proofs.BelowLaws.{all-at, all-intro, and-true}
 use Rattle.base.proofs.Truth.{truth, and-iff, split}
 use Rattle.base.proofs.MemberLaws.{getD-default, any-more}
-use Rattle.scope.specs.Table.{Table, isShown}
-use Rattle.scope.specs.Sound.{sizesb, marksb, atMostb, tailb, backb, namedb, deletedb, tailsb, pairsb, soundb}
+use Rattle.scope.specs.Table.{Table, isShown, isUndeleted, leastFree, nextSolver, undeleted}
+use Rattle.scope.specs.Sound.{sizesb, marksb, atMostb, tailb, backb, namedb, deletedb, tailsb, pairsb, listsb, storedb, soundb}
+use Rattle.scope.specs.Cursor.{AllMapped}
 use Rattle.scope.proofs.SoundLaws.{tail-of}
+use Rattle.scope.proofs.PairLaws.{free-most, free-before, free-word}
+use Rattle.scope.proofs.CursorLaws.{free-found, free-end}
 use Rattle.table.specs.Checks.{isFilled, rowb}
 use Rattle.table.proofs.PairCounts.{back-has, back-low, pair-counts}
 
@@ -148,33 +152,64 @@ pair-is a b ok x y e n p q =
     let k : backb a b ≡ true = yes-of e n in
     rw (p, q, k) (pair-counts a b k)
 
--- ---- how many words are not 0
+-- ---- how many words are not 0, and how many globals undeleted
 
-pub filled-start : (xs : List ℕ) → 0 ≡ count 0 (isFilled xs)
+pub tally-step : (p : ℕ → Bool) (i k x : ℕ) → k ≡ count i p → x ≡ pick (p i) 1 0 → k + x ≡ count (i + 1) p
 unfolding count
-filled-start xs = refl
-
-pub filled-step : (xs : List ℕ) (i k x : ℕ) → k ≡ count i (isFilled xs) → x ≡ pick (isFilled xs i) 1 0 → k + x ≡ count (i + 1) (isFilled xs)
-unfolding count
-filled-step xs i k x e p = rw (add-one, e, p) (go (isFilled xs i) (count i (isFilled xs)))
+tally-step p i k x e h = rw (add-one, e, h) (go (p i) (count i p))
   where
     go : (b : Bool) (n : ℕ) → n + pick b 1 0 ≡ pick b (suc n) n
     go true n = add-one n
     go false n = add-zero n
 
-count-mark : (n mark : ℕ) (p : ℕ → Bool) → mark ≤ n → ((i : ℕ) → mark ≤ i → p i ≡ false) → count mark p ≡ count n p
-unfolding count
-count-mark zero mark p l h = let e : mark ≡ zero = omega arith in ap (λ (k : ℕ). count k p) e
-count-mark (suc n) mark p l h = ⊎-elim
-    (λ (e : mark ≡ suc n). ap (λ (k : ℕ). count k p) e)
-    (λ (e : mark < suc n). count-mark n mark p (omega arith) h ∙ rw (h n (omega arith)))
-    (eq-or-lt-of-le l)
-
 pub filled-end : (xs : List ℕ) (mark i k : ℕ) → mark ≤ length xs → tailb mark 0 xs ≡ true → k ≡ count i (isFilled xs) → i ≡ mark
     → k ≡ count (length xs) (isFilled xs)
 filled-end xs mark i k l h e q =
     e ∙ ap (λ (n : ℕ). count n (isFilled xs)) q
-    ∙ count-mark (length xs) mark (isFilled xs) l (λ j m. rw (tail-of mark 0 xs h j m) refl)
+    ∙ sym (count-past (isFilled xs) mark (length xs) l (λ j m. rw (tail-of mark 0 xs h j m) refl))
+
+pub undeleted-step : (records : List ℕ) (i k x : ℕ) → i < length records → k ≡ count i (isUndeleted records) → x ≡ pick (ltb (getD records i 0) 36) 1 0
+    → k + x ≡ count (i + 1) (isUndeleted records)
+undeleted-step records i k x l e p =
+    tally-step (isUndeleted records) i k x e (p ∙ ap (λ (w : ℕ). pick (ltb w 36) 1 0) (getD-default records i 0 47 l))
+
+pub undeleted-end : (records : List ℕ) (mark i k : ℕ) → mark ≤ length records → tailb mark 47 records ≡ true → k ≡ count i (isUndeleted records) → i ≡ mark
+    → k ≡ count (length records) (isUndeleted records)
+undeleted-end records mark i k l h e q =
+    e ∙ ap (λ (n : ℕ). count n (isUndeleted records)) q
+    ∙ sym (count-past (isUndeleted records) mark (length records) l (λ j m. rw (tail-of mark 47 records h j m) refl))
+
+-- ---- the least free index, tested
+
+-- it is not above the mark
+pub next-past : (xs : List ℕ) (mark next : ℕ) → mark < next → false ≡ eqb next (leastFree xs mark)
+next-past xs mark next l = sym (ne-eqb _ _ (λ (e : next ≡ leastFree xs mark). let m = free-most xs mark in omega arith))
+
+-- below it all is filled
+pub next-gap : (xs : List ℕ) (mark next : ℕ) (ok : Bool) → ok ≡ allBelow next (isFilled xs) → not ok ≡ true → false ≡ eqb next (leastFree xs mark)
+next-gap xs mark next ok e n =
+    sym (ne-eqb _ _ (λ (q : next ≡ leastFree xs mark). true≢false
+    (sym (all-intro next (isFilled xs) (λ i l. ap not (ne-eqb _ 0 (free-before xs mark i (omega arith))))) ∙ no-of e n)))
+
+next-cursor : (xs : List ℕ) (mark next : ℕ) (ok : Bool) → next ≤ mark → ok ≡ allBelow next (isFilled xs) → not ok ≡ false → AllMapped xs mark next
+next-cursor xs mark next ok l e n =
+    record { within = l; below = λ k m. not-true _ (all-at next (isFilled xs) (yes-of e n) k m) }
+
+-- and it is the mark, or free
+pub next-mark : (xs : List ℕ) (mark next : ℕ) (ok : Bool) → next ≤ mark → ok ≡ allBelow next (isFilled xs) → not ok ≡ false → next ≡ mark
+    → true ≡ eqb next (leastFree xs mark)
+next-mark xs mark next ok l e n q = sym (eq-eqb _ _ (free-end xs mark next (next-cursor xs mark next ok l e n) (omega arith)))
+
+pub next-here : (xs : List ℕ) (mark next : ℕ) (ok : Bool) → next ≤ mark → ok ≡ allBelow next (isFilled xs) → not ok ≡ false → (next ≡ mark → ⊥)
+    → (b : Bool) → (b ≡ true → getD xs next 0 ≡ 0) → (getD xs next 0 ≡ 0 → b ≡ true) → b ≡ eqb next (leastFree xs mark)
+next-here xs mark next ok l e n q b to from = go b refl
+  where
+    h : AllMapped xs mark next
+    h = next-cursor xs mark next ok l e n
+
+    go : (t : Bool) → b ≡ t → t ≡ eqb next (leastFree xs mark)
+    go true z = sym (eq-eqb _ _ (free-found xs mark next h (to z)))
+    go false z = sym (ne-eqb _ _ (λ (w : next ≡ leastFree xs mark). true≢false (sym (from (free-word xs mark next w (omega arith))) ∙ z)))
 
 -- ---- the rows of the globals
 
@@ -221,25 +256,25 @@ unfolding tailsb
 tails-is t h = let k = simp and-iff at h in search
 
 pub no-sizes : (t : Table) (b : Bool) → b ≡ sizesb t → not b ≡ true → false ≡ soundb t
-unfolding soundb
+unfolding soundb listsb
 no-sizes t b e n =
     let x = no-of e n in
     false-is (soundb t) (λ h. let k = simp and-iff at h in true≢false (cc))
 
 pub no-marks : (t : Table) (b : Bool) → b ≡ marksb (t .counts) → not b ≡ true → false ≡ soundb t
-unfolding soundb
+unfolding soundb listsb
 no-marks t b e n =
     let x = no-of e n in
     false-is (soundb t) (λ h. let k = simp and-iff at h in true≢false (cc))
 
 pub no-tails : (t : Table) (b : Bool) → b ≡ tailsb t → not b ≡ true → false ≡ soundb t
-unfolding soundb
+unfolding soundb listsb
 no-tails t b e n =
     let x = no-of e n in
     false-is (soundb t) (λ h. let k = simp and-iff at h in true≢false (cc))
 
 pub no-pairs : (t : Table) (b : Bool) → b ≡ pairsb t → not b ≡ true → false ≡ soundb t
-unfolding soundb
+unfolding soundb listsb
 no-pairs t b e n =
     let x = no-of e n in
     false-is (soundb t) (λ h. let k = simp and-iff at h in true≢false (cc))
@@ -263,11 +298,14 @@ reorder true false c d = refl
 reorder false true c d = refl
 reorder false false c d = refl
 
-pub sound-is : (t : Table) (a b : Bool) → sizesb t ≡ true → marksb (t .counts) ≡ true → tailsb t ≡ true → pairsb t ≡ true
+pub sound-is : (t : Table) (a b d : Bool) → sizesb t ≡ true → marksb (t .counts) ≡ true → tailsb t ≡ true → pairsb t ≡ true
     → a ≡ atMostb 2 (t .assignment)
     → b ≡ atMostb 71 (t .records) && namedb (t .records) (t .userFromGlobal) && deletedb (t .records) (t .solverFromGlobal)
-    → (a && b) ≡ soundb t
-unfolding soundb
-sound-is t a b s m h p e q =
-    rw (e, q, s, m, h, p)
-    (reorder (atMostb 71 (t .records)) (atMostb 2 (t .assignment)) _ _)
+    → d ≡ eqb (t .counts .used) (count (length (t .records)) (isUndeleted (t .records)))
+    && eqb (t .counts .next) (leastFree (t .globalFromSolver) (t .counts .solver))
+    → length (t .records) ≡ t .counts .capacity
+    → (a && b && d) ≡ soundb t
+unfolding soundb listsb storedb undeleted nextSolver
+sound-is t a b d s m h p e q k l =
+    rw (e, q, k, l, s, m, h, p)
+    (ap (λ (x : Bool). x && storedb t) (reorder (atMostb 71 (t .records)) (atMostb 2 (t .assignment)) _ _))

@@ -5,13 +5,14 @@ use scope::Counts;
 ghost use mathlib.Core.Path.{_≡_};
 ghost use mathlib.Core.Bool.{true, _&&_, not};
 ghost use Prim.Native.Nat.{_-_, _≤_};
-ghost use lib.Dec.{eqb};
+ghost use lib.Dec.{eqb, ltb};
 ghost use lib.ListN.{length};
-ghost use Rattle.base.specs.Bounded.{count};
+ghost use Rattle.base.specs.Bounded.{allBelow, count};
 ghost use Rattle.base.specs.Choice.{pick};
 ghost use Rattle.base.specs.Lent.{old};
 ghost use Rattle.scope.specs.Contract.{given, before};
 ghost use Rattle.scope.specs.Sound.{sizesb, marksb, atMostb, tailb, backb, namedb, deletedb, tailsb};
+ghost use Rattle.scope.specs.Table.{leastFree, isUndeleted};
 ghost use Rattle.table.specs.Checks.{isFilled, rowb};
 
 // Watermarks: neither users nor solver indices reach further than globals, nor these than the capacity.
@@ -166,4 +167,69 @@ pub fn tails_ok(
         & tail_ok(c.solver, 0, gs)
         & tail_ok(c.solver, 0, assignment)
         & tail_ok(c.global, 47, records)
+}
+
+fn one_undeleted(w: u32) -> u32
+    ensures { λ r. ⌜ r ≡ pick (ltb w 36) 1 0 ⌝ }
+    ensures { λ r. ⌜ r ≤ 1 ⌝ }
+{
+    if w < 36 { 1 } else { 0 }
+}
+
+// How many globals are undeleted.
+fn undeleted(records: &[u32], mark: u32) -> u32
+    requires { ⌜ mark ≤ length (now records) ⌝ }
+    requires { ⌜ tailb mark 47 (now records) ≡ true ⌝ }
+    ensures { λ r. ⌜ r ≡ count (length (old records)) (isUndeleted (old records)) ⌝ }
+{
+    let n = mark as usize;
+    let mut k: u32 = 0;
+    let mut i = 0;
+    while i < n {
+        k += one_undeleted(records[i]);
+        i += 1;
+    }
+    k
+}
+
+// Every word below n is filled.
+fn all_filled(xs: &[u32], n: u32) -> bool
+    requires { ⌜ n ≤ length (now xs) ⌝ }
+    ensures { λ r. ⌜ r ≡ allBelow n (isFilled (old xs)) ⌝ }
+{
+    let m = n as usize;
+    let mut ok = true;
+    let mut i = 0;
+    while i < m {
+        ok = ok & (xs[i] != 0);
+        i += 1;
+    }
+    ok
+}
+
+// The number is the least index below the mark at which the map has 0, else the mark.
+fn next_ok(xs: &[u32], mark: u32, next: u32) -> bool
+    requires { ⌜ mark ≤ length (now xs) ⌝ }
+    ensures { λ r. ⌜ r ≡ eqb next (leastFree (old xs) mark) ⌝ }
+{
+    if mark < next {
+        return false;
+    }
+    if !all_filled(xs, next) {
+        return false;
+    }
+    if next == mark {
+        return true;
+    }
+    xs[next as usize] == 0
+}
+
+// The stored numbers are those of the recount.
+pub fn stored_ok(c: Counts, gs: &[u32], records: &[u32]) -> bool
+    requires { ⌜ c .solver ≤ length (now gs) ⌝ }
+    requires { ⌜ c .global ≤ length (now records) ⌝ }
+    requires { ⌜ tailb (c .global) 47 (now records) ≡ true ⌝ }
+    ensures { λ r. ⌜ r ≡ (eqb (c .used) (count (length (old records)) (isUndeleted (old records))) && eqb (c .next) (leastFree (old gs) (c .solver))) ⌝ }
+{
+    (c.used == undeleted(records, c.global)) & next_ok(gs, c.solver, c.next)
 }

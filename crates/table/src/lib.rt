@@ -5,6 +5,7 @@ use checks::at_most;
 use checks::marks_ok;
 use checks::pair_ok;
 use checks::rows_ok;
+use checks::stored_ok;
 use checks::tails_ok;
 use scope::Counts;
 use scope::Global;
@@ -220,7 +221,7 @@ pub fn sizes_ok(
         & (records.len() == n)
 }
 
-// Whether the table is sound (document 01, "Words used"). Definition: crates/scope/specs/Sound.antt, `soundb`.
+// Whether the table is sound (document 01, "Words used"; document 02, order 5). Definition: crates/scope/specs/Sound.antt, `soundb`.
 pub fn is_sound(
     c: Counts,
     gu: &[u32],
@@ -244,5 +245,7 @@ pub fn is_sound(
     if !(pair_ok(gu, ug, c.user, c.global) & pair_ok(gs, sg, c.solver, c.global)) {
         return false;
     }
-    at_most(2, assignment, c.solver) & rows_ok(records, ug, sg, c.global)
+    at_most(2, assignment, c.solver)
+        & rows_ok(records, ug, sg, c.global)
+        & stored_ok(c, gs, records)
 }

@@ -80,6 +80,8 @@ pub fn open_table(
         user: 0,
         global: 0,
         solver: 0,
+        used: 0,
+        next: 0,
     };
     if !sizes_ok(c, gu, ug, sg, gs, assignment, records) {
         return Opened::Refused(10);

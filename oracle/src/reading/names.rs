@@ -28,9 +28,10 @@ impl Work {
         room < self.notes.len()
     }
 
-    /// An accepted call that fills notes; their count comes last among the values.
-    pub fn accepted(self, mut values: Vec<u64>) -> Outcome {
+    /// An accepted call that fills notes; their count comes last among the values. These are the calls that may change the stored numbers.
+    pub fn accepted(mut self, mut values: Vec<u64>) -> Outcome {
         values.push(self.count());
+        self.table.recount();
         Outcome { values, table: self.table, notes: self.notes, ..Outcome::default() }
     }
 }

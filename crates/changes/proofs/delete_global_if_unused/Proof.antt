@@ -1,8 +1,7 @@
-use Rattle.changes.proofs.DeletionLaws.{delete-fits, delete-room, delete-leaves, keep-leaves}
-use mathlib.Core.Path.{refl}
 use mathlib.Core.List.{[]}
 use native.Mathlib.Omega.{arith}
 use Rattle.base.proofs.Truth.{truth, false-of}
+use Rattle.changes.proofs.DeletionLaws.{delete-room, delete-leaves, keep-leaves}
 use borrow.Author.Needs.{needs}
 use Rattle.changes.proofs.delete_global_if_unused.Statement.{statement}
 use Rattle.changes.proofs.delete_global_if_unused.Tie as tie
@@ -28,26 +27,22 @@ mul-if1-2 c = search needs
 shared-slice-read-if1-2 : tie.Need-shared-slice-read-if1-2
 shared-slice-read-if1-2 c = search needs
 
-add-records : tie.Need-add-records
-add-records c = record { fits = delete-fits _ _ _ _ (c .before .before .before .before .before .before .before .before .before .pre .0) }
-
-mul-records : tie.Need-mul-records
-mul-records c = search needs
-
-slice-write-records : tie.Need-slice-write-records
-slice-write-records c = search needs
+delete-requires : tie.Need-delete-requires
+delete-requires c κs = search needs
 
 put-note-requires : tie.Need-put-note-requires
 put-note-requires c κs =
-    let entry = c .before .before .before .before .before .before .before .before .before .before in
-    let k = simp truth at (c .before .if1 .taken) in
-    (delete-room _ _ _ _ (entry .pre .0) _ [] [] [] (simp truth (omega arith)) _ _ (entry .pre .1 [] [] []), omega arith)
+    let e = c .before .before .before .before .before .before .before .before .before .before .before .before .before .before in
+    let test = c .before .before .before .before .before in
+    let k = simp truth at (test .if1 .taken) in
+    (delete-room _ _ _ _ _ (e .pre .0) [] [] [] (simp truth (omega arith)) _ _ (e .pre .1 [] [] []), omega arith)
 
-add-t25 : tie.Need-add-t25
-add-t25 c =
-    let entry = c .before .before .before .before .before .before .before .before .before .before .before .before .before in
-    let k = simp truth at (c .before .before .before .before .if1 .taken) in
-    let r = delete-room _ _ _ _ (entry .pre .0) _ [] [] [] (simp truth (omega arith)) _ _ (entry .pre .1 [] [] []) in
+add-t31 : tie.Need-add-t31
+add-t31 c =
+    let e = c .before .before .before .before .before .before .before .before .before .before .before .before .before .before .before .before .before in
+    let test = c .before .before .before .before .before .before .before .before in
+    let k = simp truth at (test .if1 .taken) in
+    let r = delete-room _ _ _ _ _ (e .pre .0) [] [] [] (simp truth (omega arith)) _ _ (e .pre .1 [] [] []) in
     search needs
 
 same-length : tie.Need-same-length
@@ -58,12 +53,15 @@ same-length-2 c = search needs
 
 returns : tie.Need-returns
 returns c =
-    let entry = c .before .before .before .before .before .before .before .before .before .before .before .before .before in
-    let k = simp truth at (c .before .before .before .before .if1 .taken) in
-    λ gu gs a. delete-leaves _ _ _ _ (entry .pre .0) _ gu gs a (simp truth (omega arith)) _ _ _ _ refl (c .before .before .put-note .ensures)
+    let e = c .before .before .before .before .before .before .before .before .before .before .before .before .before .before .before .before .before in
+    let test = c .before .before .before .before .before .before .before .before in
+    let d = c .before .before .before .before .before .before in
+    let k = simp truth at (test .if1 .taken) in
+    λ gu gs a. delete-leaves _ _ _ _ _ (e .pre .0) gu gs a (simp truth (omega arith)) _ _ _ _ _ (d .delete .ensures .0) (d .delete .ensures .1)
+    (c .before .before .put-note .ensures)
 
 returns-2 : tie.Need-returns-2
-returns-2 c = λ gu gs a. keep-leaves _ _ _ _ (c .before .before .before .before .before .before .before .before .before .pre .0) _ gu gs a
+returns-2 c = λ gu gs a. keep-leaves _ _ _ _ _ (c .before .before .before .before .before .before .before .before .before .pre .0) gu gs a
     (false-of _ _ (λ h. let k = simp truth at h in simp truth (omega arith)) (c .if1 .left)) _ _
 
 pub delete-global-if-unused-spec : {M : Type 1} → statement M
@@ -77,11 +75,9 @@ delete-global-if-unused-spec =
     shared-slice-read-if1
     mul-if1-2
     shared-slice-read-if1-2
-    add-records
-    mul-records
-    slice-write-records
+    delete-requires
     put-note-requires
-    add-t25
+    add-t31
     same-length
     same-length-2
     returns

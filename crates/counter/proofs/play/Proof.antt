@@ -31,9 +31,12 @@ change-requires c κs = search needs
 show-requires : tie.Need-show-requires Inv-loop μ-loop
 show-requires c κs = search needs
 
+fill-requires : tie.Need-fill-requires Inv-loop μ-loop
+fill-requires c κs = search needs
+
 add-n : tie.Need-add-n Inv-loop μ-loop
 add-n c =
-    let shown = c .before .before in
+    let shown = c .before .before .before in
     let back = shown .before .before .before .before .before .before .before .before in
     let changed = back .before .before .before .before .before .before .before .before .before .before .before .before in
     let test = changed .before .before .before .before .before .before .before .before in
@@ -41,7 +44,7 @@ add-n c =
 
 loop-less : tie.Need-loop-less Inv-loop μ-loop
 loop-less c =
-    let shown = c .before .before in
+    let shown = c .before .before .before in
     let back = shown .before .before .before .before .before .before .before .before in
     let changed = back .before .before .before .before .before .before .before .before .before .before .before .before in
     let test = changed .before .before .before .before .before .before .before .before in
@@ -49,7 +52,7 @@ loop-less c =
 
 loop-again : tie.Need-loop-again Inv-loop μ-loop
 loop-again c =
-    let shown = c .before .before in
+    let shown = c .before .before .before in
     let back = shown .before .before .before .before .before .before .before .before in
     let changed = back .before .before .before .before .before .before .before .before .before .before .before .before in
     let test = changed .before .before .before .before .before .before .before .before in
@@ -100,6 +103,7 @@ play-spec =
     call-at-requires
     change-requires
     show-requires
+    fill-requires
     add-n
     loop-less
     loop-again

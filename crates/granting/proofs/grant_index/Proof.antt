@@ -1,6 +1,6 @@
 use Rattle.table.proofs.FoundLaws.{solverWord, solver-word}
 use mathlib.Core.Path.{ap, _∙_}
-use Rattle.granting.proofs.GrantLaws.{next-asks, index-free, next-done, kept-done, reads-below}
+use Rattle.granting.proofs.GrantLaws.{next-asks, next-done, kept-done, reads-below}
 use borrow.Author.Needs.{needs}
 use Rattle.granting.proofs.grant_index.Statement.{statement}
 use Rattle.granting.proofs.grant_index.Tie as tie
@@ -23,14 +23,14 @@ mul-unit c = search needs
 shared-slice-read-unit : tie.Need-shared-slice-read-unit
 shared-slice-read-unit c =
     let entry = c .before .before .before .before .before .before .before .before .before .before .before in
-    reads-below _ _ _ _ (entry .pre .0 .asks)
+    reads-below _ _ _ _ (entry .pre .asks)
 
 grant-next-requires : tie.Need-grant-next-requires
 grant-next-requires c κs =
-    let entry = c .before .before .before .before .before .before .before .before .before .before .before .before .before .before .before in
-    next-asks _ _ _ _ _ (index-free _ _ _ _ (entry .pre .0 .asks)
-    (solver-word _ _ (c .before .before .before .before .before .before .before .before .solver-of .ensures)
-    ∙ ap solverWord (c .before .before .before .before .before .before .enum-told .given .1))) (entry .pre .1)
+    let at-enum-told = c .before .before .before .before .before .before in
+    let at-solver-of = at-enum-told .before .before in
+    let entry = at-solver-of .before .before .before .before .before .before .before in
+    next-asks _ _ _ _ (entry .pre .asks) (solver-word _ _ (at-solver-of .solver-of .ensures) ∙ ap solverWord (at-enum-told .enum-told .given .1))
 
 same-length : tie.Need-same-length
 same-length c = search needs
@@ -46,21 +46,19 @@ same-length-4 c = search needs
 
 returns : tie.Need-returns
 returns c =
-    let at-enum-told = c .before .before .before .before .before .before .before .before .before .before .before .before .before .before .before in
+    let at-grant-next = c .before .before .before .before .before .before .before .before in
+    let at-enum-told = at-grant-next .before .before .before .before .before .before .before in
     let at-solver-of = at-enum-told .before .before in
     let entry = at-solver-of .before .before .before .before .before .before .before in
-    next-done _ _ _ _ _ _ _ _ _ _ _ _ _ _ _ _ (reads-below _ _ _ _ (entry .pre .0 .asks))
-    (solver-word _ _ (at-solver-of .solver-of .ensures) ∙ ap solverWord (at-enum-told .enum-told .given .1))
-    (c .before .before .before .before .before .before .before .before .grant-next .ensures)
+    let none = solver-word _ _ (at-solver-of .solver-of .ensures) ∙ ap solverWord (at-enum-told .enum-told .given .1) in
+    let asks = entry .pre .asks in
+    next-done _ _ _ _ _ _ _ _ _ _ _ _ _ _ _ (reads-below _ _ _ _ asks) none (next-asks _ _ _ _ asks none .1 .0) (at-grant-next .grant-next .ensures)
 
 same-length-5 : tie.Need-same-length-5
 same-length-5 c = search needs
 
 returns-2 : tie.Need-returns-2
-returns-2 c =
-    let entry = c .before .before .before .before .before .before .before .before .before .before in
-    kept-done _ _ _ _ _ _ _ _ _ _ (solver-word _ _ (c .before .before .before .solver-of .ensures) ∙ ap solverWord (c .before .solver .given .1))
-    (entry .pre .1)
+returns-2 c = kept-done _ _ _ _ _ _ _ _ _ (solver-word _ _ (c .before .before .before .solver-of .ensures) ∙ ap solverWord (c .before .solver .given .1))
 
 pub grant-index-spec : {M : Type 1} → statement M
 grant-index-spec =

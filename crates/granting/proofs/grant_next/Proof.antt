@@ -1,13 +1,11 @@
 use mathlib.Core.Path.{refl}
+use Rattle.scope.proofs.CursorLaws.{free-mapped}
 use borrow.Author.Needs.{needs}
 use Rattle.granting.proofs.grant_next.Statement.{statement}
 use Rattle.granting.proofs.grant_next.Tie as tie
 
-least-free-requires : tie.Need-least-free-requires
-least-free-requires c κs = search needs
-
-add-next : tie.Need-add-next
-add-next c = search needs
+add-past : tie.Need-add-past
+add-past c = search needs
 
 cast-assignment : tie.Need-cast-assignment
 cast-assignment c = search needs
@@ -22,7 +20,10 @@ put-note-requires : tie.Need-put-note-requires
 put-note-requires c κs = search needs
 
 grant-requires : tie.Need-grant-requires
-grant-requires c κs = search needs
+grant-requires c κs =
+    let entry = c .before .before .before .before .before .before .before .before .before .before in
+    let p = entry .pre in
+    (p .1 .1 .1 .1 .1 .0, (p .1 .1 .0, (p .1 .1 .1 .1 .1 .1 .0, (p .1 .1 .1 .1 .0, (p .0, free-mapped _ _ _ (p .1 .0))))))
 
 same-length : tie.Need-same-length
 same-length c = search needs
@@ -38,33 +39,16 @@ same-length-4 c = search needs
 
 returns : tie.Need-returns
 returns c =
-    let at-least-free = c .before .before .before .before .before .before .before .before .before .before .before in
-    rw (← (at-least-free .least-free .ensures)) (
-      refl,
-      (
-        c .before .before .before .before .grant .ensures .0,
-        (
-          refl,
-          (
-            refl,
-            (
-              c .before .before .before .before .grant .ensures .1 .0,
-              (
-                c .before .before .before .before .grant .ensures .1 .1,
-                (refl, c .before .before .before .before .before .before .before .before .before .put-note .ensures),
-              ),
-            ),
-          ),
-        ),
-      ),
-    )
+    let at-grant = c .before .before .before .before in
+    let at-put-note = at-grant .before .before .before .before .before in
+    let given = at-grant .grant .ensures in
+    (refl, (given .0, (refl, (given .1 .0, (given .1 .1, (refl, at-put-note .put-note .ensures))))))
 
 pub grant-next-spec : {M : Type 1} → statement M
 grant-next-spec =
     tie.close
     (tie.spec
-    least-free-requires
-    add-next
+    add-past
     cast-assignment
     mul-assignment
     slice-write-assignment

@@ -1,6 +1,5 @@
 use mathlib.Core.List.{[]}
 use Rattle.granting.proofs.GrantLaws.{grant-refused, grant-asks, grant-few, grant-done}
-use Rattle.changes.proofs.CursorLaws.{cursor-start}
 use Rattle.changes.proofs.LeavesLaws.{notes-fit}
 use borrow.Author.Needs.{needs}
 use Rattle.granting.proofs.solver_from_global.Statement.{statement}
@@ -22,20 +21,15 @@ returns : tie.Need-returns
 returns c = grant-refused _ _ _ _ (c .before .grant-refusal .ensures) (c .if1 .taken)
 
 grant-index-requires : tie.Need-grant-index-requires
-grant-index-requires c κs = (
-  record {
-    gu = _;
-    ug = _;
-    asks = grant-asks _ _ _ _ (c .before .before .before .before .before .grant-refusal .ensures)
-        (c .before .before .before .before .if1 .left);
-  },
-  cursor-start _ _,
-)
+grant-index-requires c κs =
+    let at-if1 = c .before .before .before .before in
+    let at-grant-refusal = at-if1 .before in
+    record { gu = _; ug = _; asks = grant-asks _ _ _ _ (at-grant-refusal .grant-refusal .ensures) (at-if1 .if1 .left) }
 
 cast-t30 : tie.Need-cast-t30
 cast-t30 c =
     let at-grant-index = c .before .before .before .before .before .before .before .before .before .before .before in
-    record { fits = notes-fit ((at-grant-index .grant-index .ensures .1 .0) [] []) (grant-few _ _) }
+    record { fits = notes-fit (at-grant-index .grant-index .ensures .1 [] []) (grant-few _ _) }
 
 same-length-4 : tie.Need-same-length-4
 same-length-4 c = search needs
@@ -54,8 +48,8 @@ returns-2 c =
     let at-grant-index = c .before .before .before .before .before .before .before .before .before .before .before in
     let at-if1 = at-grant-index .before .before .before .before .before in
     let at-grant-refusal = at-if1 .before in
-    grant-done _ _ _ _ _ _ _ _ (at-grant-refusal .grant-refusal .ensures) (at-if1 .if1 .left) ((at-grant-index .grant-index .ensures .0) _ _)
-    ((at-grant-index .grant-index .ensures .1 .0) _ _)
+    let h = at-grant-index .grant-index .ensures in
+    grant-done _ _ _ _ _ _ _ _ (at-grant-refusal .grant-refusal .ensures) (at-if1 .if1 .left) (h .0 _ _) (h .1 _ _)
 
 pub solver-from-global-spec : {M : Type 1} → statement M
 solver-from-global-spec =

@@ -21,43 +21,38 @@ mul-w c = search needs
 slice-read-w : tie.Need-slice-read-w
 slice-read-w c = there-live _ _ (c .before .before .before .before .before .before .pre .shows .there) .words
 
-mul-records : tie.Need-mul-records
-mul-records c = record { fits = base-fits _ _ (c .before .before .before .before .before .before .pre .shows .there) }
+mul-w-2 : tie.Need-mul-w-2
+mul-w-2 c = record { fits = base-fits _ _ (c .before .before .before .before .before .before .pre .shows .there) }
 
-add-records : tie.Need-add-records
-add-records c = record {
-  fits = mode-fits _ _ (c .before .before .before .before .before .before .pre .shows .there) _ (let l =
-      (c .before .before .before .before .before .before .pre .shows .mode) in omega arith);
-}
-
-mul-records-2 : tie.Need-mul-records-2
-mul-records-2 c = let l = there-live _ _ (c .before .before .before .before .before .before .pre .shows .there) .small in omega arith
-
-slice-write-records : tie.Need-slice-write-records
-slice-write-records c = there-live _ _ (c .before .before .before .before .before .before .pre .shows .there) .words
+add-w : tie.Need-add-w
+add-w c =
+    let entry = c .before .before .before .before .before .before in
+    record { fits = mode-fits _ _ (entry .pre .shows .there) _ (let l = entry .pre .shows .mode in omega arith) }
 
 least-free-requires : tie.Need-least-free-requires
 least-free-requires c κs = show-next _ _ _ _ (c .before .before .before .before .before .before .before .pre .shows)
 
 map-requires : tie.Need-map-requires
 map-requires c κs =
-    let entry = c .before .before .before .before .before .before .before .before .before .before in
-    show-fits _ _ _ _ (entry .pre .shows) _ (c .before .before .least-free .ensures)
+    let at-least-free = c .before .before .before in
+    let entry = at-least-free .before .before .before .before .before .before .before .before in
+    show-fits _ _ _ _ (entry .pre .shows) _ (at-least-free .least-free .ensures)
 
 put-note-requires : tie.Need-put-note-requires
 put-note-requires c κs =
-    let entry = c .before .before .before .before .before .before .before .before .before .before .before .before .before .before .before .before in
-    (let r = (entry .pre .words) in omega arith, yes-fits (eqb (entry .args .m) 0))
+    let at-map = c .before .before .before .before .before .before .before in
+    let entry = at-map .before .before .before .before .before .before .before .before .before .before .before .before in
+    (let r = entry .pre .words in omega arith, yes-fits (eqb (entry .args .m) 0))
 
 put-note-requires-2 : tie.Need-put-note-requires-2
 put-note-requires-2 c κs =
-    let at-least-free = c .before .before .before .before .before .before .before .before .before .before .before .before in
-    let entry = at-least-free .before .before .before .before .before .before .before .before in (
-      let r = (entry .pre .words) in let k = (c .before .before .before .put-note .kept .0) in
-          omega arith,
-      let l = show-fits _ _ _ _ (entry .pre .shows) _ (at-least-free .least-free .ensures) in let z = (entry .pre .shows .there .sound .sizes) in
-          omega arith,
-    )
+    let at-least-free = c .before .before .before .before .before .before .before .before .before .before .before .before .before .before .before in
+    let entry = at-least-free .before .before .before .before .before .before .before .before in
+    let r = entry .pre .words in
+    let k = c .before .before .before .put-note .kept .0 in
+    let l = show-fits _ _ _ _ (entry .pre .shows) _ (at-least-free .least-free .ensures) in
+    let z = entry .pre .shows .there .sound .sizes in
+    (omega arith, omega arith)
 
 same-length : tie.Need-same-length
 same-length c = search needs
@@ -73,13 +68,13 @@ same-length-4 c = search needs
 
 returns : tie.Need-returns
 returns c =
-    let at-map = c .before .before .before .before .before .before .before .before .before .before .before .before in
-    let at-least-free = at-map .before .before .before in
-    let entry = at-least-free .before .before .before .before .before .before .before .before in (
-      λ x. show-leaves _ _ _ (there-live _ _ (entry .pre .shows .there) .words) _ (at-least-free .least-free .ensures) _ _ _ (at-map .map .ensures) _ _ _ _
-          (c .before .before .before .before .before .before .put-note .ensures) (c .before .before .put-note2 .ensures),
-      (at-least-free .least-free .ensures),
-    )
+    let at-map = c .before .before .before .before .before .before .before .before .before .before .before .before .before .before in
+    let at-least-free = at-map .before .before .before .before in
+    let entry = at-least-free .before .before .before .before .before .before .before .before in
+    let l = there-live _ _ (entry .pre .shows .there) .words in
+    let u = at-least-free .least-free .ensures in
+    let n = c .before .before .before .before .before .before .put-note .ensures in
+    (λ x. show-leaves _ _ _ l _ u _ _ _ _ (at-map .map .ensures) _ _ _ _ n (c .before .before .put-note2 .ensures), u)
 
 pub show-spec : {M : Type 1} → statement M
 show-spec =
@@ -90,10 +85,8 @@ show-spec =
     add-past
     mul-w
     slice-read-w
-    mul-records
-    add-records
-    mul-records-2
-    slice-write-records
+    mul-w-2
+    add-w
     least-free-requires
     map-requires
     put-note-requires

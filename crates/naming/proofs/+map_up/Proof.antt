@@ -2,7 +2,7 @@ use Rattle.table.proofs.FoundLaws.{globalWord, global-word}
 use Rattle.naming.proofs.GapLaws.{GapWith, gap-start, gap-asks, gap-more, gap-sizes, gap-kept, last-asks, last-done, last-sizes}
 use Rattle.naming.proofs.CallLaws.{user-small}
 use Rattle.naming.specs.Parts.{free}
-use Rattle.changes.specs.Cursor.{NoneFree}
+use Rattle.scope.specs.Cursor.{NoneFree}
 use native.Mathlib.Omega.{arith}
 use mathlib.Core.Path.{_∙_, ap}
 use borrow.Author.Needs.{needs}

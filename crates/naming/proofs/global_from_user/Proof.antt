@@ -1,6 +1,6 @@
 use Rattle.naming.proofs.CallLaws.{map-refused, map-asks, map-few, map-done}
 use Rattle.naming.proofs.GapLaws.{up-asks, up-leaves}
-use Rattle.changes.proofs.CursorLaws.{cursor-start}
+use Rattle.scope.proofs.CursorLaws.{cursor-start}
 use Rattle.changes.proofs.LeavesLaws.{notes-fit}
 use borrow.Author.Needs.{needs}
 use Rattle.naming.proofs.global_from_user.Statement.{statement}

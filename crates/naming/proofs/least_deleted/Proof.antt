@@ -1,5 +1,5 @@
 use Prim.Native.Nat.{_-_}
-use Rattle.changes.specs.Cursor.{NoneFree}
+use Rattle.scope.specs.Cursor.{NoneFree}
 use Rattle.naming.specs.Parts.{free}
 use Rattle.naming.proofs.FreeLaws.{deleted-found, deleted-more, deleted-end}
 use borrow.Author.Needs.{needs}

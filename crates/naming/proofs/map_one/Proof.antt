@@ -6,23 +6,17 @@ use Rattle.naming.proofs.map_one.Tie as tie
 global-for-requires : tie.Need-global-for-requires
 global-for-requires c κs = search needs
 
-add-next : tie.Need-add-next
-add-next c = search needs
-
-cast-records : tie.Need-cast-records
-cast-records c = search needs
-
-mul-records : tie.Need-mul-records
-mul-records c = search needs
-
-slice-write-records : tie.Need-slice-write-records
-slice-write-records c = search needs
+add-past : tie.Need-add-past
+add-past c = search needs
 
 put-note-requires : tie.Need-put-note-requires
 put-note-requires c κs = search needs
 
 map-requires : tie.Need-map-requires
-map-requires c κs = search needs
+map-requires c κs =
+    let p = c .before .before .before .before .before .before .before .before .before .before .before .before .before .before .pre in
+    let g = c .before .before .before .before .before .before .before .before .global-for .ensures .0 in
+    rw g (p .1 .1 .0, (p .1 .1 .1 .1 .1 .1 .0, (p .1 .1 .1 .1 .1 .1 .1 .0, (p .1 .1 .1 .1 .0, (p .1 .1 .1 .1 .1 .1 .1 .1 .0, p .1 .1 .1 .1 .1 .0)))))
 
 same-length : tie.Need-same-length
 same-length c = search needs
@@ -38,36 +32,18 @@ same-length-4 c = search needs
 
 returns : tie.Need-returns
 returns c =
-    let at-global-for = c .before .before .before .before .before .before .before .before .before .before .before .before .before in
-    rw (← (at-global-for .global-for .ensures .0)) (
-      refl,
-      (
-        c .before .before .before .before .map .ensures .0,
-        (
-          at-global-for .global-for .ensures .1,
-          (
-            refl,
-            (
-              c .before .before .before .before .map .ensures .1 .0,
-              (
-                c .before .before .before .before .map .ensures .1 .1,
-                (refl, c .before .before .before .before .before .before .before .before .before .put-note .ensures),
-              ),
-            ),
-          ),
-        ),
-      ),
-    )
+    let at-global-for = c .before .before .before .before .before .before .before .before .before .before .before .before .before .before .before .global-for in
+    let at-put-note = c .before .before .before .before .before .before .before .before .before .before .before .before .put-note in
+    let m = c .before .before .before .before .before .before .map .ensures in
+    rw (← (at-global-for .ensures .0))
+    (refl, (m .0, (at-global-for .ensures .1, (refl, (m .1 .0, (m .1 .1 .0, (m .1 .1 .1, at-put-note .ensures)))))))
 
 pub map-one-spec : {M : Type 1} → statement M
 map-one-spec =
     tie.close
     (tie.spec
     global-for-requires
-    add-next
-    cast-records
-    mul-records
-    slice-write-records
+    add-past
     put-note-requires
     map-requires
     same-length

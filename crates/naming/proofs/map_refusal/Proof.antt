@@ -1,5 +1,5 @@
 use Rattle.table.proofs.CheckLaws.{yes-of, no-of}
-use Rattle.naming.proofs.CallLaws.{all-inside, records-small, user-small, map-counts, map-1, map-3, map-4, map-5, map-2, map-0}
+use Rattle.naming.proofs.CallLaws.{all-inside, user-small, map-counts, map-1, map-3, map-4, map-5, map-2, map-0}
 use native.Mathlib.Omega.{arith}
 use borrow.Author.Needs.{needs}
 use Rattle.naming.proofs.map_refusal.Statement.{statement}
@@ -21,29 +21,27 @@ returns-3 : tie.Need-returns-3
 returns-3 c = map-4 _ _ _ _ (yes-of (c .before .before .before .before .before .before .is-sound .ensures)
     (c .before .before .before .before .before .if1 .left)) (c .before .before .if2 .left) _ (c .before .is-unsampled .ensures) (c .if3 .taken)
 
-count-undeleted-requires : tie.Need-count-undeleted-requires
-count-undeleted-requires c κs =
-    records-small _ (yes-of (c .before .before .before .before .before .before .is-sound .ensures) (c .before .before .before .before .before .if1 .left))
-
 to-map-requires : tie.Need-to-map-requires
 to-map-requires c κs =
-    user-small _ _ (yes-of (c .before .before .before .before .before .before .before .is-sound .ensures)
-    (c .before .before .before .before .before .before .if1 .left)) (c .before .before .before .if2 .left)
+    let at-if1 = c .before .before .before .before .before in
+    let y = yes-of (at-if1 .before .is-sound .ensures) (at-if1 .if1 .left) in
+    user-small _ _ y (c .before .before .if2 .left)
 
 add-if4 : tie.Need-add-if4
-add-if4 c = let k = (map-counts _ _ _ _ (yes-of (c .before .before .before .before .before .before .before .before .is-sound .ensures)
-    (c .before .before .before .before .before .before .before .if1 .left)) (c .before .count-undeleted .ensures) (c .to-map .ensures)) in
-    let w = user-small _ _ (yes-of (c .before .before .before .before .before .before .before .before .is-sound .ensures)
-    (c .before .before .before .before .before .before .before .if1 .left)) (c .before .before .before .before .if2 .left) in omega arith
+add-if4 c =
+    let at-if1 = c .before .before .before .before .before .before .before in
+    let y = yes-of (at-if1 .before .is-sound .ensures) (at-if1 .if1 .left) in
+    let k = map-counts _ _ _ y (c .before .to-map .ensures) in
+    let w = user-small _ _ y (c .before .before .before .before .if2 .left) in
+    omega arith
 
 returns-4 : tie.Need-returns-4
 returns-4 c =
-    let at-is-sound = c .before .before .before .before .before .before .before .before .before .before in
-    map-5 _ _ _ _ (yes-of (at-is-sound .is-sound .ensures) (c .before .before .before .before .before .before .before .before .before .if1 .left))
-    (c .before .before .before .before .before .before .if2 .left) _ (c .before .before .before .before .before .is-unsampled .ensures)
-    (c .before .before .before .before .if3 .left) _ _ (map-counts _ _ _ _
-    (yes-of (at-is-sound .is-sound .ensures) (c .before .before .before .before .before .before .before .before .before .if1 .left))
-    (c .before .before .before .count-undeleted .ensures) (c .before .before .to-map .ensures)) (c .if4 .taken)
+    let at-if1 = c .before .before .before .before .before .before .before .before .before in
+    let y = yes-of (at-if1 .before .is-sound .ensures) (at-if1 .if1 .left) in
+    let k = map-counts _ _ _ y (c .before .before .before .to-map .ensures) in
+    let at-if3 = c .before .before .before .before in
+    map-5 _ _ _ _ y (at-if3 .before .before .if2 .left) _ (at-if3 .before .is-unsampled .ensures) (at-if3 .if3 .left) _ k (omega (arith, c .if4 .taken))
 
 cast-if5 : tie.Need-cast-if5
 cast-if5 c = search needs
@@ -54,20 +52,20 @@ mul-if5 c = search needs
 returns-5 : tie.Need-returns-5
 returns-5 c =
     let at-if1 = c .before .before .before .before .before .before .before .before .before .before in
-    let at-is-sound = at-if1 .before in
-    map-2 _ _ _ _ (yes-of (at-is-sound .is-sound .ensures) (at-if1 .if1 .left)) (c .before .before .before .before .before .before .before .if2 .left) _
-    (c .before .before .before .before .before .before .is-unsampled .ensures) (c .before .before .before .before .before .if3 .left) _ _
-    (map-counts _ _ _ _ (yes-of (at-is-sound .is-sound .ensures) (at-if1 .if1 .left)) (c .before .before .before .before .count-undeleted .ensures)
-    (c .before .before .before .to-map .ensures)) (c .before .if4 .left) (c .if5 .taken)
+    let y = yes-of (at-if1 .before .is-sound .ensures) (at-if1 .if1 .left) in
+    let k = map-counts _ _ _ y (c .before .before .before .before .to-map .ensures) in
+    let at-if3 = c .before .before .before .before .before in
+    map-2 _ _ _ _ y (at-if3 .before .before .if2 .left) _ (at-if3 .before .is-unsampled .ensures) (at-if3 .if3 .left) _ k
+    (omega (arith, c .before .if4 .left)) (c .if5 .taken)
 
 returns-6 : tie.Need-returns-6
 returns-6 c =
     let at-if1 = c .before .before .before .before .before .before .before .before .before .before in
-    let at-is-sound = at-if1 .before in
-    map-0 _ _ _ _ (yes-of (at-is-sound .is-sound .ensures) (at-if1 .if1 .left)) (c .before .before .before .before .before .before .before .if2 .left) _
-    (c .before .before .before .before .before .before .is-unsampled .ensures) (c .before .before .before .before .before .if3 .left) _ _
-    (map-counts _ _ _ _ (yes-of (at-is-sound .is-sound .ensures) (at-if1 .if1 .left)) (c .before .before .before .before .count-undeleted .ensures)
-    (c .before .before .before .to-map .ensures)) (c .before .if4 .left) (c .if5 .left)
+    let y = yes-of (at-if1 .before .is-sound .ensures) (at-if1 .if1 .left) in
+    let k = map-counts _ _ _ y (c .before .before .before .before .to-map .ensures) in
+    let at-if3 = c .before .before .before .before .before in
+    map-0 _ _ _ _ y (at-if3 .before .before .if2 .left) _ (at-if3 .before .is-unsampled .ensures) (at-if3 .if3 .left) _ k
+    (omega (arith, c .before .if4 .left)) (c .if5 .left)
 
 pub map-refusal-spec : {M : Type 1} → statement M
 map-refusal-spec =
@@ -78,7 +76,6 @@ map-refusal-spec =
     returns-2
     is-unsampled-requires
     returns-3
-    count-undeleted-requires
     to-map-requires
     add-if4
     returns-4

@@ -1,4 +1,4 @@
-use Rattle.posing.proofs.PlaceLaws.{place-map-asks, place-grant-asks, solver-ahead, place-leaves, global-ahead}
+use Rattle.posing.proofs.PlaceLaws.{place-map-asks, place-grant-asks, place-leaves, global-ahead}
 use Rattle.naming.proofs.GapLaws.{up-asks, up-leaves}
 use borrow.Author.Needs.{needs}
 use Rattle.posing.proofs.place_new.Statement.{statement}
@@ -7,17 +7,14 @@ use Rattle.posing.proofs.place_new.Tie as tie
 map-up-requires : tie.Need-map-up-requires
 map-up-requires c κs =
     let entry = c .before .before .before .before .before .before .before .before .before .before .before in
-    (up-asks _ _ _ _ (place-map-asks _ _ _ _ (entry .pre .0)), (entry .pre .1 .global))
+    (up-asks _ _ _ _ (place-map-asks _ _ _ _ (entry .pre .0)), entry .pre .1)
 
 grant-index-requires : tie.Need-grant-index-requires
 grant-index-requires c κs =
     let at-map-up = c .before .before .before .before .before .before .before .before .before .before .before .before .before .before .before in
     let entry = at-map-up .before .before .before .before .before .before .before .before .before .before .before .before in
-    let m = (up-leaves _ _ _ _ _ _ _ _ _ _ _ (place-map-asks _ _ _ _ (entry .pre .0)) (at-map-up .map-up .ensures .0)) in (
-      record { gu = _; ug = _; asks = place-grant-asks _ _ _ _ _ _ _ _ (entry .pre .0) (m .0) (m .1) },
-      solver-ahead _ _ _ _ _ _ _ _ (entry .pre .0) (m .1)
-          (entry .pre .1 .solver),
-    )
+    let m = up-leaves _ _ _ _ _ _ _ _ _ _ _ (place-map-asks _ _ _ _ (entry .pre .0)) (at-map-up .map-up .ensures .0) in
+    record { gu = _; ug = _; asks = place-grant-asks _ _ _ _ _ _ _ _ (entry .pre .0) (m .0) (m .1) }
 
 same-length : tie.Need-same-length
 same-length c = search needs
@@ -46,16 +43,11 @@ returns c =
     let at-map-up = at-grant-index .before .before .before .before .before .before .before .before .before .before .before .before .before .before .before
     .before in
     let entry = at-map-up .before .before .before .before .before .before .before .before .before .before .before .before in
-    let m = (up-leaves _ _ _ _ _ _ _ _ _ _ _ (place-map-asks _ _ _ _ (entry .pre .0)) (at-map-up .map-up .ensures .0)) in
-    let g = (at-grant-index .grant-index .ensures .1 .0) _ _ in
-    let p = place-leaves _ _ _ _ _ _ _ _ _ _ _ _ (m .0) (m .1) ((at-grant-index .grant-index .ensures .0) _ _) g in (
-      p .0,
-      (
-        p .1,
-        global-ahead _ _ _ _ _ _ _ _ _ (place-grant-asks _ _ _ _ _ _ _ _ (entry .pre .0) (m .0) (m .1)) g (at-map-up .map-up .ensures .1)
-            (at-grant-index .grant-index .ensures .1 .1),
-      ),
-    )
+    let m = up-leaves _ _ _ _ _ _ _ _ _ _ _ (place-map-asks _ _ _ _ (entry .pre .0)) (at-map-up .map-up .ensures .0) in
+    let g = at-grant-index .grant-index .ensures .1 _ _ in
+    let p = place-leaves _ _ _ _ _ _ _ _ _ _ _ _ (m .0) (m .1) (at-grant-index .grant-index .ensures .0 _ _) g in
+    let asks = place-grant-asks _ _ _ _ _ _ _ _ (entry .pre .0) (m .0) (m .1) in
+    (p .0, (p .1, global-ahead _ _ _ _ _ _ _ _ asks g (at-map-up .map-up .ensures .1)))
 
 pub place-new-spec : {M : Type 1} → statement M
 place-new-spec =

@@ -1,9 +1,7 @@
-use Rattle.posing.proofs.CallLaws.{counts-by, pose-many, pose-3, pose-4, pose-5, pose-2, pose-0}
-use Rattle.posing.proofs.HeldLaws.{rest-outside, rest-needs, rest-asks}
-use Rattle.scope.proofs.DistinctUsers.{within-of}
-use Rattle.naming.proofs.CallLaws.{all-inside, records-small, undeleted-is}
+use Rattle.posing.proofs.CallLaws.{pose-many, pose-3, pose-4, pose-5, pose-2, pose-0}
+use Rattle.posing.proofs.HeldLaws.{rest-outside, rest-inside, rest-asks, rest-counts}
+use Rattle.naming.proofs.CallLaws.{all-inside}
 use native.Mathlib.Omega.{arith}
-use mathlib.Core.Path.{sym, _∙_}
 use borrow.Author.Needs.{needs}
 use Rattle.posing.proofs.pose_refusal.Statement.{statement}
 use Rattle.posing.proofs.pose_refusal.Tie as tie
@@ -39,11 +37,10 @@ any-outside-requires c κs = search needs
 
 returns-2 : tie.Need-returns-2
 returns-2 c =
-    let at-any-outside = c .before in
-    let at-if1 = at-any-outside .before .before in
+    let at-if1 = c .before .before .before in
     let entry = at-if1 .before .before .before .before .before .before .before .before in
-    pose-3 _ _ _ _ _ (entry .pre .0) (at-if1 .if1 .left) _ (rest-outside _ _ _ _ (entry .pre .0) (entry .pre .1) (at-any-outside .any-outside .ensures)) (c
-    .if2 .taken)
+    pose-3 _ _ _ _ _ (entry .pre .0) (at-if1 .if1 .left) _ (rest-outside _ _ _ _ (entry .pre .0) (entry .pre .1) (c .before .any-outside .ensures)) (c .if2
+    .taken)
 
 any-unsampled-requires : tie.Need-any-unsampled-requires
 any-unsampled-requires c κs =
@@ -52,23 +49,16 @@ any-unsampled-requires c κs =
 
 returns-3 : tie.Need-returns-3
 returns-3 c =
-    let at-any-unsampled = c .before in
-    let at-if2 = at-any-unsampled .before in
+    let at-if2 = c .before .before in
     let at-any-outside = at-if2 .before in
     let at-if1 = at-any-outside .before .before in
     let entry = at-if1 .before .before .before .before .before .before .before .before in
-    pose-4 _ _ _ _ _ (entry .pre .0) (at-if1 .if1 .left) (sym (rest-outside _ _ _ _ (entry .pre .0) (entry .pre .1) (at-any-outside .any-outside
-    .ensures)) ∙ at-if2 .if2 .left) _
-    (at-any-unsampled .any-unsampled .ensures) (c .if3 .taken)
-
-count-undeleted-requires : tie.Need-count-undeleted-requires
-count-undeleted-requires c κs =
-    let entry = c .before .before .before .before .before .before .before .before .before .before .before .before .before in
-    records-small _ (entry .pre .0)
+    let a = rest-inside _ _ _ _ (entry .pre .0) (entry .pre .1) (at-any-outside .any-outside .ensures) (at-if2 .if2 .left) in
+    pose-4 _ _ _ _ _ (entry .pre .0) (at-if1 .if1 .left) a _ (c .before .any-unsampled .ensures) (c .if3 .taken)
 
 count-needs-requires : tie.Need-count-needs-requires
 count-needs-requires c κs =
-    let at-if2 = c .before .before .before in
+    let at-if2 = c .before .before in
     let at-any-outside = at-if2 .before in
     let at-if1 = at-any-outside .before .before in
     let entry = at-if1 .before .before .before .before .before .before .before .before in
@@ -77,71 +67,55 @@ count-needs-requires c κs =
 sub-users : tie.Need-sub-users
 sub-users c =
     let at-count-needs = c .before .before in
-    let at-count-undeleted = at-count-needs .before in
-    let at-if2 = at-count-undeleted .before .before .before in
+    let at-if2 = at-count-needs .before .before .before in
     let at-any-outside = at-if2 .before in
     let entry = at-any-outside .before .before .before .before .before .before .before .before .before .before in
-    let k = counts-by _ _ _ _ (entry .pre .0) (within-of _ _ (sym (rest-outside _ _ _ _ (entry .pre .0) (entry .pre .1) (at-any-outside .any-outside
-    .ensures)) ∙ at-if2 .if2 .left))
-    (undeleted-is _ _ (entry .pre .0) (at-count-undeleted .count-undeleted .ensures))
-    (rest-needs _ _ _ _ (entry .pre .0) (entry .pre .1) (at-count-needs .count-needs .ensures)) .1 in
+    let k = rest-counts _ _ _ _ (entry .pre .0) (entry .pre .1) _ (at-any-outside .any-outside .ensures) (at-if2 .if2 .left) (at-count-needs .count-needs
+    .ensures) in
     k .above
 
 add-users : tie.Need-add-users
 add-users c =
     let at-count-needs = c .before .before .before in
-    let at-count-undeleted = at-count-needs .before in
-    let at-if2 = at-count-undeleted .before .before .before in
+    let at-if2 = at-count-needs .before .before .before in
     let at-any-outside = at-if2 .before in
     let entry = at-any-outside .before .before .before .before .before .before .before .before .before .before in
-    let k = counts-by _ _ _ _ (entry .pre .0) (within-of _ _ (sym (rest-outside _ _ _ _ (entry .pre .0) (entry .pre .1) (at-any-outside .any-outside
-    .ensures)) ∙ at-if2 .if2 .left))
-    (undeleted-is _ _ (entry .pre .0) (at-count-undeleted .count-undeleted .ensures))
-    (rest-needs _ _ _ _ (entry .pre .0) (entry .pre .1) (at-count-needs .count-needs .ensures)) .1 in
+    let k = rest-counts _ _ _ _ (entry .pre .0) (entry .pre .1) _ (at-any-outside .any-outside .ensures) (at-if2 .if2 .left) (at-count-needs .count-needs
+    .ensures) in
     omega arith
 
 add-if4 : tie.Need-add-if4
 add-if4 c =
-    let at-count-needs = c .before .before .before in
-    let at-count-undeleted = at-count-needs .before in
-    let at-if2 = at-count-undeleted .before .before .before in
+    let at-count-needs = c .before .before .before .before in
+    let at-if2 = at-count-needs .before .before .before in
     let at-any-outside = at-if2 .before in
     let entry = at-any-outside .before .before .before .before .before .before .before .before .before .before in
-    let k = counts-by _ _ _ _ (entry .pre .0) (within-of _ _ (sym (rest-outside _ _ _ _ (entry .pre .0) (entry .pre .1) (at-any-outside .any-outside
-    .ensures)) ∙ at-if2 .if2 .left))
-    (undeleted-is _ _ (entry .pre .0) (at-count-undeleted .count-undeleted .ensures))
-    (rest-needs _ _ _ _ (entry .pre .0) (entry .pre .1) (at-count-needs .count-needs .ensures)) .1 in
+    let k = rest-counts _ _ _ _ (entry .pre .0) (entry .pre .1) _ (at-any-outside .any-outside .ensures) (at-if2 .if2 .left) (at-count-needs .count-needs
+    .ensures) in
     omega arith
 
 returns-4 : tie.Need-returns-4
 returns-4 c =
-    let at-count-needs = c .before .before .before .before .before in
-    let at-count-undeleted = at-count-needs .before in
-    let at-if3 = at-count-undeleted .before in
+    let at-count-needs = c .before .before .before .before .before .before in
+    let at-if3 = at-count-needs .before in
     let at-any-unsampled = at-if3 .before in
     let at-if2 = at-any-unsampled .before in
     let at-any-outside = at-if2 .before in
     let at-if1 = at-any-outside .before .before in
     let entry = at-if1 .before .before .before .before .before .before .before .before in
-    pose-5 _ _ _ _ _ (entry .pre .0) (at-if1 .if1 .left) (sym (rest-outside _ _ _ _ (entry .pre .0) (entry .pre .1) (at-any-outside .any-outside
-    .ensures)) ∙ at-if2 .if2 .left) _
-    (at-any-unsampled .any-unsampled .ensures) (at-if3 .if3 .left) _ _ _ _
-    (counts-by _ _ _ _ (entry .pre .0) (within-of _ _ (sym (rest-outside _ _ _ _ (entry .pre .0) (entry .pre .1) (at-any-outside .any-outside
-    .ensures)) ∙ at-if2 .if2 .left))
-    (undeleted-is _ _ (entry .pre .0) (at-count-undeleted .count-undeleted .ensures))
-    (rest-needs _ _ _ _ (entry .pre .0) (entry .pre .1) (at-count-needs .count-needs .ensures)) .1) (c .if4 .taken)
+    let a = rest-inside _ _ _ _ (entry .pre .0) (entry .pre .1) (at-any-outside .any-outside .ensures) (at-if2 .if2 .left) in
+    let k = rest-counts _ _ _ _ (entry .pre .0) (entry .pre .1) _ (at-any-outside .any-outside .ensures) (at-if2 .if2 .left) (at-count-needs .count-needs
+    .ensures) in
+    pose-5 _ _ _ _ _ (entry .pre .0) (at-if1 .if1 .left) a _ (at-any-unsampled .any-unsampled .ensures) (at-if3 .if3 .left) _ _ _ k (omega (arith, c .if4 .taken))
 
 add-words : tie.Need-add-words
 add-words c =
-    let at-count-needs = c .before .before .before .before .before .before in
-    let at-count-undeleted = at-count-needs .before in
-    let at-if2 = at-count-undeleted .before .before .before in
+    let at-count-needs = c .before .before .before .before .before .before .before in
+    let at-if2 = at-count-needs .before .before .before in
     let at-any-outside = at-if2 .before in
     let entry = at-any-outside .before .before .before .before .before .before .before .before .before .before in
-    let k = counts-by _ _ _ _ (entry .pre .0) (within-of _ _ (sym (rest-outside _ _ _ _ (entry .pre .0) (entry .pre .1) (at-any-outside .any-outside
-    .ensures)) ∙ at-if2 .if2 .left))
-    (undeleted-is _ _ (entry .pre .0) (at-count-undeleted .count-undeleted .ensures))
-    (rest-needs _ _ _ _ (entry .pre .0) (entry .pre .1) (at-count-needs .count-needs .ensures)) .1 in
+    let k = rest-counts _ _ _ _ (entry .pre .0) (entry .pre .1) _ (at-any-outside .any-outside .ensures) (at-if2 .if2 .left) (at-count-needs .count-needs
+    .ensures) in
     omega arith
 
 cast-words : tie.Need-cast-words
@@ -153,40 +127,34 @@ mul-words c = search needs
 returns-5 : tie.Need-returns-5
 returns-5 c =
     let at-if4 = c .before .before in
-    let at-count-needs = at-if4 .before .before .before .before .before in
-    let at-count-undeleted = at-count-needs .before in
-    let at-if3 = at-count-undeleted .before in
+    let at-count-needs = at-if4 .before .before .before .before .before .before in
+    let at-if3 = at-count-needs .before in
     let at-any-unsampled = at-if3 .before in
     let at-if2 = at-any-unsampled .before in
     let at-any-outside = at-if2 .before in
     let at-if1 = at-any-outside .before .before in
     let entry = at-if1 .before .before .before .before .before .before .before .before in
-    pose-2 _ _ _ _ _ (entry .pre .0) (at-if1 .if1 .left) (sym (rest-outside _ _ _ _ (entry .pre .0) (entry .pre .1) (at-any-outside .any-outside
-    .ensures)) ∙ at-if2 .if2 .left) _
-    (at-any-unsampled .any-unsampled .ensures) (at-if3 .if3 .left) _ _ _ _
-    (counts-by _ _ _ _ (entry .pre .0) (within-of _ _ (sym (rest-outside _ _ _ _ (entry .pre .0) (entry .pre .1) (at-any-outside .any-outside
-    .ensures)) ∙ at-if2 .if2 .left))
-    (undeleted-is _ _ (entry .pre .0) (at-count-undeleted .count-undeleted .ensures))
-    (rest-needs _ _ _ _ (entry .pre .0) (entry .pre .1) (at-count-needs .count-needs .ensures)) .1) (at-if4 .if4 .left) (c .if5 .taken)
+    let a = rest-inside _ _ _ _ (entry .pre .0) (entry .pre .1) (at-any-outside .any-outside .ensures) (at-if2 .if2 .left) in
+    let k = rest-counts _ _ _ _ (entry .pre .0) (entry .pre .1) _ (at-any-outside .any-outside .ensures) (at-if2 .if2 .left) (at-count-needs .count-needs
+    .ensures) in
+    pose-2 _ _ _ _ _ (entry .pre .0) (at-if1 .if1 .left) a _ (at-any-unsampled .any-unsampled .ensures) (at-if3 .if3 .left) _ _ _ k (omega (arith, at-if4 .if4 .left)) (c .if5
+    .taken)
 
 returns-6 : tie.Need-returns-6
 returns-6 c =
     let at-if4 = c .before .before in
-    let at-count-needs = at-if4 .before .before .before .before .before in
-    let at-count-undeleted = at-count-needs .before in
-    let at-if3 = at-count-undeleted .before in
+    let at-count-needs = at-if4 .before .before .before .before .before .before in
+    let at-if3 = at-count-needs .before in
     let at-any-unsampled = at-if3 .before in
     let at-if2 = at-any-unsampled .before in
     let at-any-outside = at-if2 .before in
     let at-if1 = at-any-outside .before .before in
     let entry = at-if1 .before .before .before .before .before .before .before .before in
-    pose-0 _ _ _ _ _ (entry .pre .0) (at-if1 .if1 .left) (sym (rest-outside _ _ _ _ (entry .pre .0) (entry .pre .1) (at-any-outside .any-outside
-    .ensures)) ∙ at-if2 .if2 .left) _
-    (at-any-unsampled .any-unsampled .ensures) (at-if3 .if3 .left) _ _ _ _
-    (counts-by _ _ _ _ (entry .pre .0) (within-of _ _ (sym (rest-outside _ _ _ _ (entry .pre .0) (entry .pre .1) (at-any-outside .any-outside
-    .ensures)) ∙ at-if2 .if2 .left))
-    (undeleted-is _ _ (entry .pre .0) (at-count-undeleted .count-undeleted .ensures))
-    (rest-needs _ _ _ _ (entry .pre .0) (entry .pre .1) (at-count-needs .count-needs .ensures)) .1) (at-if4 .if4 .left) (c .if5 .left)
+    let a = rest-inside _ _ _ _ (entry .pre .0) (entry .pre .1) (at-any-outside .any-outside .ensures) (at-if2 .if2 .left) in
+    let k = rest-counts _ _ _ _ (entry .pre .0) (entry .pre .1) _ (at-any-outside .any-outside .ensures) (at-if2 .if2 .left) (at-count-needs .count-needs
+    .ensures) in
+    pose-0 _ _ _ _ _ (entry .pre .0) (at-if1 .if1 .left) a _ (at-any-unsampled .any-unsampled .ensures) (at-if3 .if3 .left) _ _ _ k (omega (arith, at-if4 .if4 .left)) (c .if5
+    .left)
 
 pub pose-refusal-spec : {M : Type 1} → statement M
 pose-refusal-spec =
@@ -201,7 +169,6 @@ pose-refusal-spec =
     returns-2
     any-unsampled-requires
     returns-3
-    count-undeleted-requires
     count-needs-requires
     sub-users
     add-users

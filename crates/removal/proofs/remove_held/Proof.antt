@@ -15,7 +15,7 @@ remove-requires c κs = search needs
 put-note-requires : tie.Need-put-note-requires
 put-note-requires c κs =
     let entry = c .before .before .before .before .before .before .before .before .before .before .before .before .before in
-    (remove-room _ _ _ _ _ _ _ _ (entry .pre), omega arith)
+    (remove-room _ _ _ _ _ _ _ _ _ (entry .pre), omega arith)
 
 delete-global-if-unused-requires : tie.Need-delete-global-if-unused-requires
 delete-global-if-unused-requires c κs =

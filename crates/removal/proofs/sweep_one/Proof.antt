@@ -33,7 +33,7 @@ slice-read-learnt-record : tie.Need-slice-read-learnt-record
 slice-read-learnt-record c =
     let entry = c .before .before .before .before .before .before .before .before .before .before .before .before .before in
     ((entry .pre .sweepable) _ (global-word _ _ (sym (c .before .before .before .global .given .1)
-    ∙ (c .before .before .before .before .before .holder .ensures)))) .live .words
+    ∙ (c .before .before .before .before .before .holder .ensures)))) .held .live .words
 
 cast-learnt-record : tie.Need-cast-learnt-record
 cast-learnt-record c = search needs
@@ -50,7 +50,7 @@ shared-slice-read-learnt-record c =
 learnt-record-requires : tie.Need-learnt-record-requires
 learnt-record-requires c κs =
     let entry = c .before .before .before .before .before .before .before .before .before .before .before .before .before .before .before in
-    learn-asks _ _ _ _ _ _ _
+    learn-asks _ _ _ _ _ _ _ _
     ((entry .pre .sweepable) _ (global-word _ _ (sym (c .before .before .before .before .before .global .given .1)
     ∙ (c .before .before .before .before .before .before .before .holder .ensures))))
 
@@ -61,7 +61,7 @@ slice-write-records : tie.Need-slice-write-records
 slice-write-records c =
     let entry = c .before .before .before .before .before .before .before .before .before .before .before .before .before .before .before .before in
     ((entry .pre .sweepable) _ (global-word _ _ (sym (c .before .before .before .before .before .before .global .given .1)
-    ∙ (c .before .before .before .before .before .before .before .before .holder .ensures)))) .live .words
+    ∙ (c .before .before .before .before .before .before .before .before .holder .ensures)))) .held .live .words
 
 is-loose-requires : tie.Need-is-loose-requires
 is-loose-requires c κs = search needs
@@ -85,7 +85,7 @@ remove-held-requires c κs =
     let at-global = c .before .before .before .before .before .before .before .before .before .before .before .before in
     let at-holder = at-global .before .before in
     let entry = at-holder .before .before .before .before .before .before .before .before in
-    one-asks _ _ _ _ _ _ _ (sym (at-global .global .given .1) ∙ (at-holder .holder .ensures))
+    one-asks _ _ _ _ _ _ _ _ (sym (at-global .global .given .1) ∙ (at-holder .holder .ensures))
     ((entry .pre .sweepable) _ (global-word _ _ (sym (at-global .global .given .1) ∙ (at-holder .holder .ensures)))) _
     (c .before .before .before .before .before .before .learnt-record .ensures)
     (sym (c .before .before .before .before .before .is-loose .ensures) ∙ not-false _ (c .before .before .before .before .if1 .left)) _ _

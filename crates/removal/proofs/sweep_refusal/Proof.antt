@@ -20,7 +20,7 @@ count-notes-requires : tie.Need-count-notes-requires
 count-notes-requires c κs =
     let p = sound-of _ (sym (c .before .is-sound .ensures) ∙ not-false _ (c .if1 .left)) in
     let z = p .sizes in
-    (omega arith, λ g s e. readable _ _ _ _ _ _ _ (holding-of _ p s g e))
+    (omega arith, λ g s e. readable _ _ _ _ _ _ _ _ (holding-of _ p s g e))
 
 cast-n : tie.Need-cast-n
 cast-n c = search needs

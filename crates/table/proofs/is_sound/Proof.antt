@@ -58,15 +58,29 @@ rows-ok-requires c κs =
     let t = tails-is _ (yes-of (c .before .before .before .before .before .tails-ok .ensures) (c .before .before .before .before .if3 .left)) in
     (omega arith, (omega arith, (omega arith, (t .records, (t .ug, t .sg)))))
 
+stored-ok-requires : tie.Need-stored-ok-requires
+stored-ok-requires c κs =
+    let tails = c .before .before .before .before .before .before in
+    let marks = c .before .before .before .before .before .before .before .before in
+    let sizes = c .before .before .before .before .before .before .before .before .before .before in
+    let s = sizes-of _ (yes-of (sizes .sizes-ok .ensures) (c .before .before .before .before .before .before .before .before .before .if1 .left))
+    (yes-of (marks .marks-ok .ensures) (c .before .before .before .before .before .before .before .if2 .left)) in
+    let t = tails-is _ (yes-of (tails .tails-ok .ensures) (c .before .before .before .before .before .if3 .left)) in
+    (omega arith, (omega arith, t .records))
+
 returns-5 : tie.Need-returns-5
 returns-5 c =
-    let at-sizes-ok = c .before .before .before .before .before .before .before .before .before .before in
-    sound-is _ _ _ (yes-of (at-sizes-ok .sizes-ok .ensures) (c .before .before .before .before .before .before .before .before .before .if1 .left))
-    (yes-of (c .before .before .before .before .before .before .before .before .marks-ok .ensures)
-    (c .before .before .before .before .before .before .before .if2 .left))
-    (yes-of (c .before .before .before .before .before .before .tails-ok .ensures) (c .before .before .before .before .before .if3 .left))
-    (yes-of (pairs-is _ _ _ (c .before .before .before .before .pair-ok .ensures) (c .before .before .before .pair-ok2 .ensures))
-    (c .before .before .if4 .left)) (c .before .at-most .ensures) (c .rows-ok .ensures)
+    let at-pairs = c .before .before .before .before .before in
+    let at-tails = c .before .before .before .before .before .before .before in
+    let at-marks = c .before .before .before .before .before .before .before .before .before in
+    let at-sizes = c .before .before .before .before .before .before .before .before .before .before .before in
+    let sizes = yes-of (at-sizes .sizes-ok .ensures) (c .before .before .before .before .before .before .before .before .before .before .if1 .left) in
+    let marks = yes-of (at-marks .marks-ok .ensures) (c .before .before .before .before .before .before .before .before .if2 .left) in
+    let s = sizes-of _ sizes marks in
+    sound-is _ _ _ _ sizes marks (yes-of (at-tails .tails-ok .ensures) (c .before .before .before .before .before .before .if3 .left))
+    (yes-of (pairs-is _ _ _ (at-pairs .pair-ok .ensures) (c .before .before .before .before .pair-ok2 .ensures))
+    (c .before .before .before .if4 .left)) (c .before .before .at-most .ensures) (c .before .rows-ok .ensures)
+    (c .stored-ok .ensures) (s .records)
 
 pub is-sound-spec : {M : Type 1} → statement M
 is-sound-spec =
@@ -83,4 +97,5 @@ is-sound-spec =
     returns-4
     at-most-requires
     rows-ok-requires
+    stored-ok-requires
     returns-5)

@@ -22,7 +22,8 @@ slice-aggregate-step-len c = search needs
 step-len-requires : tie.Need-step-len-requires
 step-len-requires c κs =
     let entry = c .before .before .before .before in
-    let e = pair-named (entry .args .gs .now) (entry .args .x) (entry .args .m) _ _ (c .before .before .rename-lit .ensures) (c .before .rename-lit2 .ensures) in
+    let e = pair-named (entry .args .gs .now) (entry .args .x) (entry .args .m) _ _ (c .before .before .rename-lit .ensures)
+    (c .before .rename-lit2 .ensures) in
     (pair-codes (entry .args .gs .now) (entry .args .x) (entry .args .m) _ (entry .pre) e, omega arith)
 
 returns : tie.Need-returns

@@ -24,7 +24,8 @@ binary-token-requires c κs = search needs
 returns : tie.Need-returns
 returns c =
     let a = c .before .before .before .before .args in
-    c .line-at .ensures ∙ sym (text-line (a .at) (drop (a .at) (a .s .now))) ∙ sym (ap (λ (f : Format). token f (a .at) (drop (a .at) (a .s .now))) (c .before .enum-told .given .1))
+    c .line-at .ensures ∙ sym (text-line (a .at) (drop (a .at) (a .s .now)))
+    ∙ sym (ap (λ (f : Format). token f (a .at) (drop (a .at) (a .s .now))) (c .before .enum-told .given .1))
 
 returns-2 : tie.Need-returns-2
 returns-2 c =

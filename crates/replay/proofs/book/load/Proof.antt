@@ -5,11 +5,11 @@ use Rattle.replay.proofs.book.load.Tie as tie
 
 abbrev Inv-loop : tie.InvT-loop
 Inv-loop book₀ line i₀ book i =
-    i ≤ 10
+    i ≤ 12
 
 abbrev μ-loop : tie.MeasureT-loop
 μ-loop book₀ line i₀ book i =
-    10 - i
+    12 - i
 
 loop-holds : tie.Need-loop-holds Inv-loop μ-loop
 loop-holds c = search needs

@@ -1,8 +1,9 @@
 use Rattle.table.specs.Checks.{isFilled}
-use Rattle.table.proofs.CheckLaws.{filled-start, filled-step, filled-end}
+use Rattle.table.proofs.CheckLaws.{tally-step, filled-end}
 use Rattle.base.specs.Bounded.{count}
+use Rattle.base.proofs.CountLaws.{count-none}
 use native.Mathlib.Omega.{arith}
-use mathlib.Core.Path.{_≡_}
+use mathlib.Core.Path.{_≡_, sym}
 use Prim.Native.Nat.{_-_, _≤_}
 use borrow.Author.Needs.{needs}
 use Rattle.table.proofs.checks.filled.Statement.{statement}
@@ -15,7 +16,7 @@ abbrev μ-loop : tie.MeasureT-loop
 μ-loop xs mark n k₀ i₀ k i = n - i
 
 loop-holds : tie.Need-loop-holds Inv-loop μ-loop
-loop-holds c = (search needs, search needs, filled-start (c .before .args .xs .now))
+loop-holds c = (search needs, search needs, sym (count-none _))
 
 mul-one-if : tie.Need-mul-one-if Inv-loop μ-loop
 mul-one-if c = search needs
@@ -40,7 +41,7 @@ loop-again c =
     let o = c .one-if .ensures .1 in (
       omega arith,
       omega arith,
-      filled-step (c .before .before .before .before .before .args .xs .now) _ _ _ (c .before .before .before .loop .inv .2)
+      tally-step _ _ _ _ (c .before .before .before .loop .inv .2)
           (c .one-if .ensures .0),
     )
 

@@ -1,10 +1,10 @@
 use Prim.Native.Nat.{_-_}
 use borrow.Author.Tests.{ne-eqb}
-use Rattle.changes.specs.Cursor.{AllMapped}
-use Rattle.changes.proofs.CursorLaws.{cursor-more, free-found, free-end}
+use Rattle.scope.specs.Cursor.{AllMapped}
+use Rattle.scope.proofs.CursorLaws.{cursor-more, free-found, free-end}
 use borrow.Author.Needs.{needs}
-use Rattle.changes.proofs.least_free.Statement.{statement}
-use Rattle.changes.proofs.least_free.Tie as tie
+use Rattle.scope.proofs.least_free.Statement.{statement}
+use Rattle.scope.proofs.least_free.Tie as tie
 
 abbrev Inv-loop : tie.InvT-loop
 Inv-loop xs mark from i₀ i = AllMapped xs mark i

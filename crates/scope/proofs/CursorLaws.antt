@@ -10,8 +10,8 @@ use lib.ListN.{getD}
 use borrow.Author.Tests.{eq-eqb}
 use Rattle.base.specs.Bounded.{least}
 use Rattle.base.proofs.LeastLaws.{least-is, least-has}
 use Rattle.scope.specs.Table.{leastFree}
-use Rattle.changes.specs.Cursor.{NoneFree, AllMapped}
+use Rattle.scope.specs.Cursor.{NoneFree, AllMapped}
 use Rattle.base.proofs.Truth.{same}
 
 -- a search starts at 0
@@ -36,13 +36,11 @@ cursor-found free mark from h e = sym (least-is mark free from (h .within) (h .b
 pub cursor-end : (free : ℕ → Bool) (mark from : ℕ) → NoneFree free mark from → mark ≤ from → from ≡ least mark free
 cursor-end free mark from h l = sym (least-is mark free from (h .within) (h .below) (λ k. absurd (omega arith)))
 
--- the cursor goes to what was found, where nothing below it became free
-pub cursor-least : (free free′ : ℕ → Bool) (mark mark′ s : ℕ) → s ≡ least mark free → mark ≤ mark′ → ((k : ℕ) → k < s → free k ≡ false → free′ k ≡ false)
-    → NoneFree free′ mark′ s
-cursor-least free free′ mark mark′ s e m h =
-    let w = least-has mark free in
-    record { within = omega (arith, w .within); below = λ k l. h k l (w .before k (omega arith)) }
+-- the cursor goes to what was found
+pub cursor-least : (free : ℕ → Bool) (mark s : ℕ) → s ≡ least mark free → NoneFree free mark s
+cursor-least free mark s e = let w = least-has mark free in record { within = omega (arith, w .within); below = λ k l. w .before k (omega arith) }
 
+-- and stays where nothing below it became free
 pub cursor-kept : (free free′ : ℕ → Bool) (mark mark′ s : ℕ) → NoneFree free mark s → mark ≤ mark′ → ((k : ℕ) → k < s → free k ≡ false → free′ k ≡ false)
     → NoneFree free′ mark′ s
 cursor-kept free free′ mark mark′ s p m h = record { within = omega (arith, p .within); below = λ k l. h k l (p .below k l) }
@@ -55,3 +53,7 @@ free-found xs mark i h z = cursor-found (λ k. eqb (getD xs k 0) 0) mark i h (eq
 pub free-end : (xs : List ℕ) (mark i : ℕ) → AllMapped xs mark i → mark ≤ i → i ≡ leastFree xs mark
 unfolding leastFree
 free-end xs mark i h l = cursor-end (λ k. eqb (getD xs k 0) 0) mark i h l
+
+pub free-mapped : (xs : List ℕ) (mark s : ℕ) → s ≡ leastFree xs mark → AllMapped xs mark s
+unfolding leastFree
+free-mapped xs mark s e = cursor-least (λ k. eqb (getD xs k 0) 0) mark s e
