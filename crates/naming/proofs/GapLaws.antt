@@ -10,7 +10,7 @@ use lib.Seq.{sets, length-sets}
 use Rattle.base.proofs.Truth.{split}
 use Rattle.scope.specs.declared.Counts.{Counts}
 use Rattle.scope.specs.declared.Global.{Global}
-use Rattle.scope.specs.Table.{Table, tableOf, mapCounts, giveUser}
+use Rattle.scope.specs.Table.{Table, tableOf, mapCounts, giveUser, coverUser, withUsed}
 use Rattle.scope.specs.Sound.{soundb}
 use Rattle.scope.specs.Notes.{notesWords}
 use Rattle.scope.specs.Outcome.{Result, stay, _then_, each}
@@ -20,12 +20,12 @@ use Rattle.scope.proofs.ResultLaws.{each-suc}
 use Rattle.scope.proofs.MapLaws.{Mappable, map-one-fresh, gapStep, Filled, GapRoom, fill-gap-filled, to-map-free, map-user-free, map-user-has, fill-gap-count}
 use Rattle.scope.specs.Cursor.{NoneFree}
 use Rattle.changes.specs.Leaves.{Leaves}
-use Rattle.changes.specs.Solvers.{Solvers, tableWith, solversOf}
 use Rattle.scope.proofs.CursorLaws.{cursor-start}
 use Rattle.changes.proofs.LeavesLaws.{leaves-stay, leaves-giving, leaves-then, leaves-length, SameSizes, same-sizes}
 use Rattle.changes.proofs.TurnLaws.{turns-more}
 use Rattle.naming.specs.Parts.{free, freeFor}
-use Rattle.naming.specs.Asks.{MapAsks, UpAsks, UpLeaves}
+use Rattle.naming.specs.declared.Mapped.{Mapped}
+use Rattle.naming.specs.Asks.{MapAsks, Rest, restOf, countsWith, countsAfter, tableBeside, UpAsks, UpLeaves}
 use Rattle.naming.proofs.FreeLaws.{taken-passed}
 
 -- The users from the watermark up to i are mapped, where i is at most u or the watermark.
@@ -34,10 +34,11 @@ pub record Gap (t : Table) (u at i next : ℕ) (s : Table) (words words' : List 
   pub high : i ≤ max (t .counts .user) u
   pub done : Leaves (fillGap (i - t .counts .user) t) at next s words words'
 
--- the same with any solver maps
-pub record GapWith (c : Counts) (gu ug records : List ℕ) (u at i next : ℕ) (c' : Counts) (gu' ug' records' words words' : List ℕ) : Type 0 where
-  pub with : (x : Solvers) → MapAsks (tableWith c gu ug records x) u at (length words)
-      → Gap (tableWith c gu ug records x) u at i next (tableWith c' gu' ug' records' x) words words'
+-- the same with any rest of the table
+pub record GapWith (capacity users globals used : ℕ) (gu ug records : List ℕ) (u at i next users' globals' used' : ℕ)
+    (gu' ug' records' words words' : List ℕ) : Type 0 where
+  pub with : (x : Rest) → MapAsks (tableBeside capacity users globals used gu ug records x) u at (length words)
+      → Gap (tableBeside capacity users globals used gu ug records x) u at i next (tableBeside capacity users' globals' used' gu' ug' records' x) words words'
 
 pub gap-start : (t : Table) (u at : ℕ) (words : List ℕ) → Gap t u at (t .counts .user) at t words words
 unfolding fillGap each
@@ -184,6 +185,12 @@ OneLeft s u at c global from next gu ug rc notes noted =
     × ((rc ≡ set (s .records) g 9)
     × (noted ≡ sets notes at (0 ∷ g ∷ (u + 1) ∷ []))))))))
 
+-- the counts that `map_one` makes with 0 for those that it was not lent, with any others
+pub one-counts : (capacity users globals used u g n : ℕ) (d : Counts)
+    → d ≡ withUsed (used + n) (coverUser (record { capacity = capacity; user = users; global = globals; solver = 0; used = used; next = 0 }) u g)
+    → (x : Rest) → countsWith capacity (d .user) (d .global) (d .used) x ≡ withUsed (used + n) (coverUser (countsWith capacity users globals used x) u g)
+one-counts capacity users globals used u g n d e x = λ i. countsWith capacity (e i .user) (e i .global) (e i .used) x
+
 one-leaves : (s : Table) (u at : ℕ) (c : Counts) (g : Global) (from next : ℕ) (gu ug rc notes noted : List ℕ)
     → OneLeft s u at c g from next gu ug rc notes noted
     → (g .0 ≡ mapOne u s .value) × Leaves (mapOne u s) at next (tableOf c gu ug (s .solverFromGlobal) (s .globalFromSolver) (s .assignment) rc) notes noted
@@ -280,11 +287,14 @@ module _ (t : Table) (u at i next : ℕ) (s : Table) (words words' : List ℕ) (
 
 -- ---- on a whole table
 
-pub up-asks : (t : Table) (u at room : ℕ) → MapAsks t u at room → UpAsks (t .counts) (t .globalFromUser) (t .userFromGlobal) (t .records) u at room
-up-asks t u at room h = record { solvers = solversOf t; asks = h }
+pub up-asks : (t : Table) (u at room : ℕ) → MapAsks t u at room
+    → UpAsks (t .counts .capacity) (t .counts .user) (t .counts .global) (t .counts .used) (t .globalFromUser) (t .userFromGlobal) (t .records) u at room
+up-asks t u at room h = record { rest = restOf t; asks = h }
 
-pub up-leaves : (t : Table) (u at g next : ℕ) (c' : Counts) (gu' ug' records' words words' : List ℕ) → MapAsks t u at (length words)
-    → UpLeaves (t .counts) (t .globalFromUser) (t .userFromGlobal) (t .records) u at g next c' gu' ug' records' words words'
-    → (g ≡ mapUser u t .value) × Leaves (mapUser u t) at next (tableOf c' gu' ug' (t .solverFromGlobal) (t .globalFromSolver) (t .assignment) records') words
-    words'
-up-leaves t u at g next c' gu' ug' records' words words' h l = l .with (solversOf t) h
+pub up-leaves : (t : Table) (u at : ℕ) (m : Mapped) (c' : Counts) (gu' ug' records' words words' : List ℕ) → MapAsks t u at (length words)
+    → UpLeaves (t .counts .capacity) (t .counts .user) (t .counts .global) (t .counts .used) (t .globalFromUser) (t .userFromGlobal) (t .records) u at
+    m gu' ug' records' words words'
+    → c' ≡ countsAfter (t .counts) m
+    → (m .global .0 ≡ mapUser u t .value)
+    × Leaves (mapUser u t) at (m .at) (tableOf c' gu' ug' (t .solverFromGlobal) (t .globalFromSolver) (t .assignment) records') words words'
+up-leaves t u at m c' gu' ug' records' words words' h l e = rw e (l .with (restOf t) h)

@@ -20,7 +20,7 @@ ghost use Rattle.scope.specs.Map.{mapRefusal, mapOf, newUserRefusal, newUserOf}
 ghost use Rattle.scope.specs.Cursor.{NoneFree};
 ghost use Rattle.naming.specs.Answers.{userMapped, newUserMapped};
 ghost use Rattle.naming.specs.Parts.{free, freeFor, isUnsampled, MapBelow};
-ghost use Rattle.naming.specs.Asks.{UpAsks, UpLeaves};
+ghost use Rattle.naming.specs.Asks.{Rest, countsWith, countsAfter, UpAsks, UpLeaves};
 
 // A global and the cursor of free globals after its search.
 pub struct Taken {
@@ -28,9 +28,12 @@ pub struct Taken {
     pub from: u32,
 }
 
-// A user's global, with the counts, the cursor of free globals and the place in the notes after it.
+// A user's global, with what a mapping changes besides: the watermarks of users and of globals, how many globals are undeleted, the cursor
+// of free globals and the place in the notes.
 pub struct Mapped {
-    pub counts: Counts,
+    pub users: u32,
+    pub globals: u32,
+    pub used: u32,
     pub global: Global,
     pub from: u32,
     pub at: usize,
@@ -88,7 +91,10 @@ fn global_for(records: &[u32], mark: u32, user: User, from: u32) -> Taken
 
 // One unmapped user, whose gap below is closed, gets a global. Its record becomes 9; note U.
 fn map_one(
-    c: Counts,
+    capacity: u32,
+    users: u32,
+    globals: u32,
+    used: u32,
     gu: &mut [u32],
     ug: &mut [u32],
     records: &mut [u32],
@@ -97,43 +103,58 @@ fn map_one(
     at: usize,
     notes: &mut [u32],
 ) -> Mapped
-    requires { ⌜ c .global ≤ length (now records) ⌝ }
-    requires { ⌜ NoneFree (free (now records)) (c .global) from ⌝ }
+    requires { ⌜ globals ≤ length (now records) ⌝ }
+    requires { ⌜ NoneFree (free (now records)) globals from ⌝ }
     requires { ⌜ user .0 < length (now gu) ⌝ }
     requires { ⌜ user .0 < length (now records) ⌝ }
-    requires { ⌜ user .0 < c .capacity ⌝ }
-    requires { ⌜ c .used + 1 < 2 ^ 32 ⌝ }
-    requires { let g = freeFor (now records) (c .global) (user .0) in
-        ⌜ g < length (now ug) ⌝ ∗ ⌜ g < length (now records) ⌝ ∗ ⌜ g < c .capacity ⌝ }
+    requires { ⌜ user .0 < capacity ⌝ }
+    requires { ⌜ used + 1 < 2 ^ 32 ⌝ }
+    requires { let g = freeFor (now records) globals (user .0) in
+        ⌜ g < length (now ug) ⌝ ∗ ⌜ g < length (now records) ⌝ ∗ ⌜ g < capacity ⌝ }
     requires { ⌜ at + 3 ≤ length (now notes) ⌝ }
-    ensures { λ r. let g = freeFor (old records) (c .global) (user .0) in
+    ensures { λ r. let g = freeFor (old records) globals (user .0) in
         ⌜ r .global .0 ≡ g ⌝
-        ∗ ⌜ r .counts ≡ mapCounts c (user .0) g (getD (old records) g 47) ⌝
-        ∗ ⌜ NoneFree (free (old records)) (c .global) (r .from) ⌝
+        ∗ ⌜ ((x : Rest) → countsWith capacity (r .users) (r .globals) (r .used) x
+        ≡ mapCounts (countsWith capacity users globals used x) (user .0) g (getD (old records) g 47)) ⌝
+        ∗ ⌜ NoneFree (free (old records)) globals (r .from) ⌝
         ∗ ⌜ r .at ≡ at + 3 ⌝ }
-    ensures { λ _. let g = freeFor (old records) (c .global) (user .0) in
+    ensures { λ _. let g = freeFor (old records) globals (user .0) in
         ⌜ new gu ≡ set (old gu) (user .0) (g + 1) ⌝
         ∗ ⌜ new ug ≡ set (old ug) g (user .0 + 1) ⌝
         ∗ ⌜ new records ≡ set (old records) g 9 ⌝
         ∗ ⌜ Fills notes at (0 ∷ g ∷ (user .0 + 1) ∷ []) ⌝ }
 {
-    let t = global_for(records, c.global, user, from);
+    let t = global_for(records, globals, user, from);
     let global = t.global;
     let past = at + 3;
     put_note(notes, at, Note::UserGranted(global, user));
+    let c = Counts {
+        capacity,
+        user: users,
+        global: globals,
+        solver: 0,
+        used,
+        next: 0,
+    };
     let counts = c.map(gu, ug, records, user, global, 9);
     Mapped {
-        counts,
+        users: counts.user,
+        globals: counts.global,
+        used: counts.used,
         global,
         from: t.from,
         at: past,
     }
 }
 
-// The global of a user of a sound table: the one it has, else, after the gap below it, a free one, searched from the cursor on. The counts
-// go through each turn by value and come back new. The solver maps and the assignment are not lent and may be any.
+// The global of a user of a sound table: the one it has, else, after the gap below it, a free one, searched from the cursor on. What it
+// changes of the counts goes through each turn by value and comes back new, as plain numbers, which fit in registers. The solver maps, their
+// two counts and the assignment are not lent and may be any.
 pub fn map_up(
-    c: Counts,
+    capacity: u32,
+    users: u32,
+    globals: u32,
+    used: u32,
     gu: &mut [u32],
     ug: &mut [u32],
     records: &mut [u32],
@@ -142,33 +163,50 @@ pub fn map_up(
     at: usize,
     notes: &mut [u32],
 ) -> Mapped
-    requires { ⌜ UpAsks c (now gu) (now ug) (now records) (user .0) at (length (now notes)) ⌝ }
-    requires { ⌜ NoneFree (free (now records)) (c .global) from ⌝ }
-    ensures { λ r. ⌜ UpLeaves c (old gu) (old ug) (old records) (user .0) at (r .global .0) (r .at)
-        (r .counts) (new gu) (new ug) (new records) (old notes) (new notes) ⌝ }
-    ensures { λ r. ⌜ NoneFree (free (new records)) (r .counts .global) (r .from) ⌝ }
+    requires { ⌜ UpAsks capacity users globals used (now gu) (now ug) (now records) (user .0) at (length (now notes)) ⌝ }
+    requires { ⌜ NoneFree (free (now records)) globals from ⌝ }
+    ensures { λ r. ⌜ UpLeaves capacity users globals used (old gu) (old ug) (old records) (user .0) at
+        r (new gu) (new ug) (new records) (old notes) (new notes) ⌝ }
+    ensures { λ r. ⌜ NoneFree (free (new records)) (r .globals) (r .from) ⌝ }
 {
-    let mut cur = c;
+    let mut a = users;
+    let mut b = globals;
+    let mut n = used;
     let mut k = from;
-    let mut next = at;
-    let mut i = c.user;
+    let mut past = at;
+    let mut i = users;
     while i < user.0 {
         let v = User(i);
-        let m = map_up(cur, gu, ug, records, v, k, next, notes);
-        cur = m.counts;
+        let m = map_up(capacity, a, b, n, gu, ug, records, v, k, past, notes);
+        a = m.users;
+        b = m.globals;
+        n = m.used;
         k = m.from;
-        next = m.at;
+        past = m.at;
         i += 1;
     }
     let FoundGlobal::At(global) = global_of(gu, user) else {
-        return map_one(cur, gu, ug, records, user, k, next, notes);
+        return map_one(capacity, a, b, n, gu, ug, records, user, k, past, notes);
     };
     Mapped {
-        counts: cur,
+        users: a,
+        globals: b,
+        used: n,
         global,
         from: k,
-        at: next,
+        at: past,
     }
+}
+
+// The counts after a mapping.
+pub fn counts_after(c: Counts, m: Mapped) -> Counts
+    ensures { λ r. ⌜ r ≡ countsAfter c m ⌝ }
+{
+    let mut counts = c;
+    counts.user = m.users;
+    counts.global = m.globals;
+    counts.used = m.used;
+    counts
 }
 
 // The user has a global, and that is not Sample.
@@ -270,9 +308,21 @@ pub fn global_from_user(
     if n != 0 {
         return UserMapped::Refused(n);
     }
-    let m = map_up(c, gu, ug, records, user, 0, 0, notes);
+    let m = map_up(
+        c.capacity,
+        c.user,
+        c.global,
+        c.used,
+        gu,
+        ug,
+        records,
+        user,
+        0,
+        0,
+        notes,
+    );
     let global = m.global;
-    let counts = m.counts;
+    let counts = counts_after(c, m);
     UserMapped::Done(global, counts, (m.at / 3) as u32)
 }
 
@@ -321,8 +371,20 @@ pub fn new_user_var(
         return NewUser::Refused(n);
     }
     let user = User(least_free(gu, c.user, 0));
-    let m = map_up(c, gu, ug, records, user, 0, 0, notes);
+    let m = map_up(
+        c.capacity,
+        c.user,
+        c.global,
+        c.used,
+        gu,
+        ug,
+        records,
+        user,
+        0,
+        0,
+        notes,
+    );
     let global = m.global;
-    let counts = m.counts;
+    let counts = counts_after(c, m);
     NewUser::Done(user, global, counts, (m.at / 3) as u32)
 }

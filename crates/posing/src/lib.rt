@@ -2,6 +2,7 @@
 use changes::Passed;
 use distinct::count_needs;
 use granting::grant_index;
+use naming::counts_after;
 use naming::is_unsampled;
 use naming::map_up;
 use scope::Counts;
@@ -83,8 +84,20 @@ fn place_new(
         (after (r .counts) gu ug sg gs assignment records) (old notes) (new notes) ⌝ }
     ensures { λ r. ⌜ NoneFree (free (new records)) (r .counts .global) (r .from) ⌝ }
 {
-    let m = map_up(c, gu, ug, records, user, from, at, notes);
-    let counts = m.counts;
+    let m = map_up(
+        c.capacity,
+        c.user,
+        c.global,
+        c.used,
+        gu,
+        ug,
+        records,
+        user,
+        from,
+        at,
+        notes,
+    );
+    let counts = counts_after(c, m);
     let global = m.global;
     let h = grant_index(counts, sg, gs, assignment, records, global, m.at, notes);
     let counts = h.counts;

@@ -18,7 +18,7 @@ use Rattle.naming.proofs.+map_up.{statement}
 use Rattle.naming.proofs.+map_up.Tie.{close}
 
 abbrev μ-map-up : Measures 4 map-up-kinds.ps ℕ
-μ-map-up κs a = a .1 .1 .1 .1 .0 .0
+μ-map-up κs a = a .1 .1 .1 .1 .1 .1 .1 .0 .0
 
 abbrev map-up-at : ℕ → In 4 map-up-kinds.ps
 map-up-at t = and 4 map-up-kinds.ps (is 4 map-up-kinds.ps μ-map-up t) map-up.Pre
@@ -27,12 +27,12 @@ abbrev map-up-below : ℕ → In 4 map-up-kinds.ps
 map-up-below t = and 4 map-up-kinds.ps (falls 4 map-up-kinds.ps _<_ μ-map-up t) map-up.Pre
 
 abbrev map-up-Inv-loop : map-up-lts.InvT-loop
-map-up-Inv-loop gu₀ ug₀ records₀ user from at notes₀ cur₀ k₀ next₀ i₀ gu ug records notes cur k next i =
-    GapWith cur₀ gu₀ ug₀ records₀ (user .0) at i next cur gu ug records notes₀ notes
-    × NoneFree (free records) (cur .global) k
+map-up-Inv-loop capacity users globals used gu₀ ug₀ records₀ user from at notes₀ a₀ b₀ n₀ k₀ past₀ i₀ gu ug records notes a b n k past i =
+    GapWith capacity users globals used gu₀ ug₀ records₀ (user .0) at i past a b n gu ug records notes₀ notes
+    × NoneFree (free records) b k
 
 abbrev map-up-μ-loop : map-up-lts.MeasureT-loop
-map-up-μ-loop gu₀ ug₀ records₀ user from at notes₀ cur₀ k₀ next₀ i₀ gu ug records notes cur k next i =
+map-up-μ-loop capacity users globals used gu₀ ug₀ records₀ user from at notes₀ a₀ b₀ n₀ k₀ past₀ i₀ gu ug records notes a b n k past i =
     user .0 - i
 
 map-up-loop-holds : (t : ℕ) → map-up-lts.Need-loop-holds (
@@ -59,7 +59,7 @@ map-up-map-up-requires t c κs =
           omega arith,
       (
         record {
-          solvers = entry .pre .1 .0 .solvers;
+          rest = entry .pre .1 .0 .rest;
           asks =
               gap-asks _ _ _ _ _ _ _ _ (entry .pre .1 .0 .asks)
               (c .before .before .before .before .before .before .loop .inv .0 .with _ (entry .pre .1 .0 .asks))
@@ -78,7 +78,7 @@ map-up-add-i : (t : ℕ) → map-up-lts.Need-add-i (
   map-one-reads.Learnt,
 ) (map-up-at t) map-up.Post map-up-Inv-loop map-up-μ-loop
 map-up-add-i t c =
-    let at-if1 = c .before .before .before .before .before .before .before .before .before .before .before .before .before .before in
+    let at-if1 = c .before .before .before .before .before .before .before .before .before .before .before .before .before in
     let entry = at-if1 .before .before .before .before .before .before .before in
     let l = at-if1 .if1 .taken in let w = user-small _ _ (entry .pre .1 .0 .asks .sound) (entry .pre .1 .0 .asks .within) in omega arith
 
@@ -91,7 +91,7 @@ map-up-loop-less : (t : ℕ) → map-up-lts.Need-loop-less (
   map-one-reads.Learnt,
 ) (map-up-at t) map-up.Post map-up-Inv-loop map-up-μ-loop
 map-up-loop-less t c =
-    let at-if1 = c .before .before .before .before .before .before .before .before .before .before .before .before .before .before in
+    let at-if1 = c .before .before .before .before .before .before .before .before .before .before .before .before .before in
     let l = at-if1 .if1 .taken in omega arith
 
 map-up-loop-again : (t : ℕ) → map-up-lts.Need-loop-again (
@@ -103,14 +103,14 @@ map-up-loop-again : (t : ℕ) → map-up-lts.Need-loop-again (
   map-one-reads.Learnt,
 ) (map-up-at t) map-up.Post map-up-Inv-loop map-up-μ-loop
 map-up-loop-again t c =
-    let at-if1 = c .before .before .before .before .before .before .before .before .before .before .before .before .before .before in
+    let at-if1 = c .before .before .before .before .before .before .before .before .before .before .before .before .before in
     let at-loop = at-if1 .before .before in (
       record {
         with = λ x h. gap-more _ _ _ _ _ _ _ _ _ _ _ h (at-loop .loop .inv .0 .with x h) (at-if1 .if1 .taken)
-            (c .before .before .before .before .before .before .before .before .before .map-up .ensures .0 .with x
+            (c .before .before .before .before .before .before .before .before .map-up .ensures .0 .with x
             (gap-asks _ _ _ _ _ _ _ _ h (at-loop .loop .inv .0 .with x h) (at-if1 .if1 .taken)) .1);
       },
-      c .before .before .before .before .before .before .before .before .before .map-up .ensures .1,
+      c .before .before .before .before .before .before .before .before .map-up .ensures .1,
     )
 
 map-up-global-of-requires : (t : ℕ) → map-up-lts.Need-global-of-requires (
@@ -168,6 +168,7 @@ map-up-same-length : (t : ℕ) → map-up-lts.Need-same-length (
   map-one-reads.Learnt,
 ) (map-up-at t) map-up.Post map-up-Inv-loop map-up-μ-loop
 map-up-same-length t c =
+    let o = c .before .before .before .before .before .before .before .before .map-one .ensures in
     let at-enum-told = c .before .before .before .before .before .before .before .before .before .before .before .before .before in
     let at-global-of = at-enum-told .before .before in
     let at-if1 = at-global-of .before .before in
@@ -175,7 +176,7 @@ map-up-same-length t c =
     let entry = at-loop .before .before .before .before .before in
     last-sizes _ _ _ _ _ _ _ _ (entry .pre .1 .0 .asks) (at-loop .loop .inv .0 .with _ (entry .pre .1 .0 .asks)) (at-if1 .if1 .left)
     ((global-word _ _ (at-global-of .global-of .ensures) ∙ ap globalWord (at-enum-told .enum-told .given .1))) _ _ _ _ _ _ _ _
-    (c .before .before .before .before .before .before .before .before .map-one .ensures) .globalFromUser
+    (o .0, (o .1 .0 (entry .pre .1 .0 .rest), o .1 .1)) .globalFromUser
 
 map-up-same-length-2 : (t : ℕ) → map-up-lts.Need-same-length-2 (
   map-up-below t,
@@ -186,6 +187,7 @@ map-up-same-length-2 : (t : ℕ) → map-up-lts.Need-same-length-2 (
   map-one-reads.Learnt,
 ) (map-up-at t) map-up.Post map-up-Inv-loop map-up-μ-loop
 map-up-same-length-2 t c =
+    let o = c .before .before .before .before .before .before .before .before .map-one .ensures in
     let at-enum-told = c .before .before .before .before .before .before .before .before .before .before .before .before .before in
     let at-global-of = at-enum-told .before .before in
     let at-if1 = at-global-of .before .before in
@@ -193,7 +195,7 @@ map-up-same-length-2 t c =
     let entry = at-loop .before .before .before .before .before in
     last-sizes _ _ _ _ _ _ _ _ (entry .pre .1 .0 .asks) (at-loop .loop .inv .0 .with _ (entry .pre .1 .0 .asks)) (at-if1 .if1 .left)
     ((global-word _ _ (at-global-of .global-of .ensures) ∙ ap globalWord (at-enum-told .enum-told .given .1))) _ _ _ _ _ _ _ _
-    (c .before .before .before .before .before .before .before .before .map-one .ensures) .userFromGlobal
+    (o .0, (o .1 .0 (entry .pre .1 .0 .rest), o .1 .1)) .userFromGlobal
 
 map-up-same-length-3 : (t : ℕ) → map-up-lts.Need-same-length-3 (
   map-up-below t,
@@ -204,6 +206,7 @@ map-up-same-length-3 : (t : ℕ) → map-up-lts.Need-same-length-3 (
   map-one-reads.Learnt,
 ) (map-up-at t) map-up.Post map-up-Inv-loop map-up-μ-loop
 map-up-same-length-3 t c =
+    let o = c .before .before .before .before .before .before .before .before .map-one .ensures in
     let at-enum-told = c .before .before .before .before .before .before .before .before .before .before .before .before .before in
     let at-global-of = at-enum-told .before .before in
     let at-if1 = at-global-of .before .before in
@@ -211,7 +214,7 @@ map-up-same-length-3 t c =
     let entry = at-loop .before .before .before .before .before in
     last-sizes _ _ _ _ _ _ _ _ (entry .pre .1 .0 .asks) (at-loop .loop .inv .0 .with _ (entry .pre .1 .0 .asks)) (at-if1 .if1 .left)
     ((global-word _ _ (at-global-of .global-of .ensures) ∙ ap globalWord (at-enum-told .enum-told .given .1))) _ _ _ _ _ _ _ _
-    (c .before .before .before .before .before .before .before .before .map-one .ensures) .records
+    (o .0, (o .1 .0 (entry .pre .1 .0 .rest), o .1 .1)) .records
 
 map-up-same-length-4 : (t : ℕ) → map-up-lts.Need-same-length-4 (
   map-up-below t,
@@ -222,6 +225,7 @@ map-up-same-length-4 : (t : ℕ) → map-up-lts.Need-same-length-4 (
   map-one-reads.Learnt,
 ) (map-up-at t) map-up.Post map-up-Inv-loop map-up-μ-loop
 map-up-same-length-4 t c =
+    let o = c .before .before .before .before .before .before .before .before .map-one .ensures in
     let at-enum-told = c .before .before .before .before .before .before .before .before .before .before .before .before .before in
     let at-global-of = at-enum-told .before .before in
     let at-if1 = at-global-of .before .before in
@@ -229,7 +233,7 @@ map-up-same-length-4 t c =
     let entry = at-loop .before .before .before .before .before in
     last-sizes _ _ _ _ _ _ _ _ (entry .pre .1 .0 .asks) (at-loop .loop .inv .0 .with _ (entry .pre .1 .0 .asks)) (at-if1 .if1 .left)
     ((global-word _ _ (at-global-of .global-of .ensures) ∙ ap globalWord (at-enum-told .enum-told .given .1))) _ _ _ _ _ _ _ _
-    (c .before .before .before .before .before .before .before .before .map-one .ensures) .notes
+    (o .0, (o .1 .0 (entry .pre .1 .0 .rest), o .1 .1)) .notes
 
 map-up-returns : (t : ℕ) → map-up-lts.Need-returns (
   map-up-below t,
@@ -240,6 +244,7 @@ map-up-returns : (t : ℕ) → map-up-lts.Need-returns (
   map-one-reads.Learnt,
 ) (map-up-at t) map-up.Post map-up-Inv-loop map-up-μ-loop
 map-up-returns t c =
+    let o = c .before .before .before .before .before .before .before .before .map-one .ensures in
     let at-enum-told = c .before .before .before .before .before .before .before .before .before .before .before .before .before in
     let at-global-of = at-enum-told .before .before in
     let at-if1 = at-global-of .before .before in
@@ -248,12 +253,12 @@ map-up-returns t c =
       record {
         with = λ x h. last-done _ _ _ _ _ _ _ _ h (at-loop .loop .inv .0 .with x h) (at-if1 .if1 .left)
             ((global-word _ _ (at-global-of .global-of .ensures) ∙ ap globalWord (at-enum-told .enum-told .given .1))) _ _ _ _ _ _ _ _
-            (c .before .before .before .before .before .before .before .before .map-one .ensures) .0;
+            (o .0, (o .1 .0 x, o .1 .1)) .0;
       },
       last-done _ _ _ _ _ _ _ _ (entry .pre .1 .0 .asks)
           (at-loop .loop .inv .0 .with _ (entry .pre .1 .0 .asks)) (at-if1 .if1 .left)
           ((global-word _ _ (at-global-of .global-of .ensures) ∙ ap globalWord (at-enum-told .enum-told .given .1))) _ _ _ _ _ _ _ _
-          (c .before .before .before .before .before .before .before .before .map-one .ensures) .1,
+          (o .0, (o .1 .0 (entry .pre .1 .0 .rest), o .1 .1)) .1,
     )
 
 map-up-same-length-5 : (t : ℕ) → map-up-lts.Need-same-length-5 (

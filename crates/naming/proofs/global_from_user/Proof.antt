@@ -27,6 +27,9 @@ map-up-requires c κs = (
   cursor-start _ _,
 )
 
+counts-after-requires : tie.Need-counts-after-requires
+counts-after-requires c κs = search needs
+
 cast-t31 : tie.Need-cast-t31
 cast-t31 c =
     let at-map-up = c .before .before .before .before .before .before .before .before .before .before .before in
@@ -34,7 +37,7 @@ cast-t31 c =
     let at-map-refusal = at-if1 .before in
     record {
       fits = notes-fit
-          ((up-leaves _ _ _ _ _ _ _ _ _ _ _ (map-asks _ _ _ _ _ (at-map-refusal .map-refusal .ensures) (at-if1 .if1 .left)) (at-map-up .map-up .ensures .0)) .1)
+          ((up-leaves _ _ _ _ _ _ _ _ _ _ (map-asks _ _ _ _ _ (at-map-refusal .map-refusal .ensures) (at-if1 .if1 .left)) (at-map-up .map-up .ensures .0) (c .before .counts-after .ensures)) .1)
           (map-few _ _ _ _ (map-asks _ _ _ _ _ (at-map-refusal .map-refusal .ensures) (at-if1 .if1 .left)));
     }
 
@@ -56,7 +59,7 @@ returns-2 c =
     let at-if1 = at-map-up .before .before .before .before .before in
     let at-map-refusal = at-if1 .before in
     map-done _ _ _ _ _ _ _ _ _ (at-map-refusal .map-refusal .ensures) (at-if1 .if1 .left)
-    (up-leaves _ _ _ _ _ _ _ _ _ _ _ (map-asks _ _ _ _ _ (at-map-refusal .map-refusal .ensures) (at-if1 .if1 .left)) (at-map-up .map-up .ensures .0))
+    (up-leaves _ _ _ _ _ _ _ _ _ _ (map-asks _ _ _ _ _ (at-map-refusal .map-refusal .ensures) (at-if1 .if1 .left)) (at-map-up .map-up .ensures .0) (c .before .counts-after .ensures))
 
 pub global-from-user-spec : {M : Type 1} → statement M
 global-from-user-spec =
@@ -68,6 +71,7 @@ global-from-user-spec =
     same-length-3
     returns
     map-up-requires
+    counts-after-requires
     cast-t31
     same-length-4
     same-length-5

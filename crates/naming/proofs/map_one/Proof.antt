@@ -1,3 +1,4 @@
+use Rattle.naming.proofs.GapLaws.{one-counts}
 use mathlib.Core.Path.{refl}
 use borrow.Author.Needs.{needs}
 use Rattle.naming.proofs.map_one.Statement.{statement}
@@ -35,8 +36,9 @@ returns c =
     let at-global-for = c .before .before .before .before .before .before .before .before .before .before .before .before .before .before .before .global-for in
     let at-put-note = c .before .before .before .before .before .before .before .before .before .before .before .before .put-note in
     let m = c .before .before .before .before .before .before .map .ensures in
+    let a = c .before .before .before .before .before .before .before .before .before .before .before .before .before .before .before .before .before .before .before .before .before .args in
     rw (← (at-global-for .ensures .0))
-    (refl, (m .0, (at-global-for .ensures .1, (refl, (m .1 .0, (m .1 .1 .0, (m .1 .1 .1, at-put-note .ensures)))))))
+    (refl, (one-counts _ (a .users) (a .globals) (a .used) _ _ _ _ (m .0), (at-global-for .ensures .1, (refl, (m .1 .0, (m .1 .1 .0, (m .1 .1 .1, at-put-note .ensures)))))))
 
 pub map-one-spec : {M : Type 1} → statement M
 map-one-spec =

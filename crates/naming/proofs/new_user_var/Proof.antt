@@ -31,6 +31,9 @@ map-up-requires c κs = (
   cursor-start _ _,
 )
 
+counts-after-requires : tie.Need-counts-after-requires
+counts-after-requires c κs = search needs
+
 cast-t22 : tie.Need-cast-t22
 cast-t22 c =
     let at-map-up = c .before .before .before .before .before .before .before .before .before .before .before in
@@ -39,8 +42,8 @@ cast-t22 c =
     let at-new-user-refusal = at-if1 .before in
     record {
       fits = notes-fit
-          ((up-leaves _ _ _ _ _ _ _ _ _ _ _ (found-asks _ _ _ (new-asks _ _ _ (at-new-user-refusal .new-user-refusal .ensures) (at-if1 .if1 .left))
-          (at-least-free .least-free .ensures)) (at-map-up .map-up .ensures .0)) .1)
+          ((up-leaves _ _ _ _ _ _ _ _ _ _ (found-asks _ _ _ (new-asks _ _ _ (at-new-user-refusal .new-user-refusal .ensures) (at-if1 .if1 .left))
+          (at-least-free .least-free .ensures)) (at-map-up .map-up .ensures .0) (c .before .counts-after .ensures)) .1)
           (map-few _ _ _ _ (found-asks _ _ _ (new-asks _ _ _ (at-new-user-refusal .new-user-refusal .ensures) (at-if1 .if1 .left))
           (at-least-free .least-free .ensures)));
     }
@@ -64,8 +67,8 @@ returns-2 c =
     let at-if1 = at-least-free .before .before in
     let at-new-user-refusal = at-if1 .before in
     new-done _ _ _ _ _ _ _ _ (at-new-user-refusal .new-user-refusal .ensures) (at-if1 .if1 .left) (at-least-free .least-free .ensures)
-    (up-leaves _ _ _ _ _ _ _ _ _ _ _ (found-asks _ _ _ (new-asks _ _ _ (at-new-user-refusal .new-user-refusal .ensures) (at-if1 .if1 .left))
-    (at-least-free .least-free .ensures)) (at-map-up .map-up .ensures .0))
+    (up-leaves _ _ _ _ _ _ _ _ _ _ (found-asks _ _ _ (new-asks _ _ _ (at-new-user-refusal .new-user-refusal .ensures) (at-if1 .if1 .left))
+    (at-least-free .least-free .ensures)) (at-map-up .map-up .ensures .0) (c .before .counts-after .ensures))
 
 pub new-user-var-spec : {M : Type 1} → statement M
 new-user-var-spec =
@@ -78,6 +81,7 @@ new-user-var-spec =
     returns
     least-free-requires
     map-up-requires
+    counts-after-requires
     cast-t22
     same-length-4
     same-length-5
