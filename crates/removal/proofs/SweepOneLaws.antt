@@ -1,10 +1,13 @@
 -- The sweep of one solver index, and its notes, by the tests that the code makes.
 use Prim.Native.Nat.{ℕ, zero, suc, _+_, _*_, _/_, _%_, _≤_, _<_}
 use mathlib.Core.Path.{_≡_, refl, sym, ap, _∙_, subst}
-use mathlib.Core.Bool.{true, false}
+use mathlib.Core.Bool.{true, false, _&&_}
+use mathlib.Core.Logic.{⊎-elim}
 use mathlib.Core.List.{List, []}
 use native.Mathlib.Numerals.{add-one}
 use native.Mathlib.Omega.{arith}
+use lib.Dec.{ltb, leb}
+use borrow.Author.Tests.{lt-ltb, le-ltb, le-leb, lt-leb, eq-eqb, ne-eqb}
 use lib.ListN.{length, getD, set, length-set}
 use lib.Seq.{set-getD, getD-set-same}
 use Rattle.scope.specs.declared.Counts.{Counts}
@@ -13,6 +16,7 @@ use Rattle.scope.specs.Table.{Table, tableOf, word, recordOf, withUnit, putReco
 use Rattle.scope.specs.Outcome.{Result, stay}
 use Rattle.scope.specs.Remove.{removeHeld, learn, sweepHeld, sweepOne}
 use Rattle.scope.proofs.ResultLaws.{choose-then, choose-else}
+use Rattle.base.proofs.Truth.{split}
 use Rattle.base.proofs.MemberLaws.{getD-default}
 use Rattle.table.specs.Found.{foundGlobal}
 use Rattle.table.proofs.FoundLaws.{global-word}
@@ -33,10 +37,17 @@ unfolding learnt word
 learnt-some w zero n = absurd (n refl)
 learnt-some w (suc v) n = refl
 
-learnt-small : (w v : ℕ) → w < 36 → v ≤ 2 → learnt w v < 36
+pub learnt-small : (w v : ℕ) → w < 36 → v ≤ 2 → learnt w v < 36
 unfolding learnt word
 learnt-small w zero l k = l
 learnt-small w (suc v) l k = omega arith
+
+-- isolated and not assumed is a range
+pub loose-range : (w : ℕ) → w < 36 → (leb 9 w && ltb w 18) ≡ isLoose w
+loose-range w l = ⊎-elim (λ (k : w < 9). rw (lt-leb 9 w k, ne-eqb (w / 9 % 2) 1 (omega arith)))
+    (λ (k : 9 ≤ w). ⊎-elim (λ (m : w < 18). rw (le-leb 9 w k, lt-ltb w 18 m, eq-eqb (w / 9 % 2) 1 (omega arith), eq-eqb (w / 18 % 2) 0 (omega arith)))
+    (λ (m : 18 ≤ w). ⊎-elim (λ (n : w < 27). rw (le-leb 9 w k, le-ltb w 18 m, ne-eqb (w / 9 % 2) 1 (omega arith)))
+    (λ (n : 27 ≤ w). rw (le-leb 9 w k, le-ltb w 18 m, eq-eqb (w / 9 % 2) 1 (omega arith), ne-eqb (w / 18 % 2) 0 (omega arith))) (split w 27)) (split w 18)) (split w 9)
 
 -- the global of a held index, as the code reads it
 module _ (c : Counts) (ug sg gs assignment records : List ℕ) (g s : ℕ) (h : Holding c ug sg gs assignment records g s) where

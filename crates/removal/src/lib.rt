@@ -126,6 +126,7 @@ fn learnt_record(w: u32, v: u32) -> u32
     requires { ⌜ w < 36 ⌝ }
     requires { ⌜ v ≤ 2 ⌝ }
     ensures { λ r. ⌜ r ≡ learnt w v ⌝ }
+    ensures { λ r. ⌜ r < 36 ⌝ }
 {
     if v == 0 {
         return w;
@@ -133,11 +134,12 @@ fn learnt_record(w: u32, v: u32) -> u32
     w / 18 * 18 + 9 + 3 * v + w % 3
 }
 
-// Isolated and not assumed.
+// Isolated and not assumed, of the record of an undeleted global.
 fn is_loose(w: u32) -> bool
+    requires { ⌜ w < 36 ⌝ }
     ensures { λ r. ⌜ r ≡ isLoose w ⌝ }
 {
-    (w / 9 % 2 == 1) & (w / 18 % 2 == 0)
+    (9 <= w) & (w < 18)
 }
 
 // How many notes the sweep of a solver index makes.

@@ -48,7 +48,7 @@ learnt-record-requires c κs =
     ∙ (c .before .before .before .before .before .before .before .holder .ensures)))) in (h .undeleted, h .small)
 
 is-loose-requires : tie.Need-is-loose-requires
-is-loose-requires c κs = search needs
+is-loose-requires c κs = c .learnt-record .ensures .1
 
 returns-2 : tie.Need-returns-2
 returns-2 c =
@@ -56,7 +56,7 @@ returns-2 c =
     let entry = at-holder .before .before .before .before .before in
     notes-kept _ _ _ _ _ _ (sym (c .before .before .before .before .before .before .before .before .global .given .1) ∙ (at-holder .holder .ensures))
     ((entry .pre) _ (global-word _ _ (sym (c .before .before .before .before .before .before .before .before .global .given .1)
-    ∙ (at-holder .holder .ensures)))) _ (c .before .before .learnt-record .ensures) (sym (c .before .is-loose .ensures) ∙ not-true _ (c .if1 .taken))
+    ∙ (at-holder .holder .ensures)))) _ (c .before .before .learnt-record .ensures .0) (sym (c .before .is-loose .ensures) ∙ not-true _ (c .if1 .taken))
 
 mul-removal-notes : tie.Need-mul-removal-notes
 mul-removal-notes c = search needs
@@ -78,7 +78,7 @@ returns-3 c =
     let entry = at-holder .before .before .before .before .before in
     notes-removed _ _ _ _ _ _ (sym (at-global .global .given .1) ∙ (at-holder .holder .ensures))
     ((entry .pre) _ (global-word _ _ (sym (at-global .global .given .1) ∙ (at-holder .holder .ensures)))) _
-    (c .before .before .before .before .learnt-record .ensures)
+    (c .before .before .before .before .learnt-record .ensures .0)
     (sym (c .before .before .before .is-loose .ensures) ∙ not-false _ (c .before .before .if1 .left)) _ (c .removal-notes .ensures)
 
 pub notes-at-spec : {M : Type 1} → statement M

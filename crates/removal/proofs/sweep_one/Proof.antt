@@ -64,7 +64,7 @@ slice-write-records c =
     ∙ (c .before .before .before .before .before .before .before .before .holder .ensures)))) .held .live .words
 
 is-loose-requires : tie.Need-is-loose-requires
-is-loose-requires c κs = search needs
+is-loose-requires c κs = c .learnt-record .ensures .1
 
 same-length-2 : tie.Need-same-length-2
 same-length-2 c = search needs
@@ -78,7 +78,7 @@ returns-2 c =
     let entry = at-holder .before .before .before .before .before .before .before .before in
     λ gu. one-kept _ _ _ _ (sym (c .before .before .before .before .before .before .before .before .global .given .1) ∙ (at-holder .holder .ensures))
     ((entry .pre .sweepable) _ (global-word _ _ (sym (c .before .before .before .before .before .before .before .before .global .given .1)
-    ∙ (at-holder .holder .ensures)))) _ (c .before .before .learnt-record .ensures) _ (sym (c .before .is-loose .ensures) ∙ not-true _ (c .if1 .taken))
+    ∙ (at-holder .holder .ensures)))) _ (c .before .before .learnt-record .ensures .0) _ (sym (c .before .is-loose .ensures) ∙ not-true _ (c .if1 .taken))
 
 remove-held-requires : tie.Need-remove-held-requires
 remove-held-requires c κs =
@@ -87,7 +87,7 @@ remove-held-requires c κs =
     let entry = at-holder .before .before .before .before .before .before .before .before in
     one-asks _ _ _ _ _ _ _ _ (sym (at-global .global .given .1) ∙ (at-holder .holder .ensures))
     ((entry .pre .sweepable) _ (global-word _ _ (sym (at-global .global .given .1) ∙ (at-holder .holder .ensures)))) _
-    (c .before .before .before .before .before .before .learnt-record .ensures)
+    (c .before .before .before .before .before .before .learnt-record .ensures .0)
     (sym (c .before .before .before .before .before .is-loose .ensures) ∙ not-false _ (c .before .before .before .before .if1 .left)) _ _
     (entry .pre .words)
 
@@ -114,7 +114,7 @@ returns-3 c =
     let entry = at-holder .before .before .before .before .before .before .before .before in
     λ gu. one-removed _ _ _ _ (sym (at-global .global .given .1) ∙ (at-holder .holder .ensures))
     ((entry .pre .sweepable) _ (global-word _ _ (sym (at-global .global .given .1) ∙ (at-holder .holder .ensures)))) _
-    (at-learnt-record .learnt-record .ensures) _ _ _ _ (sym (at-is-loose .is-loose .ensures) ∙ not-false _ (at-if1 .if1 .left))
+    (at-learnt-record .learnt-record .ensures .0) _ _ _ _ (sym (at-is-loose .is-loose .ensures) ∙ not-false _ (at-if1 .if1 .left))
     ((c .before .before .before .before .before .before .before .before .remove-held .ensures) _ _)
 
 pub sweep-one-spec : {M : Type 1} → statement M
