@@ -1,7 +1,7 @@
 -- Laws by which the loops of src/ are the tests of crates/scope/specs/Sound.antt. A loop gathers `allBelow i p`; where the tails
 -- are as they should be, p holds at or above the mark, so that the loop can stop there.
 use Prim.Native.Nat.{ℕ, zero, suc, _+_, _-_, _≤_, _<_}
-use mathlib.Core.Path.{_≡_, refl, sym, ap, _∙_}
+use mathlib.Core.Path.{_≡_, refl, sym, ap, ap₂, _∙_}
 use mathlib.Core.Bool.{Bool, true, false, _&&_, _||_, not, true≢false}
 use mathlib.Core.Logic.{⊎-elim}
 use mathlib.Core.List.{List}
@@ -105,6 +105,47 @@ tail-step mark blank xs i ok l m e =
 pub tail-end : (mark blank : ℕ) (xs : List ℕ) (i : ℕ) (ok : Bool) → ok ≡ allBelow i (tailAt mark blank xs) → i ≡ length xs → ok ≡ tailb mark blank xs
 unfolding tailb tailAt
 tail-end mark blank xs i ok e q = e ∙ ap (λ (k : ℕ). allBelow k (tailAt mark blank xs)) q
+
+-- two lists, word by word
+pub two-step : (mark : ℕ) (xs ys : List ℕ) (i : ℕ) (ok : Bool) → mark ≤ i → i < length xs → length ys ≡ length xs
+    → ok ≡ (allBelow i (tailAt mark 0 xs) && allBelow i (tailAt mark 0 ys))
+    → (ok && (eqb (getD xs i 0) 0 && eqb (getD ys i 0) 0)) ≡ (allBelow (i + 1) (tailAt mark 0 xs) && allBelow (i + 1) (tailAt mark 0 ys))
+two-step mark xs ys i ok l m q e =
+    ap (λ (b : Bool). b && (eqb (getD xs i 0) 0 && eqb (getD ys i 0) 0)) e
+    ∙ turned (allBelow i (tailAt mark 0 xs)) (allBelow i (tailAt mark 0 ys)) (eqb (getD xs i 0) 0) (eqb (getD ys i 0) 0)
+    ∙ ap₂ _&&_ (tail-step mark 0 xs i _ l m refl) (tail-step mark 0 ys i _ l (omega arith) refl)
+  where
+    turned : (a b x y : Bool) → ((a && b) && (x && y)) ≡ ((a && x) && (b && y))
+    turned true true x y = refl
+    turned true false true y = refl
+    turned true false false y = refl
+    turned false b x y = refl
+
+pub two-end : (mark : ℕ) (xs ys : List ℕ) (i : ℕ) (ok : Bool) → ok ≡ (allBelow i (tailAt mark 0 xs) && allBelow i (tailAt mark 0 ys))
+    → i ≡ length xs → length ys ≡ length xs → ok ≡ (tailb mark 0 xs && tailb mark 0 ys)
+two-end mark xs ys i ok e q k = e ∙ ap₂ _&&_ (tail-end mark 0 xs i _ refl q) (tail-end mark 0 ys i _ refl (omega arith))
+
+-- the six tests, of which two are of two lists
+pub tails-by : (t : Table) (a b d e : Bool) → a ≡ tailb (t .counts .user) 0 (t .globalFromUser)
+    → b ≡ (tailb (t .counts .global) 0 (t .userFromGlobal) && tailb (t .counts .global) 0 (t .solverFromGlobal))
+    → d ≡ (tailb (t .counts .solver) 0 (t .globalFromSolver) && tailb (t .counts .solver) 0 (t .assignment))
+    → e ≡ tailb (t .counts .global) 47 (t .records) → (a && b && d && e) ≡ tailsb t
+unfolding tailsb
+tails-by t a b d e p q r s =
+    ap₂ _&&_ (ap₂ _&&_ (ap₂ _&&_ p q) r) s
+    ∙ turned (tailb (t .counts .user) 0 (t .globalFromUser))
+    (tailb (t .counts .global) 0 (t .userFromGlobal))
+    (tailb (t .counts .global) 0 (t .solverFromGlobal))
+    (tailb (t .counts .solver) 0 (t .globalFromSolver))
+    (tailb (t .counts .solver) 0 (t .assignment))
+    (tailb (t .counts .global) 47 (t .records))
+  where
+    turned : (u g k x y z : Bool) → (u && (g && k) && (x && y) && z) ≡ (u && g && k && x && y && z)
+    turned true true true true y z = refl
+    turned true true true false y z = refl
+    turned true true false x y z = refl
+    turned true false k x y z = refl
+    turned false g k x y z = refl
 
 -- ---- every word at most m
 

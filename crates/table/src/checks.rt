@@ -36,6 +36,21 @@ fn tail_ok(mark: u32, blank: u32, xs: &[u32]) -> bool
     ok
 }
 
+// The same of two lists with 0 for the blank, in one pass.
+fn two_tails_ok(mark: u32, xs: &[u32], ys: &[u32]) -> bool
+    requires { ⌜ mark ≤ length (now xs) ⌝ }
+    requires { ⌜ length (now ys) ≡ length (now xs) ⌝ }
+    ensures { λ r. ⌜ r ≡ (tailb mark 0 (old xs) && tailb mark 0 (old ys)) ⌝ }
+{
+    let mut ok = true;
+    let mut i = mark as usize;
+    while i < xs.len() {
+        ok = ok & ((xs[i] == 0) & (ys[i] == 0));
+        i += 1;
+    }
+    ok
+}
+
 // Every word is at most m.
 pub fn at_most(m: u32, xs: &[u32], mark: u32) -> bool
     requires { ⌜ mark ≤ length (now xs) ⌝ }
@@ -162,10 +177,8 @@ pub fn tails_ok(
     ensures { λ r. ⌜ r ≡ tailsb (before c gu ug sg gs assignment records) ⌝ }
 {
     tail_ok(c.user, 0, gu)
-        & tail_ok(c.global, 0, ug)
-        & tail_ok(c.global, 0, sg)
-        & tail_ok(c.solver, 0, gs)
-        & tail_ok(c.solver, 0, assignment)
+        & two_tails_ok(c.global, ug, sg)
+        & two_tails_ok(c.solver, gs, assignment)
         & tail_ok(c.global, 47, records)
 }
 
