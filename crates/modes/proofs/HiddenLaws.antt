@@ -8,11 +8,11 @@ use lib.Dec.{eqb, ltb}
 use lib.ListN.{length, getD}
 use Rattle.base.specs.Choice.{pick}
 use Rattle.base.specs.Bounded.{allBelow, count}
-use Rattle.base.proofs.BelowLaws.{all-none, all-more, all-fails}
 use Rattle.base.proofs.CountLaws.{count-none, count-yes, count-no, count-most}
 use Rattle.base.proofs.MemberLaws.{getD-default}
 use Rattle.scope.specs.Table.{assumedOf}
 use Rattle.scope.specs.Modes.{isHidden}
+use Rattle.table.proofs.CheckLaws.{all-step}
 
 pub hidden-read : (w : ℕ) → ltb w 36 && eqb (w % 3) 2 ≡ isHidden w
 unfolding isHidden
@@ -24,22 +24,12 @@ hidden-read w = refl
 abbrev pub fine : List ℕ → ℕ → Bool
 fine records g = not (isHidden (getD records g 47) && eqb (assumedOf (getD records g 47)) 1)
 
-module _ (records : List ℕ) (mark g : ℕ) (w : mark ≤ length records) (k : g < mark) (b : Bool) (e : b ≡ isHidden (getD records g 0)) where
-  fine-read : (x : Bool) → b && eqb (getD records g 0 / 18 % 2) 1 ≡ x → fine records g ≡ not x
-  fine-read x q = ap not (ap (λ (r : ℕ). isHidden r && eqb (assumedOf r) 1) (getD-default records g 47 0 (omega arith))
-      ∙ ap (λ (y : Bool). y && eqb (getD records g 0 / 18 % 2) 1) (sym e) ∙ q)
-
-  pub fine-fails : b && eqb (getD records g 0 / 18 % 2) 1 ≡ true → false ≡ allBelow mark (fine records)
-  fine-fails q = sym (all-fails mark (fine records) g k (fine-read true q))
-
-  pub fine-more : allBelow g (fine records) ≡ true → b && eqb (getD records g 0 / 18 % 2) 1 ≡ false → allBelow (g + 1) (fine records) ≡ true
-  fine-more h q = all-more g (fine records) h (fine-read false q)
-
-pub fine-none : (records : List ℕ) → allBelow 0 (fine records) ≡ true
-fine-none records = all-none (fine records)
-
-pub fine-end : (records : List ℕ) (mark g : ℕ) → g ≡ mark → allBelow g (fine records) ≡ true → true ≡ allBelow mark (fine records)
-fine-end records mark g e h = sym (ap (λ (i : ℕ). allBelow i (fine records)) (sym e) ∙ h)
+pub fine-more : (records : List ℕ) (mark g : ℕ) (ok b : Bool) → mark ≤ length records → g < mark → b ≡ isHidden (getD records g 0)
+    → ok ≡ allBelow g (fine records) → (ok && not (b && eqb (getD records g 0 / 18 % 2) 1)) ≡ allBelow (g + 1) (fine records)
+fine-more records mark g ok b w k e h =
+    all-step g (fine records) ok _ h
+    (ap not (ap (λ (y : Bool). y && eqb (getD records g 0 / 18 % 2) 1) e
+    ∙ ap (λ (r : ℕ). isHidden r && eqb (assumedOf r) 1) (sym (getD-default records g 47 0 (omega arith)))))
 
 -- ---- how many there are
 

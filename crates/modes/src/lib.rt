@@ -263,20 +263,19 @@ fn is_hidden(w: u32) -> bool
     (w < 36) & (w % 3 == 2)
 }
 
-// No hidden global is assumed.
+// No hidden global is assumed. It does not stop at one, so that several are tested at a time.
 fn none_assumed(records: &[u32], mark: u32) -> bool
     requires { ⌜ mark ≤ length (now records) ⌝ }
     ensures { λ r. ⌜ r ≡ allBelow mark (λ g. not (isHidden (getD (old records) g 47) && eqb (assumedOf (getD (old records) g 47)) 1)) ⌝ }
 {
+    let mut ok = true;
     let mut g: u32 = 0;
     while g < mark {
         let w = records[g as usize];
-        if is_hidden(w) & (w / 18 % 2 == 1) {
-            return false;
-        }
+        ok = ok & !(is_hidden(w) & (w / 18 % 2 == 1));
         g += 1;
     }
-    true
+    ok
 }
 
 fn hidden_word(w: u32) -> u32
