@@ -207,8 +207,8 @@ static void reading(const uint8_t *proof, size_t length) {
     expect(clause.refusal == HZ_ACCEPTED && clause.bytes == 5 && memcmp(again, "\x64\x04\x07\x08\x00", 5) == 0);
 
     hz_first first = hz_first_step(HZ_TEXT, proof, length);
-    expect(first.refusal == HZ_ACCEPTED && first.length == 6);
-    hz_reading cut = hz_read(HZ_TEXT, proof, length - 1, codes, 21, ends, 21, kinds, 21);
+    expect(first.refusal == HZ_ACCEPTED && first.place == 0 && first.length == 5);
+    hz_reading cut = hz_read(HZ_TEXT, proof, length - 2, codes, 21, ends, 21, kinds, 21);
     expect(cut.refusal == HZ_BROKEN_PROOF && cut.place == 17);
 }
 

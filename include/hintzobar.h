@@ -197,7 +197,7 @@ typedef struct {
     uint32_t users;
 } hz_modelled;
 
-/* With refusal 13, `place` is the start of the first step that is not whole; else it is 0. */
+/* With refusal 13, `place` is that of the first token of the first step that is not whole; else it is 0. */
 typedef struct {
     uint32_t refusal;
     size_t place;
@@ -205,7 +205,9 @@ typedef struct {
     size_t steps;
 } hz_reading;
 
-/* The first step is the first `length` bytes. With refusal 13 it is not whole: `place` and `length` are 0. */
+/* The first step is the `length` bytes from `place` on; the next one is the first of the bytes from `place + length` on. With refusal 13 it is not
+ * whole: `place` is that of its first token, 0 without any, and `length` is 0. In earlier versions `place` was 0 and `length` took in a text step's
+ * line feed: a program that goes on by `length` alone must add `place`. */
 typedef struct {
     uint32_t refusal;
     size_t place;
@@ -312,7 +314,8 @@ hz_written hz_write_clause(uint32_t format, uint32_t kind, const uint32_t *lits,
 hz_written hz_write_proof(uint32_t format, const uint32_t *codes, size_t codes_len, const uint64_t *ends, size_t ends_len,
                           const uint8_t *kinds, size_t kinds_len, uint8_t *proof, size_t proof_len);
 
-/* Read a proof: all literal codes in a row, where each step ends in it, and kinds (enum hz_clause): 13, 2. The first step alone: 13. */
+/* Read a proof: all literal codes in a row, where each step ends in it, and kinds (enum hz_clause): 13, 2. The first step alone: 13. A step of
+ * text ends at its 0; between tokens stand blanks and line feeds, one or more, before the first and after the last any number. */
 hz_reading hz_read(uint32_t format, const uint8_t *bytes, size_t bytes_len, uint32_t *codes, size_t codes_len, uint64_t *ends,
                    size_t ends_len, uint8_t *kinds, size_t kinds_len);
 hz_first hz_first_step(uint32_t format, const uint8_t *bytes, size_t bytes_len);

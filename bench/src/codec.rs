@@ -223,7 +223,7 @@ fn same_reading(format: Format, bytes: &[u8], lent: &mut Lent, proof: &mut Proof
             assert!(lent.lits[..lits].iter().map(|lit| lit.code()).eq(proof.codes.iter().copied()));
             assert!(lent.ends[..steps] == proof.ends[..] && lent.kinds[..steps] == proof.kinds[..]);
         }
-        Err(place) => assert_eq!(library, Err(Refusal::BrokenProof(place))),
+        Err(place) => assert!(matches!(library, Err(Refusal::BrokenProof(at)) if at.byte == place)),
     }
 }
 
@@ -253,6 +253,44 @@ pub fn readers(report: &Report) {
                 let case = [name.to_string(), length.to_string(), names.to_string()];
                 read_rows(report, format, &case, &bytes, length == 30 && names == 4096);
             }
+        }
+    }
+}
+
+/// The text with one to `most` blanks and line feeds, at random, for each separator.
+pub fn broken(text: &[u8], most: u32) -> Vec<u8> {
+    let mut random = Random::new(6);
+    let mut broken = vec![];
+    for &byte in text {
+        match byte {
+            b' ' | b'\n' => broken.extend((0..1 + random.below(most)).map(|_| b" \n"[random.below(2) as usize])),
+            _ => broken.push(byte),
+        }
+    }
+    broken
+}
+
+/// Text broken at random separators: one for each, up to two, up to three. Where three stand before a `d` the proof is scanned, and no goal is set.
+pub fn broken_rows(report: &Report, case: &[String], text: &[u8]) {
+    for (input, most) in [("one", 1), ("one or two", 2), ("one to three", 3)] {
+        let [library, plain] = time_readers(Format::Text, &broken(text, most));
+        let goal = match most {
+            3 => String::from("none"),
+            _ => report.goal("reader, broken lines", library / plain, 1.2),
+        };
+        let mut cells = case.to_vec();
+        cells.extend([input.to_string(), time(library), time(plain), ratio(library, plain), goal]);
+        report.row(&cells);
+    }
+}
+
+pub fn broken_lines(report: &Report) {
+    let columns = ["literals", "names", "between tokens", "library", "plain reader", "ratio", "goal"];
+    report.table("Reader, text of 1 MB with its lines broken at random separators", &columns);
+    for length in [3, 30, 1000] {
+        for names in [4096, 60] {
+            let text = clauses(Format::Text, length, names).bytes();
+            broken_rows(report, &[length.to_string(), names.to_string()], &text);
         }
     }
 }

@@ -24,9 +24,10 @@ type Part = (&'static str, fn(&report::Report));
 /// All parts, or those named on the command line.
 fn main() {
     let report = report::Report::default();
-    let parts: [Part; 10] = [
+    let parts: [Part; 11] = [
         ("writers", codec::writers),
         ("readers", codec::readers),
+        ("broken", codec::broken_lines),
         ("real", real::proofs),
         ("cnf", cnf::files),
         ("sound", sound::tables),

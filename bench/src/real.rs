@@ -3,7 +3,7 @@
 use hintzobar::{Format, Lit};
 
 use crate::{
-    codec::{library_whole, rust_whole, time_readers, time_writers, Clauses, FORMATS},
+    codec::{broken_rows, library_whole, rust_whole, time_readers, time_writers, Clauses, FORMATS},
     plain::reader::{self, Proof},
     report::{ratio, time, Report},
 };
@@ -62,6 +62,11 @@ pub fn proofs(report: &Report) {
             let goal = report.goal(&format!("reader, {name}, real proofs"), library / plain, 1.0);
             report.row(&[proof, solver.into(), name.into(), time(library), time(plain), ratio(library, plain), goal]);
         }
+    }
+    let columns = ["proof", "solver", "between tokens", "library", "plain reader", "ratio", "goal"];
+    report.table("Reader, proofs of real solvers, text of 1 MB with its lines broken at random separators", &columns);
+    for (proof, solver, file) in inputs() {
+        broken_rows(report, &[proof, solver.into()], &repeated(Format::Text, &file).bytes());
     }
     let columns = ["proof", "solver", "format", "library, ns a literal", "Rust", "ratio", "goal", "Rust to a `Vec`", "ratio"];
     report.table("Writer, proofs of real solvers, 1 MB in one call", &columns);

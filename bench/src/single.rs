@@ -316,16 +316,17 @@ pub fn table(report: &Report) {
 type Call<'a> = &'a mut dyn FnMut() -> usize;
 
 /// A thousand calls of each side in turn, which answer the same.
-fn short_row(report: &Report, name: &str, library: Call, rust: Call) {
+fn short_row(report: &Report, name: &str, most: Option<f64>, library: Call, rust: Call) {
     assert_eq!(library(), rust());
     let many = |side: Call| span(|| (0..1000).map(|_| side()).sum::<usize>());
     let [library, rust] = race(BUDGET, [Box::new(|| many(library)), Box::new(|| many(rust))]).map(|ns| ns / 1000.0);
-    report.row(&[name.into(), time(library), time(rust), ratio(library, rust)]);
+    let goal = most.map_or("none".into(), |most| report.goal(name, library / rust, most));
+    report.row(&[name.into(), time(library), time(rust), ratio(library, rust), goal]);
 }
 
 /// A short line written, read, and taken off the front, beside the Rust's writer and the plain reader.
 fn without_table(report: &Report) {
-    report.table("Calls without a table: one line of 3 literals in text", &["call", "library", "Rust", "ratio"]);
+    report.table("Calls without a table: one line of 3 literals in text", &["call", "library", "Rust", "ratio", "goal"]);
     let (mut bytes, mut vec, mut proof) = ([0; 64], Vec::with_capacity(64), Proof::default());
     let (mut codes, mut ends, mut kinds) = ([Lit::from_code(0); 3], [0; 1], [0; 1]);
     let (all, rust_lits) = (lits([0, 39, 598]), measure::lits([0, 39, 598]));
@@ -340,11 +341,11 @@ fn without_table(report: &Report) {
     };
     let mut write = || write_clause(Format::Text, false, black_box(&all), 0, 3, &mut bytes, 0).unwrap();
     let mut read = || read(Format::Text, black_box(LINE), &mut codes, &mut ends, &mut kinds).unwrap().lits;
-    let mut first = || 3 * (first_step(Format::Text, black_box(LINE)).unwrap().len() == LINE.len()) as usize;
-    short_row(report, "Write clause", &mut write, &mut write_rust);
+    let mut first = || 3 * (first_step(Format::Text, black_box(LINE)).unwrap().len() + 1 == LINE.len()) as usize;
+    short_row(report, "Write clause", None, &mut write, &mut write_rust);
     let mut whole = [0; 64];
     let mut write_whole = || write_proof(Format::Text, black_box(&all), &[3], &[0], &mut whole).unwrap();
-    short_row(report, "Write proof, of this line", &mut write_whole, &mut write_rust);
-    short_row(report, "Read", &mut read, &mut read_rust);
-    short_row(report, "First step, beside reading it whole", &mut first, &mut read_rust);
+    short_row(report, "Write proof, of this line", None, &mut write_whole, &mut write_rust);
+    short_row(report, "Read, one line", Some(2.0), &mut read, &mut read_rust);
+    short_row(report, "First step, beside reading it whole", None, &mut first, &mut read_rust);
 }

@@ -262,7 +262,7 @@ pub fn random_session(
     }
     if let Some(ledger) = ledger {
         tally.steps_read += ledger.len() as u64;
-        if let Err(what) = ledger.check(&session.table) {
+        if let Err(what) = ledger.check(&session.table, rng) {
             let call = Call::Sweep { room: 0 };
             return Err(Box::new(Disagreement { format, table: session.table.clone(), call, what }));
         }

@@ -1,9 +1,11 @@
 //! Demand 3 at run time: the ledger of a session, fed only each call's arguments, answer and notes.
 use crate::call::{Call, Format};
+use crate::random::{self, Rng};
 use crate::reading::{
     drat::{self, Clause},
     is_shown, steps, Outcome, Table,
 };
+use crate::run;
 
 pub struct Ledger {
     format: Format,
@@ -92,8 +94,8 @@ impl Ledger {
         self.steps.push(Clause { delete, lits });
     }
 
-    /// What holds after a session.
-    pub fn check(&self, t: &Table) -> Result<(), String> {
+    /// What holds after a session. Text is read with other separators too.
+    pub fn check(&self, t: &Table, rng: &mut Rng) -> Result<(), String> {
         let holder: Vec<u32> = self.holder.iter().map(|holder| holder.map_or(0, |g| g + 1)).collect();
         if holder != t.global_from_solver {
             return Err("the notes say another holder".into());
@@ -105,11 +107,22 @@ impl Ledger {
         if !t.is_sound() {
             return Err("the table is not sound".into());
         }
-        match drat::read(self.format, &self.bytes) {
-            Err(at) => Err(format!("the joined bytes have no reading: a fault at {}", at)),
-            Ok(steps) if steps != self.steps => Err("the joined bytes read as other steps".into()),
-            Ok(_) => Ok(()),
+        self.reads_back(&self.bytes)?;
+        if self.format == Format::Text {
+            self.reads_back(&random::rebroken(rng, &self.bytes))?;
         }
+        Ok(())
+    }
+
+    /// The bytes read as the steps, plainly and by the library.
+    fn reads_back(&self, bytes: &[u8]) -> Result<(), String> {
+        match drat::read(self.format, bytes) {
+            Err(at) => return Err(format!("the joined bytes have no reading: a fault at {}", at)),
+            Ok(steps) if steps != self.steps => return Err("the joined bytes read as other steps".into()),
+            Ok(_) => (),
+        }
+        let rooms = [bytes.len(); 3];
+        run::read_of(self.format, bytes, rooms, &drat::read_call(self.format, bytes, rooms))
     }
 }
 

@@ -1,4 +1,6 @@
 //! The proved library, through the safe crate.
+use std::ops::Range;
+
 use crate::call::{Asked, Call, Cause, Format, Mark, ProofStep};
 use crate::reading::{dimacs, drat::Filled, Counts, Outcome, Table};
 use hintzobar::{Global, Lists, Lit, Lits, Made, Mode, Name, Notes, Refusal, Solver, Step, User};
@@ -352,7 +354,7 @@ pub fn read(format: Format, bytes: &[u8], rooms: [usize; 3]) -> Result<Filled, S
     let mut kinds = vec![BEFORE as u8; rooms[2]];
     let answer = hintzobar::read(format_of(format), bytes, &mut lits, &mut ends, &mut kinds);
     let (count, steps) = answer.map_or((0, 0), |reading| (reading.lits, reading.steps));
-    let place = if let Err(Refusal::BrokenProof(place)) = answer { place } else { 0 };
+    let place = if let Err(Refusal::BrokenProof(place)) = answer { place.byte } else { 0 };
     Ok(Filled {
         refusal: answer.err().map_or(0, Refusal::number),
         place,
@@ -362,11 +364,11 @@ pub fn read(format: Format, bytes: &[u8], rooms: [usize; 3]) -> Result<Filled, S
     })
 }
 
-/// The length of the first step, or the place of the fault.
-pub fn first_step(format: Format, bytes: &[u8]) -> Result<usize, usize> {
-    match hintzobar::first_step(format_of(format), bytes) {
-        Ok(step) => Ok(step.len()),
-        Err(Refusal::BrokenProof(place)) => Err(place),
+/// From where to where the first step stands, or the place of the fault.
+pub fn first_step(format: Format, bytes: &[u8]) -> Result<Range<usize>, usize> {
+    match hintzobar::first_range(format_of(format), bytes) {
+        Ok(range) => Ok(range),
+        Err(Refusal::BrokenProof(place)) => Err(place.byte),
         Err(_) => Err(usize::MAX),
     }
 }

@@ -296,6 +296,49 @@ pub fn files() -> Vec<String> {
     files
 }
 
+/// Text proofs: separators of each kind and number, tokens that are none, joined or cut, a `d` in each place; two of more than 64 bytes.
+pub fn texts() -> Vec<Vec<u8>> {
+    let mut texts = [
+        "",
+        "\n",
+        " \n \n",
+        "0",
+        "0\n",
+        "d",
+        "d\n",
+        "d 0",
+        "d\n\n0",
+        "d1 0",
+        "d d 0",
+        "1 d 2 0",
+        "1 0d 2 0",
+        "1 02 0",
+        "10",
+        "1 0 2",
+        "1 0 2 ",
+        "1 0\n2 0",
+        "1\n-2  0 d\n1 0",
+        "\n\n1 x",
+        "\n 1 0\n\n 2",
+        "1\t0",
+        "1 0\r\n",
+        "1-2 0",
+        "4096 -4096 0",
+        "4097 0",
+        "-4097 0",
+        "40960 0",
+        "01 0",
+        "-0 0",
+        "- 1 0",
+    ]
+    .map(|text| text.as_bytes().to_vec())
+    .to_vec();
+    texts.extend([vec![0], vec![255], b"1 0\xff".to_vec(), b"1\x00 0".to_vec()]);
+    let long = [vec![b'\n'; 80], b"d 1".to_vec(), vec![b' '; 80], b"-2 0".to_vec()].concat();
+    texts.extend([long[..long.len() - 1].to_vec(), long]);
+    texts
+}
+
 /// Clauses as two lists, and lists that are none: no ends for a code, ends that fall, pass the last literal, leave it out; index 4,096.
 pub fn clauses() -> Vec<(Vec<u32>, Vec<u64>)> {
     vec![

@@ -399,3 +399,22 @@ fn damaged_number(rng: &mut Rng, number: u32, capacity: u32) -> u32 {
 fn damaged_mark(rng: &mut Rng, mark: u32, capacity: u32) -> u32 {
     [mark.wrapping_sub(1), mark + 1, capacity, capacity + 1, 0, u32::MAX][rng.index(6)]
 }
+
+/// The text with other separators: one or more for each, any number before the first token and after the last.
+pub fn rebroken(rng: &mut Rng, text: &[u8]) -> Vec<u8> {
+    let mut broken = separators(rng, 0);
+    for word in text.split(|byte| b" \n".contains(byte)).filter(|word| !word.is_empty()) {
+        broken.extend(word);
+        broken.extend(separators(rng, 1));
+    }
+    if rng.one_in(3) && !broken.is_empty() {
+        let end = broken.iter().rposition(|byte| !b" \n".contains(byte)).map_or(0, |last| last + 1);
+        broken.truncate(end);
+    }
+    broken
+}
+
+fn separators(rng: &mut Rng, least: usize) -> Vec<u8> {
+    let more = if rng.one_in(4) { rng.index(5) } else { 0 };
+    (0..least + more).map(|_| rng.of(b" \n")).collect()
+}

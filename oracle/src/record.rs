@@ -329,6 +329,9 @@ impl Record {
         for format in [Format::Text, Format::Binary] {
             self.on(format, &Table::empty(4), &pinned::binaries())?;
         }
+        for text in pinned::texts() {
+            self.read(Format::Text, &text, [4; 3])?;
+        }
         Ok(())
     }
 
@@ -356,24 +359,32 @@ impl Record {
     fn proofs(&mut self, rng: &mut Rng, times: u64) -> Verdict<()> {
         for _ in 0..times {
             let (format, bytes, rooms) = run::draw_proof(rng);
-            let want = drat::read_call(format, &bytes, rooms);
-            run::read_of(format, &bytes, rooms, &want)?;
-            self.reads[want.refusal as usize] += 1;
-            let mut line = Line::new("read");
-            line.put([format as u32]).some("proof", &bytes).part("room", rooms);
-            line.part("gives", [want.refusal as usize, want.place, want.codes.len(), want.ends.len()]);
-            line.some("words", &want.codes).some("more", &want.ends).some("bytes", &want.kinds);
-            self.text.push_str(&line.end());
-            self.first(format, &bytes);
+            self.read(format, &bytes, rooms)?;
         }
         Ok(())
     }
 
+    fn read(&mut self, format: Format, bytes: &[u8], rooms: [usize; 3]) -> Verdict<()> {
+        let want = drat::read_call(format, bytes, rooms);
+        run::read_of(format, bytes, rooms, &want)?;
+        self.reads[want.refusal as usize] += 1;
+        let mut line = Line::new("read");
+        line.put([format as u32]).some("proof", bytes).part("room", rooms);
+        line.part("gives", [want.refusal as usize, want.place, want.codes.len(), want.ends.len()]);
+        line.some("words", &want.codes).some("more", &want.ends).some("bytes", &want.kinds);
+        self.text.push_str(&line.end());
+        self.first(format, bytes);
+        Ok(())
+    }
+
     fn first(&mut self, format: Format, bytes: &[u8]) {
-        let (refusal, length) = drat::first_step(format, bytes).map_or((13, 0), |(_, length)| (0, length));
+        let (refusal, place, length) = match drat::first_step(format, bytes) {
+            Ok((_, part)) => (0, part.start, part.len()),
+            Err(place) => (13, place, 0),
+        };
         self.firsts[refusal] += 1;
         let mut line = Line::new("first");
-        self.text.push_str(&line.put([format as u32]).some("proof", bytes).part("gives", [refusal, 0, length]).end());
+        self.text.push_str(&line.put([format as u32]).some("proof", bytes).part("gives", [refusal, place, length]).end());
     }
 
     fn read_cnf(&mut self, file: &[u8], rooms: [usize; 2]) -> Verdict<()> {

@@ -82,7 +82,7 @@ pub fn opens(rng: &mut Rng, times: u64) -> Verdict<u64> {
     Ok(accepted)
 }
 
-/// Proofs: whole ones, cut ones, and ones with a byte changed.
+/// Proofs: whole ones, cut ones, ones with a byte changed, and text broken at other separators.
 pub fn proofs(rng: &mut Rng, times: u64) -> Verdict<[u64; 3]> {
     let mut by = [0; 3];
     for _ in 0..times {
@@ -90,6 +90,13 @@ pub fn proofs(rng: &mut Rng, times: u64) -> Verdict<[u64; 3]> {
         let want = drat::read_call(format, &bytes, rooms);
         by[[0, 2, 13].iter().position(|&n| n == want.refusal).unwrap()] += 1;
         read_of(format, &bytes, rooms, &want)?;
+        if format == Format::Text && want.refusal != 13 {
+            let broken = random::rebroken(rng, &bytes);
+            if drat::read_call(format, &broken, rooms) != want {
+                return Err(format!("{:?} broken as {:?} reads as other steps", bytes, broken));
+            }
+            read_of(format, &broken, rooms, &want)?;
+        }
     }
     Ok(by)
 }
@@ -157,6 +164,9 @@ fn proof(rng: &mut Rng, format: Format) -> Vec<u8> {
         })
         .collect();
     let mut bytes = drat::encode(format, &steps);
+    if format == Format::Text && rng.flag() {
+        bytes = random::rebroken(rng, &bytes);
+    }
     match rng.below(6) {
         0 => bytes.truncate(rng.index(bytes.len() + 1)),
         1 | 2 if !bytes.is_empty() => {
@@ -209,7 +219,7 @@ pub fn read_of(format: Format, bytes: &[u8], rooms: [usize; 3], want: &drat::Fil
     if &got != want {
         return Err(format!("Read of {:?} {:?}\n document 01: {:?}\n the library: {:?}", format, bytes, want, got));
     }
-    let want = drat::first_step(format, bytes).map(|(_, length)| length).ok_or(0);
+    let want = drat::first_step(format, bytes).map(|(_, range)| range);
     let got = library::first_step(format, bytes);
     if got != want {
         return Err(format!("the first step of {:?} {:?}: {:?}, the library: {:?}", format, bytes, want, got));

@@ -1,4 +1,6 @@
 //! Proof lines: formats, steps, and the reader.
+use std::ops::Range;
+
 use crate::{ffi, Global, Lit, Name, Refusal, Solver, User};
 
 /// The format of a DRAT proof.
@@ -156,8 +158,9 @@ pub struct Reading {
 /// assert_eq!(lits[..3], [Lit::positive(Global(0)), Lit::negative(Global(1)), Lit::positive(Global(0))]);
 /// assert_eq!((ends, kinds), ([2, 3], [0, 1]));
 ///
-/// let cut = read(Format::Text, b"1 0\n2 0", &mut lits, &mut ends, &mut kinds);
-/// assert_eq!(cut, Err(Refusal::BrokenProof(4)));
+/// let cut = read(Format::Text, b"1 0\n 2", &mut lits, &mut ends, &mut kinds).unwrap_err();
+/// assert_eq!(cut.number(), 13);
+/// assert!(cut.to_string().ends_with("at byte 5 (line 2, column 2)"));
 /// # Ok::<(), Refusal>(())
 /// ```
 pub fn read(
@@ -168,21 +171,37 @@ pub fn read(
     kinds: &mut [u8],
 ) -> Result<Reading, Refusal> {
     let answer = ffi::read(format.number(), bytes, crate::names::codes_mut(lits), ends, kinds);
-    Refusal::check(answer.refusal, answer.place)?;
+    Refusal::check_proof(answer.refusal, answer.place, format, bytes)?;
     Ok(Reading { lits: answer.lits, steps: answer.steps })
 }
 
-/// The first step's part of the bytes. Nothing is lent. Refusals: 13.
+/// The first step alone: the part of the bytes from its first token to its end. Nothing is lent. Refusals: 13, at the first token or, without
+/// any, at 0.
 ///
 /// ```
-/// use hintzobar::{first_step, Format, Refusal};
-/// assert_eq!(first_step(Format::Text, b"d 1 0\nrubbish"), Ok(&b"d 1 0\n"[..]));
-/// assert_eq!(first_step(Format::Binary, b""), Err(Refusal::BrokenProof(0)));
+/// use hintzobar::{first_step, Format};
+/// assert_eq!(first_step(Format::Text, b"\nd\n1 0 rubbish"), Ok(&b"d\n1 0"[..]));
+/// assert_eq!(first_step(Format::Binary, b"").unwrap_err().number(), 13);
 /// ```
 pub fn first_step(format: Format, bytes: &[u8]) -> Result<&[u8], Refusal> {
+    Ok(&bytes[first_range(format, bytes)?])
+}
+
+/// From where to where the first step stands: the places of its first token and of the byte after its end. The next step is the first one of the
+/// bytes from there on. Refusals: 13, as of [`first_step`].
+///
+/// ```
+/// use hintzobar::{first_range, Format};
+/// let proof = b"1 2 0\nd 1\n2 0\n";
+/// let first = first_range(Format::Text, proof)?;
+/// assert_eq!(first, 0..5);
+/// assert_eq!(first_range(Format::Text, &proof[first.end..])?, 1..8);
+/// # Ok::<(), hintzobar::Refusal>(())
+/// ```
+pub fn first_range(format: Format, bytes: &[u8]) -> Result<Range<usize>, Refusal> {
     let answer = ffi::first_step(format.number(), bytes);
-    Refusal::check(answer.refusal, answer.place)?;
-    Ok(&bytes[..answer.length.min(bytes.len())])
+    Refusal::check_proof(answer.refusal, answer.place, format, bytes)?;
+    Ok(answer.place..answer.place + answer.length)
 }
 
 /// Writes `lits[a..b]` as one step at `proof[at..]`: an add, or a delete. Answers the place after it. Refusals: 3 where `a..b` is no part of

@@ -1,6 +1,36 @@
 //! Why a call was refused.
 use std::{error::Error, fmt};
 
+use crate::Format;
+
+/// A place in a proof.
+#[derive(Clone, Copy, PartialEq, Eq, Hash, Debug)]
+pub struct Place {
+    /// The byte, counted from 0.
+    pub byte: usize,
+    /// In text, the line and the byte's column in it, both counted from 1.
+    pub line_and_column: Option<(usize, usize)>,
+}
+
+impl Place {
+    pub(crate) fn of(format: Format, bytes: &[u8], byte: usize) -> Place {
+        let before = &bytes[..byte.min(bytes.len())];
+        let line = 1 + before.iter().filter(|&&b| b == b'\n').count();
+        let column = 1 + before.iter().rev().take_while(|&&b| b != b'\n').count();
+        Place { byte, line_and_column: (format == Format::Text).then_some((line, column)) }
+    }
+}
+
+impl fmt::Display for Place {
+    fn fmt(&self, f: &mut fmt::Formatter) -> fmt::Result {
+        write!(f, "byte {}", self.byte)?;
+        match self.line_and_column {
+            Some((line, column)) => write!(f, " (line {}, column {})", line, column),
+            None => Ok(()),
+        }
+    }
+}
+
 /// Why a call was refused. A refused call leaves the table and every lent slice as they were.
 #[derive(Clone, Copy, PartialEq, Eq, Hash, Debug)]
 #[non_exhaustive]
@@ -29,8 +59,8 @@ pub enum Refusal {
     NotInDrat,
     /// 12: no literal is true, some are false, and fewer than two are unknown.
     FewUnknown,
-    /// 13: a step of the proof is not whole; the place is its start.
-    BrokenProof(usize),
+    /// 13: a step of the proof is not whole; the place is that of its first token.
+    BrokenProof(Place),
     /// 14: units and hashes differ in number.
     Unmatched,
     /// 15: the lists of binary clauses are not one section for each literal code, or an entry has no mirror.
@@ -45,7 +75,7 @@ pub enum Refusal {
 }
 
 impl Refusal {
-    /// `Ok` for 0, which is no refusal. The place goes with numbers 13 and 17.
+    /// `Ok` for 0, which is no refusal. The place goes with number 17; for 13 see `check_proof`.
     pub(crate) fn check(number: u32, place: usize) -> Result<(), Refusal> {
         Err(match number {
             0 => return Ok(()),
@@ -61,13 +91,21 @@ impl Refusal {
             10 => Refusal::BadSize,
             11 => Refusal::NotInDrat,
             12 => Refusal::FewUnknown,
-            13 => Refusal::BrokenProof(place),
+            13 => Refusal::BrokenProof(Place { byte: place, line_and_column: None }),
             14 => Refusal::Unmatched,
             15 => Refusal::BadLists,
             16 => Refusal::StillAssumed,
             17 => Refusal::BadCnf(place),
             other => Refusal::Other(other),
         })
+    }
+
+    /// The same for a call that reads a proof.
+    pub(crate) fn check_proof(number: u32, place: usize, format: Format, bytes: &[u8]) -> Result<(), Refusal> {
+        match number {
+            13 => Err(Refusal::BrokenProof(Place::of(format, bytes, place))),
+            _ => Refusal::check(number, place),
+        }
     }
 
     /// The refusal's number.
@@ -125,7 +163,7 @@ impl fmt::Display for Refusal {
     fn fmt(&self, f: &mut fmt::Formatter) -> fmt::Result {
         write!(f, "refusal {}: {}", self.number(), self.meaning())?;
         match self {
-            Refusal::BrokenProof(place) => write!(f, ", the one at byte {}", place),
+            Refusal::BrokenProof(place) => write!(f, ", the one at {}", place),
             Refusal::BadCnf(place) => write!(f, ", the first wrong line is at byte {}", place),
             _ => Ok(()),
         }

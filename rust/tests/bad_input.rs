@@ -115,24 +115,77 @@ fn places() {
     assert_eq!(proof, [7; 8]);
 }
 
+/// Reads into memory of three words each, which a refusal leaves as it was. The place, if it is refused with 13.
+fn place_of(format: Format, bytes: &[u8]) -> Option<hintzobar::Place> {
+    let (mut lits, mut ends, mut kinds) = ([Lit::from_code(9); 3], [9; 3], [9; 3]);
+    match read(format, bytes, &mut lits, &mut ends, &mut kinds) {
+        Ok(_) => None,
+        Err(Refusal::BrokenProof(place)) => {
+            assert_eq!((lits, ends, kinds), ([Lit::from_code(9); 3], [9; 3], [9; 3]));
+            Some(place)
+        }
+        Err(refusal) => panic!("{refusal}"),
+    }
+}
+
 #[test]
 fn cut_proofs() {
+    // after the first 0, and after the line feed behind it; a step is whole without one
     let text = b"1 -2 0\nd 4096 0\n";
     let binary = [0x61, 0x02, 0x81, 0x40, 0x00, 0x64, 0x7e, 0x00];
-    for (format, proof, second) in [(Format::Text, &text[..], 7), (Format::Binary, &binary[..], 5)] {
+    for (format, proof, second, whole) in
+        [(Format::Text, &text[..], 7, &[0, 6, 7, 15, 16][..]), (Format::Binary, &binary[..], 5, &[0, 5, 8][..])]
+    {
         for length in 0..=proof.len() {
-            let (mut lits, mut ends, mut kinds) = ([Lit::from_code(9); 3], [9; 2], [9; 2]);
-            let answer = read(format, &proof[..length], &mut lits, &mut ends, &mut kinds);
-            if length == 0 || length == second || length == proof.len() {
-                assert!(answer.is_ok());
-            } else {
-                let start = if length < second { 0 } else { second };
-                assert_eq!(answer, Err(Refusal::BrokenProof(start)));
-                assert_eq!((lits, ends, kinds), ([Lit::from_code(9); 3], [9; 2], [9; 2]));
-            }
-            assert_eq!(first_step(format, &proof[..length]).is_ok(), length >= second);
+            let place = place_of(format, &proof[..length]);
+            let start = if length < second { 0 } else { second };
+            assert_eq!(place.map(|place| place.byte), (!whole.contains(&length)).then_some(start));
+            assert_eq!(first_step(format, &proof[..length]).is_ok(), length >= whole[1]);
         }
     }
+}
+
+#[test]
+fn broken_texts() {
+    let whole = |text: &[u8]| assert_eq!(place_of(Format::Text, text), None, "{text:?}");
+    let cut = |text: &[u8], byte: usize, line: usize, column: usize| {
+        let place = place_of(Format::Text, text).expect("not whole");
+        assert_eq!((place.byte, place.line_and_column), (byte, Some((line, column))), "{text:?}");
+    };
+    for text in [&b""[..], b"\n", b" \n \n", b"0", b"1\n0", b"d\n\n1 0", b"\n 1 0 2 0", b"4096 -4096 0", b"1 0\n\n"] {
+        whole(text);
+    }
+    for text in [
+        &b"d"[..],
+        b"d1 0",
+        b"d d 0",
+        b"1 d 2 0",
+        b"1\t0\n",
+        b"1 0\r\n",
+        b"4097 0",
+        b"01 0",
+        b"-0 0",
+        b"1 02 0",
+        b"10",
+        b"\0",
+        b"\xff",
+    ] {
+        cut(text, 0, 1, 1);
+    }
+    cut(b"1 0 2", 4, 1, 5);
+    cut(b"1 0\n\n  2\n3", 7, 3, 3);
+    let mut far = vec![b'\n'; 10_000];
+    far.extend(b"d 1 0");
+    whole(&far);
+    assert_eq!(first_step(Format::Text, &far), Ok(&b"d 1 0"[..]));
+    far.pop();
+    cut(&far, 10_000, 10_001, 1);
+    assert_eq!(first_step(Format::Text, b"\n 1 0 2 0"), Ok(&b"1 0"[..]));
+    for (text, byte) in [(&b""[..], 0), (b" \n", 0), (b" \n1", 2), (b"\n1 0x", 1)] {
+        assert!(matches!(first_step(Format::Text, text), Err(Refusal::BrokenProof(place)) if place.byte == byte), "{text:?}");
+    }
+    let told = place_of(Format::Binary, b"\n").unwrap();
+    assert_eq!((told.byte, told.line_and_column, told.to_string()), (0, None, String::from("byte 0")));
 }
 
 #[test]
@@ -182,7 +235,7 @@ fn refusals_say_what_they_mean() {
     let text = Table::open(0).unwrap_err().to_string();
     assert_eq!(text, "refusal 10: the capacity is not 1 to 4,096, or a list has another length");
     let text = first_step(Format::Text, b"x").unwrap_err().to_string();
-    assert_eq!(text, "refusal 13: a step of the proof is not whole, the one at byte 0");
+    assert_eq!(text, "refusal 13: a step of the proof is not whole, the one at byte 0 (line 1, column 1)");
 }
 
 #[test]

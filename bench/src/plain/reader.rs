@@ -1,4 +1,4 @@
-//! A plain reader of DRAT in one pass. It stops at the first fault with the start of the step that is not whole.
+//! A plain reader of DRAT in one pass. It stops at the first fault with the place of the first token of the step that is not whole.
 use hintzobar::Format;
 
 /// What was read. The vectors are kept from one proof to the next, so that no memory is asked for while the time is taken.
@@ -14,7 +14,7 @@ pub fn read(format: Format, bytes: &[u8], proof: &mut Proof) -> Result<(), usize
     proof.codes.clear();
     proof.ends.clear();
     proof.kinds.clear();
-    let mut at = 0;
+    let mut at = past(format, bytes, 0);
     while at < bytes.len() {
         let step = match format {
             Format::Text => text_step(bytes, at, &mut proof.codes),
@@ -23,23 +23,51 @@ pub fn read(format: Format, bytes: &[u8], proof: &mut Proof) -> Result<(), usize
         let (kind, next) = step.ok_or(at)?;
         proof.ends.push(proof.codes.len() as u64);
         proof.kinds.push(kind);
-        at = next;
+        at = past(format, bytes, next);
     }
     Ok(())
+}
+
+/// The place after blanks and line feeds, which may stand before a step; in binary none may.
+#[inline]
+fn past(format: Format, bytes: &[u8], at: usize) -> usize {
+    match format {
+        Format::Text => past_separators(bytes, at),
+        Format::Binary => at,
+    }
+}
+
+#[inline]
+fn past_separators(bytes: &[u8], mut at: usize) -> usize {
+    while at < bytes.len() && is_separator(bytes[at]) {
+        at += 1;
+    }
+    at
+}
+
+#[inline]
+fn is_separator(byte: u8) -> bool {
+    byte == b' ' || byte == b'\n'
+}
+
+/// The place after separators, of which there must be one.
+#[inline]
+fn gap(bytes: &[u8], at: usize) -> Option<usize> {
+    is_separator(*bytes.get(at)?).then(|| past_separators(bytes, at + 1))
 }
 
 /// The step's kind and the place after it.
 #[inline]
 fn text_step(bytes: &[u8], start: usize, codes: &mut Vec<u32>) -> Option<(u8, usize)> {
     let (kind, mut at) = match bytes[start] {
-        b'd' if bytes.get(start + 1) == Some(&b' ') => (1, start + 2),
+        b'd' => (1, gap(bytes, start + 1)?),
         _ => (0, start),
     };
     loop {
         let mut first = *bytes.get(at)?;
         at += 1;
         if first == b'0' {
-            return (bytes.get(at) == Some(&b'\n')).then_some((kind, at + 1));
+            return bytes.get(at).map_or(true, |&byte| is_separator(byte)).then_some((kind, at));
         }
         let negative = first == b'-';
         if negative {
@@ -55,7 +83,7 @@ fn text_step(bytes: &[u8], start: usize, codes: &mut Vec<u32>) -> Option<(u8, us
     }
 }
 
-/// The digits after the first one, and the blank.
+/// The digits after the first one, and the separators after them.
 #[inline]
 fn digits(bytes: &[u8], mut at: usize, first: u32) -> Option<(u32, usize)> {
     let mut magnitude = first;
@@ -63,7 +91,7 @@ fn digits(bytes: &[u8], mut at: usize, first: u32) -> Option<(u32, usize)> {
         let byte = *bytes.get(at)?;
         at += 1;
         match byte {
-            b' ' => return Some((magnitude, at)),
+            b' ' | b'\n' => return Some((magnitude, past_separators(bytes, at))),
             b'0'..=b'9' => magnitude = 10 * magnitude + u32::from(byte - b'0'),
             _ => return None,
         }

@@ -4,7 +4,7 @@ use mathlib.Core.List.{List, []}
 use Rattle.base.specs.Answer.{Answer, refused}
 use Rattle.drat.specs.Writing.{Writing, writeClauseOf}
 use Rattle.drat.specs.Listed.{writeAllOf}
-use Rattle.drat.specs.Filled.{Filling, refusing, readOf, firstOf}
+use Rattle.drat.specs.Filled.{Filling, refusing, readOf, firstToken, firstOf}
 use Rattle.numbers.specs.Numbers.{whenKnown, formatFor, kindFor}
 
 abbrev pub noWriting : Writing
@@ -22,3 +22,7 @@ readAt format s a b c = whenKnown (formatFor format) (refusing 4294967295 []) (�
 
 unfoldable pub firstAt : ℕ → List ℕ → Answer
 firstAt format s = whenKnown (formatFor format) (refused 4294967295 []) (λ f. firstOf f s)
+
+-- and where it stands, or with 13 its first token
+unfoldable pub firstPlaceAt : ℕ → List ℕ → ℕ
+firstPlaceAt format s = whenKnown (formatFor format) 0 (λ f. firstToken f s)

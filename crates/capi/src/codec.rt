@@ -11,10 +11,12 @@ use numbers::format_in;
 use numbers::kind_in;
 ghost use mathlib.Core.Path.{_≡_};
 ghost use mathlib.Core.List.{[], _∷_};
-ghost use lib.ListN.{length, take};
+ghost use Prim.Native.Nat.{_+_};
+ghost use lib.ListN.{length};
+ghost use Rattle.drat.specs.Writing.{part};
 ghost use Rattle.base.specs.Lent.{old, new, Fills};
-ghost use Rattle.numbers.specs.Surface.{plain, located, partOf, measured};
-ghost use Rattle.capi.specs.Codec.{writeClauseAt, writeProofAt, readAt, firstAt};
+ghost use Rattle.numbers.specs.Surface.{plain, located, placed, partOf};
+ghost use Rattle.capi.specs.Codec.{writeClauseAt, writeProofAt, readAt, firstAt, firstPlaceAt};
 
 // The clause buf[a..b] as one step from out[at] on (3, 2): `writeOf` of the writer.
 #[no_mangle]
@@ -97,12 +99,12 @@ pub extern "C" fn hz_read(
     read_out(r)
 }
 
-// The first step alone (13): `firstOf`.
+// The first step alone (13): `firstOf`, and `firstToken` for its place.
 #[no_mangle]
 pub extern "C" fn hz_first_step(format: u32, bytes: &[u8]) -> HzFirst
     ensures { λ r. let w = firstAt format (old bytes) in
-        ⌜ r .refusal ∷ r .place ∷ r .length ∷ [] ≡ located 1 (measured w) ⌝
-        ∗ ⌜ take (r .length) (old bytes) ≡ partOf w ⌝ }
+        ⌜ r .refusal ∷ r .place ∷ r .length ∷ [] ≡ placed (firstPlaceAt format (old bytes)) w ⌝
+        ∗ ⌜ part (r .place) (r .place + r .length) (old bytes) ≡ partOf w ⌝ }
 {
     let FormatNumber::Known(f) = format_in(format) else {
         return HzFirst {
@@ -111,6 +113,7 @@ pub extern "C" fn hz_first_step(format: u32, bytes: &[u8]) -> HzFirst
             length: 0,
         };
     };
+    let place = drat_read::first_token(f, bytes);
     let part = drat_read::first_step(f, bytes);
-    first_out(part)
+    first_out(place, part)
 }

@@ -3,12 +3,13 @@ use mathlib.Core.Path.{refl}
 use Rattle.base.specs.Bounded.{allBelow}
 use Rattle.drat.specs.Numeral.{spell, further, bytesOf}
 use Rattle.drat.specs.Grammar.{number, numbers}
-use Rattle.drat.specs.Reading.{digitsFrom, signedFrom, thenBlank, endFrom, lineFrom}
+use Rattle.drat.specs.Reading.{digitsFrom, signedFrom}
 use Rattle.drat.specs.Filled.{codesOf, endsFrom}
 use Rattle.drat.specs.Listed.{risesTo}
 use Rattle.dimacs.specs.Cnf.{largest, clauseLines}
 use Rattle.dimacs.specs.Calls.{clausesBy, adds, cnfBy}
-use Rattle.dimacs.specs.Reading.{headerPlace, digitsOf, valueFrom, startsWith, headFrom, within, consClause, clausesFrom, countedBy, fileBy, readFile}
+use Rattle.dimacs.specs.Reading.{headerPlace, digitsOf, valueFrom, startsWith, headFrom, thenBlank, endFrom, lineFrom, within, consClause}
+use Rattle.dimacs.specs.Reading.{clausesFrom, countedBy, fileBy, readFile}
 use Rattle.dimacs.specs.Anchors.{Agree, writes, unwritten, files, headers, forms, wrongLines, wrongBytes, places, answerRows}
 
 writes-hold : Agree writes

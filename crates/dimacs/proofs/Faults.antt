@@ -9,14 +9,13 @@ use lib.ListN.{length, drop, length-append}
 use borrow.Author.Tests.{eqb-false}
 use Rattle.base.specs.Choice.{pick}
 use Rattle.drat.specs.Grammar.{Signed}
-use Rattle.drat.specs.Reading.{lineFrom}
 use Rattle.drat.specs.declared.Token.{Token}
 use Rattle.drat.specs.declared.Token.the-variants.{Lit, Stop, Bad}
-use Rattle.drat.proofs.Complete.{line-number}
-use Rattle.drat.proofs.Sound.{lit-bad, stop-bad, lit-stop, lit-parts, line-sound, line-stop, rest-is}
+use Rattle.drat.proofs.Sound.{lit-bad, stop-bad, lit-stop, lit-parts, rest-is}
 use Rattle.dimacs.specs.Cnf.{magnitude, Line, closed, lit, Lines, none, line}
-use Rattle.dimacs.specs.Reading.{within, clauses, wrongLine, clausesFrom}
-use Rattle.dimacs.proofs.LineLaws.{line-end, within-lit, within-stop, within-was, within-stops, from-lit, from-stop, from-bad, from-none}
+use Rattle.dimacs.specs.Reading.{lineFrom, within, clauses, wrongLine, clausesFrom}
+use Rattle.dimacs.proofs.LineTokens.{line-number, line-end, line-sound, line-stop}
+use Rattle.dimacs.proofs.LineLaws.{within-lit, within-stop, within-was, within-stops, from-lit, from-stop, from-bad, from-none}
 use Rattle.dimacs.proofs.LineLaws.{wrong-clauses, wrong-part}
 use Rattle.dimacs.proofs.LineLaws.{cons-wrong}
 

@@ -3,6 +3,7 @@ pub mod ClauseLaws
 pub mod Written
 pub mod Digits
 pub mod Heads
+pub mod LineTokens
 pub mod LineLaws
 pub mod Faults
 pub mod Files

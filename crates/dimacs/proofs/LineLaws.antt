@@ -9,19 +9,15 @@ use lib.ListN.{length, drop, length-append}
 use borrow.Author.Tests.{eqb-true, eq-eqb, leb-true, le-leb, lt-leb}
 use Rattle.base.specs.Choice.{pick}
 use Rattle.drat.specs.Grammar.{Signed}
-use Rattle.drat.specs.Reading.{endFrom, lineFrom}
 use Rattle.drat.specs.declared.Token.{Token}
 use Rattle.drat.specs.declared.Token.the-variants.{Lit, Stop, Bad}
-use Rattle.drat.proofs.Complete.{signed-first, line-number, skip}
-use Rattle.drat.proofs.Sound.{lit-bad, stop-bad, lit-stop, line-sound, line-stop, rest-is}
+use Rattle.drat.proofs.Complete.{signed-first, skip}
+use Rattle.drat.proofs.Sound.{lit-bad, stop-bad, lit-stop, rest-is}
 use Rattle.dimacs.specs.Cnf.{magnitude, Line, closed, lit, Lines, none, line}
-use Rattle.dimacs.specs.Reading.{within, Clauses, clauses, wrongLine, consClause, clausesFrom}
+use Rattle.dimacs.specs.Reading.{lineFrom, within, Clauses, clauses, wrongLine, consClause, clausesFrom}
+use Rattle.dimacs.proofs.LineTokens.{line-number, line-end, line-sound, line-stop}
 
 -- ---- one token
-
-pub line-end : (i : ℕ) (l : List ℕ) → lineFrom i (48 ∷ 10 ∷ l) ≡ Stop (i + 2)
-unfolding lineFrom endFrom
-line-end i l = ap Stop (omega arith)
 
 pub within-lit : (v c j : ℕ) → magnitude c ≤ v → within v (Lit c j) ≡ Lit c j
 unfolding within

@@ -10,16 +10,15 @@ use borrow.Author.Tests.{eq-eqb, ne-eqb}
 use Rattle.base.specs.Choice.{pick}
 use Rattle.base.proofs.SetsLaws.{store-next}
 use Rattle.drat.specs.Grammar.{stepOf}
-use Rattle.drat.specs.Reading.{lineFrom}
 use Rattle.drat.specs.Filled.{codesOf, endsFrom}
 use Rattle.drat.specs.declared.Kind.the-variants.{Add}
 use Rattle.drat.specs.declared.Scanned.the-variants.{Whole, Fault}
 use Rattle.drat.specs.declared.Token.the-variants.{Lit, Stop, Bad}
 use Rattle.drat.proofs.Steps.{next}
-use Rattle.drat.proofs.Sound.{line-sound, line-stop}
 use Rattle.drat.proofs.Scanning.{codes-snoc, ends-snoc, ends-length}
-use Rattle.dimacs.specs.Reading.{within, Clauses, clauses, wrongLine, consClause, clausesFrom, clausesAt}
+use Rattle.dimacs.specs.Reading.{lineFrom, within, Clauses, clauses, wrongLine, consClause, clausesFrom, clausesAt}
 use Rattle.dimacs.specs.Calls.{adds, allCodes, allEnds, tallied, LineScan}
+use Rattle.dimacs.proofs.LineTokens.{line-sound, line-stop}
 use Rattle.dimacs.proofs.LineLaws.{within-was, within-stops, from-lit, from-stop, from-bad, from-none, wrong-clauses, clauses-part}
 
 -- ---- clauses as the steps that add them

@@ -6,7 +6,7 @@ use lib.Dec.{eqb, leb}
 use lib.ListN.{length, getD, drop}
 use Rattle.base.specs.Choice.{pick}
 use Rattle.drat.specs.Numeral.{digit}
-use Rattle.drat.specs.Reading.{withDigit, lineFrom}
+use Rattle.drat.specs.Reading.{withDigit, signedFrom}
 use Rattle.drat.specs.declared.Token.{Token}
 use Rattle.drat.specs.declared.Token.the-variants.{Lit, Stop, Bad}
 use Rattle.dimacs.specs.Cnf.{magnitude, headerStart}
@@ -56,6 +56,22 @@ unfoldable pub headFrom : ℕ → List ℕ → Head
 headFrom i l = headBy i l (digitsOf (drop 6 l)) (digitsOf (drop (7 + length (digitsOf (drop 6 l))) l))
 
 -- ---- the lines
+
+-- The blank after a number.
+unfoldable pub thenBlank : ℕ → List ℕ → Token → Token
+thenBlank i l (Lit c j) = pick (eqb (getD l (j - i) 0) 32) (Lit c (j + 1)) Bad
+thenBlank i l (Stop j) = Bad
+thenBlank i l Bad = Bad
+
+-- The line feed that ends a line.
+unfoldable pub endFrom : ℕ → List ℕ → Token
+endFrom i [] = Bad
+endFrom i (b ∷ l) = pick (eqb b 10) (Stop (i + 1)) Bad
+
+-- What stands at place i of a line: a number and the blank after it, or `0` and the line feed.
+unfoldable pub lineFrom : ℕ → List ℕ → Token
+lineFrom i [] = Bad
+lineFrom i (b ∷ l) = pick (eqb b 48) (endFrom (i + 1) l) (thenBlank i (b ∷ l) (signedFrom i (b ∷ l)))
 
 -- A token of a line: a literal whose magnitude is above v is a fault.
 unfoldable pub within : ℕ → Token → Token

@@ -1,15 +1,16 @@
 -- Bytes that are judged are clause lines: an induction over the bytes, with a claim for each state that the last four bytes can be in.
 use Prim.Native.Nat.{ℕ, _+_, _-_, _*_, _≤_, _<_}
 use mathlib.Core.Bool.{true}
-use mathlib.Core.List.{List, [], _∷_, _++_, append-assoc, append-nil}
+use mathlib.Core.List.{List, [], _∷_, _++_, append-assoc}
 use mathlib.Core.Path.{_≡_, refl, sym, ap, _∙_, subst, subst₂}
 use native.Mathlib.Omega.{arith}
-use Rattle.drat.proofs.Numerals.{numeral-pos}
 use Rattle.drat.specs.Grammar.{Signed, plus, minus}
-use Rattle.drat.specs.Numeral.{decimal, Numeral, one, more}
+use Rattle.drat.specs.Numeral.{decimal, Numeral}
 use Rattle.dimacs.specs.Cnf.{magnitude, Line, closed, lit, Lines, none, line}
-use Rattle.dimacs_judge.specs.declared.Limit.{Limit}
-use Rattle.dimacs_judge.specs.Local.{LimitOf, mayFollow, runs}
+use Rattle.drat_judge.specs.declared.Limit.{Limit}
+use Rattle.drat_judge.specs.Local.{LimitOf}
+use Rattle.drat_judge.proofs.LimitLaws.{digit-one, digit-more, NumberHere, with-digit, with-rest}
+use Rattle.dimacs_judge.specs.Local.{mayFollow, runs}
 use Rattle.dimacs_judge.proofs.NextLaws.{runs-cons, runs-end, First, closes, negative, begins, After, blank, further}
 use Rattle.dimacs_judge.proofs.NextLaws.{after-start, after-minus, after-zero, after-first, after-second, after-third, after-fourth}
 
@@ -27,15 +28,15 @@ record LineHere (v : ℕ) (l : List ℕ) : Type 0 where
   spelled : Line v bytes cs
   then : LinesHere v rest
 
--- after the digits ds, l is the rest of a number, a blank, and then a line's rest
-record NumberHere (v : ℕ) (ds l : List ℕ) : Type 0 where
-  digits : List ℕ
+-- l is a blank, and then the rest of a clause line and clause lines
+record BlankHere (v : ℕ) (l : List ℕ) : Type 0 where
   rest : List ℕ
-  index : ℕ
-  split : l ≡ digits ++ 32 ∷ rest
-  spelled : Numeral decimal (ds ++ digits) (index + 1)
-  small : index < v
+  split : l ≡ 32 ∷ rest
   then : LineHere v rest
+
+-- the rest of a number after its digits ds, and then a blank and a line's rest
+abbrev Digits : ℕ → List ℕ → List ℕ → Type 0
+Digits v ds l = NumberHere v (BlankHere v) ds l
 
 -- ---- putting bytes in front
 with-line : (v : ℕ) (l : List ℕ) → LineHere v l → LinesHere v l
@@ -49,63 +50,29 @@ with-line v l b =
 with-end : (v : ℕ) (l : List ℕ) → LinesHere v l → LineHere v (48 ∷ 10 ∷ l)
 with-end v l s = record { bytes = 48 ∷ 10 ∷ []; rest = l; cs = []; split = refl; spelled = closed; then = s }
 
-with-signed : (v : ℕ) (bs l : List ℕ) (c : ℕ) → Signed bs c → magnitude c ≤ v → LineHere v l → LineHere v (bs ++ 32 ∷ l)
-with-signed v bs l c n h b =
+with-signed : (v : ℕ) (bs l : List ℕ) (c : ℕ) → Signed bs c → magnitude c ≤ v → BlankHere v l → LineHere v (bs ++ l)
+with-signed v bs l c n h k =
+    let b = k .then in
     record {
       bytes = bs ++ 32 ∷ b .bytes;
       rest = b .rest;
       cs = c ∷ b .cs;
-      split = ap (λ (m : List ℕ). bs ++ 32 ∷ m) (b .split) ∙ sym (append-assoc bs (32 ∷ b .bytes) (b .rest));
+      split = ap (λ (m : List ℕ). bs ++ m) (k .split) ∙ ap (λ (m : List ℕ). bs ++ 32 ∷ m) (b .split) ∙ sym (append-assoc bs (32 ∷ b .bytes) (b .rest));
       spelled = lit n h (b .spelled);
       then = b .then;
     }
 
-positive : (v : ℕ) → v ≤ 4096 → (l : List ℕ) → NumberHere v [] l → LineHere v l
+positive : (v : ℕ) → v ≤ 4096 → (l : List ℕ) → Digits v [] l → LineHere v l
 positive v hv l n =
     let s = n .small in
     subst (LineHere v) (sym (n .split))
     (with-signed v (n .digits) (n .rest) (2 * n .index) (plus (omega (arith, s)) (n .spelled)) (omega (arith, s)) (n .then))
 
-negated : (v : ℕ) → v ≤ 4096 → (l : List ℕ) → NumberHere v [] l → LineHere v (45 ∷ l)
+negated : (v : ℕ) → v ≤ 4096 → (l : List ℕ) → Digits v [] l → LineHere v (45 ∷ l)
 negated v hv l n =
     let s = n .small in
     subst (LineHere v) (ap (λ (m : List ℕ). 45 ∷ m) (sym (n .split)))
     (with-signed v (45 ∷ n .digits) (n .rest) (2 * n .index + 1) (minus (omega (arith, s)) (n .spelled)) (omega (arith, s)) (n .then))
-
-with-digit : (v : ℕ) (ds : List ℕ) (x : ℕ) (l : List ℕ) → NumberHere v (ds ++ x ∷ []) l → NumberHere v ds (x ∷ l)
-with-digit v ds x l n =
-    record {
-      digits = x ∷ n .digits;
-      rest = n .rest;
-      index = n .index;
-      split = ap (λ (m : List ℕ). x ∷ m) (n .split);
-      spelled = subst (λ (m : List ℕ). Numeral decimal m (n .index + 1)) (append-assoc ds (x ∷ []) (n .digits)) (n .spelled);
-      small = n .small;
-      then = n .then;
-    }
-
-with-blank : (v : ℕ) (ds l : List ℕ) (n : ℕ) → Numeral decimal ds n → n ≤ v → LineHere v l → NumberHere v ds (32 ∷ l)
-with-blank v ds l n d h b =
-    let z = numeral-pos decimal d in
-    record {
-      digits = [];
-      rest = l;
-      index = n - 1;
-      split = refl;
-      spelled = subst₂ (λ (m : List ℕ) (w : ℕ). Numeral decimal m w) (sym (append-nil ds)) (omega arith) d;
-      small = omega arith;
-      then = b;
-    }
-
-digit-more : (ds : List ℕ) (n x : ℕ) → 48 ≤ x → x ≤ 57 → Numeral decimal ds n → Numeral decimal (ds ++ x ∷ []) (10 * n + (x - 48))
-digit-more ds n x h k d =
-    let e : 48 + (x - 48) ≡ x = omega arith in
-    subst₂ (λ (y w : ℕ). Numeral decimal (ds ++ y ∷ []) w) e (omega arith) (more {d = x - 48} (omega arith) d)
-
-digit-one : (x : ℕ) → 49 ≤ x → x ≤ 57 → Numeral decimal (x ∷ []) (x - 48)
-digit-one x h k =
-    let e : 48 + (x - 48) ≡ x = omega arith in
-    subst (λ (y : ℕ). Numeral decimal (y ∷ []) (x - 48)) e (one {d = x - 48} (omega arith) (omega arith))
 
 -- ---- what l must be where the bytes before it end so
 module _ (v : ℕ) (t : Limit) (hv : v ≤ 4096) (lim : LimitOf v t) where
@@ -113,14 +80,14 @@ module _ (v : ℕ) (t : Limit) (hv : v ≤ 4096) (lim : LimitOf v t) where
     start : (a b c : ℕ) → runs t a b c 10 l ≡ true → LinesHere v l
     item : (a b c : ℕ) → runs t a b c 32 l ≡ true → LineHere v l
     zero : (a b c : ℕ) → c < 48 → runs t a b c 48 l ≡ true → (m : List ℕ) × (l ≡ 10 ∷ m) × LinesHere v m
-    sign : (a b c : ℕ) → runs t a b c 45 l ≡ true → NumberHere v [] l
-    first : (a b c p : ℕ) → c < 48 → 49 ≤ p → p ≤ 57 → runs t a b c p l ≡ true → (ds : List ℕ) → Numeral decimal ds (p - 48) → p - 48 ≤ v → NumberHere v ds l
+    sign : (a b c : ℕ) → runs t a b c 45 l ≡ true → Digits v [] l
+    first : (a b c p : ℕ) → c < 48 → 49 ≤ p → p ≤ 57 → runs t a b c p l ≡ true → (ds : List ℕ) → Numeral decimal ds (p - 48) → p - 48 ≤ v → Digits v ds l
     second : (a b c p : ℕ) → b < 48 → 48 ≤ c → c ≤ 57 → 48 ≤ p → p ≤ 57 → runs t a b c p l ≡ true → (ds : List ℕ)
-        → Numeral decimal ds (10 * (c - 48) + (p - 48)) → 10 * (c - 48) + (p - 48) ≤ v → NumberHere v ds l
+        → Numeral decimal ds (10 * (c - 48) + (p - 48)) → 10 * (c - 48) + (p - 48) ≤ v → Digits v ds l
     third : (a b c p : ℕ) → 48 ≤ b → b ≤ 57 → 48 ≤ c → c ≤ 57 → 48 ≤ p → p ≤ 57 → runs t a b c p l ≡ true → (ds : List ℕ)
-        → Numeral decimal ds (10 * (10 * (b - 48) + (c - 48)) + (p - 48)) → 10 * (10 * (b - 48) + (c - 48)) + (p - 48) ≤ v → NumberHere v ds l
+        → Numeral decimal ds (10 * (10 * (b - 48) + (c - 48)) + (p - 48)) → 10 * (10 * (b - 48) + (c - 48)) + (p - 48) ≤ v → Digits v ds l
     fourth : (a b c p : ℕ) → 48 ≤ a → a ≤ 57 → 48 ≤ b → b ≤ 57 → 48 ≤ c → c ≤ 57 → 48 ≤ p → p ≤ 57 → runs t a b c p l ≡ true → (ds : List ℕ) (n : ℕ)
-        → Numeral decimal ds n → n ≤ v → NumberHere v ds l
+        → Numeral decimal ds n → n ≤ v → Digits v ds l
 
   -- the bytes end
   here-none : Here []
@@ -145,12 +112,13 @@ module _ (v : ℕ) (t : Limit) (hv : v ≤ 4096) (lim : LimitOf v t) where
     begun b c q k e (negative z) =
         subst (λ (y : ℕ). LineHere v (y ∷ l)) (sym z) (negated v hv l (h .sign b c q (subst (λ (y : ℕ). runs t b c q y l ≡ true) z e)))
     begun b c q k e (begins y z w) =
-        positive v hv (x ∷ l) (with-digit v [] x l (h .first b c q x (omega arith) y z e (x ∷ []) (digit-one x y z) w))
+        positive v hv (x ∷ l) (with-digit [] x l (h .first b c q x (omega arith) y z e (x ∷ []) (digit-one x y z) w))
 
     -- a blank stands after a number
-    ended : (b c p n : ℕ) (ds : List ℕ) → runs t b c p x l ≡ true → Numeral decimal ds n → n ≤ v → x ≡ 32 → NumberHere v ds (x ∷ l)
+    ended : (b c p n : ℕ) (ds : List ℕ) → runs t b c p x l ≡ true → Numeral decimal ds n → n ≤ v → x ≡ 32 → Digits v ds (x ∷ l)
     ended b c p n ds e d m z =
-        subst (λ (y : ℕ). NumberHere v ds (y ∷ l)) (sym z) (with-blank v ds l n d m (h .item b c p (subst (λ (y : ℕ). runs t b c p y l ≡ true) z e)))
+        with-rest ds (x ∷ l) n d m
+        (record { rest = l; split = ap (λ (y : ℕ). y ∷ l) z; then = h .item b c p (subst (λ (y : ℕ). runs t b c p y l ≡ true) z e) })
 
     here-start : (a b c : ℕ) → runs t a b c 10 (x ∷ l) ≡ true → LinesHere v (x ∷ l)
     here-start a b c e =
@@ -167,25 +135,25 @@ module _ (v : ℕ) (t : Limit) (hv : v ≤ 4096) (lim : LimitOf v t) where
         let z = after-zero v t hv lim a b c 48 x (r .0) refl k in
         (l, ap (λ (y : ℕ). y ∷ l) z, h .start b c 48 (subst (λ (y : ℕ). runs t b c 48 y l ≡ true) z (r .1)))
 
-    here-sign : (a b c : ℕ) → runs t a b c 45 (x ∷ l) ≡ true → NumberHere v [] (x ∷ l)
+    here-sign : (a b c : ℕ) → runs t a b c 45 (x ∷ l) ≡ true → Digits v [] (x ∷ l)
     here-sign a b c e =
         let r = runs-cons t a b c 45 x l e in
         let z = after-minus v t hv lim a b c 45 x (r .0) refl in
-        with-digit v [] x l (h .first b c 45 x (omega arith) (z .0) (z .1) (r .1) (x ∷ []) (digit-one x (z .0) (z .1)) (z .2))
+        with-digit [] x l (h .first b c 45 x (omega arith) (z .0) (z .1) (r .1) (x ∷ []) (digit-one x (z .0) (z .1)) (z .2))
 
     here-first : (a b c p : ℕ) → c < 48 → 49 ≤ p → p ≤ 57 → runs t a b c p (x ∷ l) ≡ true → (ds : List ℕ) → Numeral decimal ds (p - 48) → p - 48 ≤ v
-        → NumberHere v ds (x ∷ l)
+        → Digits v ds (x ∷ l)
     here-first a b c p k i j e ds d m = go (after-first v t hv lim a b c p x (r .0) (omega arith) j i k)
       where
         r : (mayFollow t a b c p x ≡ true) × (runs t b c p x l ≡ true)
         r = runs-cons t a b c p x l e
 
-        go : After v (p - 48) x → NumberHere v ds (x ∷ l)
+        go : After v (p - 48) x → Digits v ds (x ∷ l)
         go (blank z) = ended b c p (p - 48) ds (r .1) d m z
-        go (further y z w) = with-digit v ds x l (h .second b c p x k (omega arith) j y z (r .1) (ds ++ x ∷ []) (digit-more ds (p - 48) x y z d) w)
+        go (further y z w) = with-digit ds x l (h .second b c p x k (omega arith) j y z (r .1) (ds ++ x ∷ []) (digit-more ds (p - 48) x y z d) w)
 
     here-second : (a b c p : ℕ) → b < 48 → 48 ≤ c → c ≤ 57 → 48 ≤ p → p ≤ 57 → runs t a b c p (x ∷ l) ≡ true → (ds : List ℕ)
-        → Numeral decimal ds (10 * (c - 48) + (p - 48)) → 10 * (c - 48) + (p - 48) ≤ v → NumberHere v ds (x ∷ l)
+        → Numeral decimal ds (10 * (c - 48) + (p - 48)) → 10 * (c - 48) + (p - 48) ≤ v → Digits v ds (x ∷ l)
     here-second a b c p o kc lc kp lp e ds d m = go (after-second v t hv lim a b c p x (r .0) kp lp kc lc o)
       where
         r : (mayFollow t a b c p x ≡ true) × (runs t b c p x l ≡ true)
@@ -194,12 +162,12 @@ module _ (v : ℕ) (t : Limit) (hv : v ≤ 4096) (lim : LimitOf v t) where
         n : ℕ
         n = 10 * (c - 48) + (p - 48)
 
-        go : After v (10 * (c - 48) + (p - 48)) x → NumberHere v ds (x ∷ l)
+        go : After v (10 * (c - 48) + (p - 48)) x → Digits v ds (x ∷ l)
         go (blank z) = ended b c p n ds (r .1) d m z
-        go (further y z w) = with-digit v ds x l (h .third b c p x kc lc kp lp y z (r .1) (ds ++ x ∷ []) (digit-more ds n x y z d) w)
+        go (further y z w) = with-digit ds x l (h .third b c p x kc lc kp lp y z (r .1) (ds ++ x ∷ []) (digit-more ds n x y z d) w)
 
     here-third : (a b c p : ℕ) → 48 ≤ b → b ≤ 57 → 48 ≤ c → c ≤ 57 → 48 ≤ p → p ≤ 57 → runs t a b c p (x ∷ l) ≡ true → (ds : List ℕ)
-        → Numeral decimal ds (10 * (10 * (b - 48) + (c - 48)) + (p - 48)) → 10 * (10 * (b - 48) + (c - 48)) + (p - 48) ≤ v → NumberHere v ds (x ∷ l)
+        → Numeral decimal ds (10 * (10 * (b - 48) + (c - 48)) + (p - 48)) → 10 * (10 * (b - 48) + (c - 48)) + (p - 48) ≤ v → Digits v ds (x ∷ l)
     here-third a b c p kb lb kc lc kp lp e ds d m = go (after-third v t hv lim a b c p x (r .0) kp lp kc lc kb lb)
       where
         r : (mayFollow t a b c p x ≡ true) × (runs t b c p x l ≡ true)
@@ -208,13 +176,13 @@ module _ (v : ℕ) (t : Limit) (hv : v ≤ 4096) (lim : LimitOf v t) where
         n : ℕ
         n = 10 * (10 * (b - 48) + (c - 48)) + (p - 48)
 
-        go : After v (10 * (10 * (b - 48) + (c - 48)) + (p - 48)) x → NumberHere v ds (x ∷ l)
+        go : After v (10 * (10 * (b - 48) + (c - 48)) + (p - 48)) x → Digits v ds (x ∷ l)
         go (blank z) = ended b c p n ds (r .1) d m z
         go (further y z w) =
-            with-digit v ds x l (h .fourth b c p x kb lb kc lc kp lp y z (r .1) (ds ++ x ∷ []) (10 * n + (x - 48)) (digit-more ds n x y z d) w)
+            with-digit ds x l (h .fourth b c p x kb lb kc lc kp lp y z (r .1) (ds ++ x ∷ []) (10 * n + (x - 48)) (digit-more ds n x y z d) w)
 
     here-fourth : (a b c p : ℕ) → 48 ≤ a → a ≤ 57 → 48 ≤ b → b ≤ 57 → 48 ≤ c → c ≤ 57 → 48 ≤ p → p ≤ 57 → runs t a b c p (x ∷ l) ≡ true → (ds : List ℕ) (n : ℕ)
-        → Numeral decimal ds n → n ≤ v → NumberHere v ds (x ∷ l)
+        → Numeral decimal ds n → n ≤ v → Digits v ds (x ∷ l)
     here-fourth a b c p ka la kb lb kc lc kp lp e ds n d m =
         let r = runs-cons t a b c p x l e in
         ended b c p n ds (r .1) d m (after-fourth v t hv lim a b c p x (r .0) kp lp kc lc kb lb ka la)

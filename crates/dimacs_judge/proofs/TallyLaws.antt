@@ -12,11 +12,11 @@ use Rattle.dimacs.specs.Cnf.{Line, closed, lit, Lines, none, line}
 use Rattle.dimacs.specs.Reading.{clausesAt}
 use Rattle.dimacs.specs.Calls.{adds, allCodes, tallied}
 use Rattle.dimacs.proofs.LineLaws.{lines-read}
-use Rattle.drat_judge.specs.Local.{tally}
+use Rattle.drat_judge.specs.declared.Limit.{Limit}
+use Rattle.drat_judge.specs.Local.{LimitOf, tally}
 use Rattle.drat_judge.proofs.TallyLaws.{tally-append, signed-none}
 use Rattle.dimacs_judge.specs.declared.Judged.the-variants.{Counts, Unsure}
-use Rattle.dimacs_judge.specs.declared.Limit.{Limit}
-use Rattle.dimacs_judge.specs.Local.{LimitOf, runs, runsAt}
+use Rattle.dimacs_judge.specs.Local.{runs, runsAt}
 use Rattle.dimacs_judge.proofs.JudgedLaws.{judged-lines}
 
 line-counts : {v : ℕ} {bs cs : List ℕ} → Line v bs cs → (tally 32 32 bs ≡ length cs) × (tally 10 10 bs ≡ 1)

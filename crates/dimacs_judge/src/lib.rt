@@ -1,20 +1,22 @@
 // Judging by neighbours: whether the bytes from a place on are clause lines, and how many literals and clauses they then are.
 // No state goes from byte to byte, so that the loops take many bytes at once.
+use drat_judge::Limit;
 use drat_judge::choose;
 use drat_judge::in_range;
+use drat_judge::is_above;
+use drat_judge::is_closing;
+use drat_judge::is_near;
+use drat_judge::limit_of;
 use drat_judge::tally_of;
 ghost use mathlib.Core.Path.{_≡_};
-ghost use mathlib.Core.Bool.{_&&_, not};
-ghost use Prim.Native.Nat.{ℕ, _+_, _-_, _≤_, _<_};
-ghost use lib.Dec.{ltb};
-ghost use lib.ListN.{length, drop};
-ghost use Rattle.base.specs.Choice.{pick};
+ghost use mathlib.Core.Bool.{_&&_};
+ghost use Prim.Native.Nat.{ℕ, _≤_};
+ghost use lib.ListN.{length};
 ghost use Rattle.base.specs.Lent.{old};
-ghost use Rattle.drat.specs.Numeral.{inRange};
 ghost use Rattle.drat.specs.declared.Scanned.the-variants.{Whole};
 ghost use Rattle.dimacs.specs.Reading.{clausesAt};
 ghost use Rattle.dimacs.specs.Calls.{tallied};
-ghost use Rattle.dimacs_judge.specs.Local.{near, lineNext, raised, LimitOf, fits, above, mayFollow, runsAt};
+ghost use Rattle.dimacs_judge.specs.Local.{lineNext, mayFollow, runsAt};
 ghost use Rattle.dimacs_judge.specs.declared.Judged.the-variants.{Counts};
 
 // Judged clause lines, with the numbers of literals and of clauses; or not.
@@ -23,82 +25,15 @@ pub enum Judged {
     Unsure,
 }
 
-// The largest number allowed: its last digit as a byte, and of the three digits before it the byte below.
-struct Limit {
-    ones: u8,
-    tens: u8,
-    hundreds: u8,
-    thousands: u8,
-}
-
-fn limit_of(v: u32) -> Limit
-    requires { ⌜ v ≤ 4096 ⌝ }
-    ensures { λ r. ⌜ LimitOf v r ⌝ }
-{
-    Limit {
-        ones: (48 + v % 10) as u8,
-        tens: (47 + v / 10 % 10) as u8,
-        hundreds: (47 + v / 100 % 10) as u8,
-        thousands: (47 + v / 1000) as u8,
-    }
-}
-
-// A digit, if it is a byte of a line. The bound is 127 since that makes one comparison of signed bytes.
-fn is_near(x: u8) -> bool
-    ensures { λ r. ⌜ r ≡ near x ⌝ }
-{
-    in_range(x, 48, 127)
-}
-
-fn one(t: bool) -> u8
-    ensures { λ r. ⌜ (r ≡ pick t 1 0) × (r ≤ 1) ⌝ }
-{
-    if t { 1 } else { 0 }
-}
-
-fn byte_if(t: bool, b: u8) -> u8
-    ensures { λ r. ⌜ r ≡ pick t b 0 ⌝ }
-{
-    if t { b } else { 0 }
-}
-
-fn raise(b: u8) -> u8
-    ensures { λ r. ⌜ r ≡ raised b ⌝ }
-{
-    if b < 48 { 48 } else { b }
-}
-
 // Whether x may stand after c p, whatever the numbers are.
 fn line_next(c: u8, p: u8, x: u8) -> bool
     ensures { λ r. ⌜ r ≡ lineNext c p x ⌝ }
 {
     let feed = x == 10;
-    let closing = (p == 48) & !is_near(c);
+    let closing = is_closing(c, p);
     let known = in_range(x, 48, 57) | (feed | choose(is_near(p), x == 32, x == 45));
     let unsigned = !((p == 45) & !in_range(x, 49, 127));
     known & (unsigned & choose(feed, closing, !closing))
-}
-
-// Whether the number that the digits among b c p x end with is within the limit.
-fn number_fits(t: Limit, b: u8, c: u8, p: u8, x: u8) -> bool
-    requires { ⌜ (t .tens ≤ 56) × (t .hundreds ≤ 56) × (t .thousands ≤ 56) ⌝ }
-    ensures { λ r. ⌜ r ≡ fits t b c p x ⌝ }
-{
-    let two = is_near(p);
-    let three = two & is_near(c);
-    let k = x <= t.ones;
-    let l = raise(p) <= t.tens + one(k);
-    let m = raise(byte_if(two, c)) <= t.hundreds + one(l);
-    raise(byte_if(three, b)) <= t.thousands + one(m)
-}
-
-// Whether the digit x makes a number above the limit, or is a fifth digit.
-fn is_above(t: Limit, a: u8, b: u8, c: u8, p: u8, x: u8) -> bool
-    requires { ⌜ (t .tens ≤ 56) × (t .hundreds ≤ 56) × (t .thousands ≤ 56) ⌝ }
-    ensures { λ r. ⌜ r ≡ above t a b c p x ⌝ }
-{
-    let fifth = is_near(a) & (is_near(b) & (is_near(c) & is_near(p)));
-    in_range(x, 48, 57) & (fifth | !number_fits(t, b, c, p, x))
 }
 
 // Whether x may stand after a b c p.

@@ -1,6 +1,6 @@
 -- The fill, turn by turn: where all lines are right, each token is a literal or a line's end, and there is room for it.
 use Prim.Native.Nat.{ℕ, _+_, _≤_, _<_}
-use mathlib.Core.Path.{_≡_, refl, sym, ap, _∙_, subst}
+use mathlib.Core.Path.{_≡_, refl, sym, ap, ap₂, _∙_, subst}
 use mathlib.Core.List.{List, [], _∷_, _++_}
 use mathlib.Core.Bool.{Bool, true, false}
 use mathlib.Core.Logic.{⊎-elim}
@@ -9,20 +9,23 @@ use lib.Dec.{eqb}
 use lib.ListN.{length, getD, drop, set, length-append}
 use lib.Seq.{getD-drop}
 use borrow.Author.Tests.{eqb-true, eqb-false}
+use Rattle.base.proofs.MemberLaws.{word-inside}
 use Rattle.base.proofs.Truth.{split}
 use Rattle.drat.specs.Filled.{codesOf}
-use Rattle.drat.specs.Reading.{lineFrom}
+use Rattle.drat.specs.Reading.{signedFrom}
 use Rattle.drat.specs.declared.Scanned.{Scanned}
 use Rattle.drat.specs.declared.Scanned.the-variants.{Whole, Fault}
 use Rattle.drat.specs.declared.Token.{Token}
 use Rattle.drat.specs.declared.Token.the-variants.{Lit, Stop, Bad}
 use Rattle.drat.proofs.Complete.{signed-first}
-use Rattle.drat.proofs.Sound.{line-sound, line-stop}
-use Rattle.dimacs.specs.Reading.{within, Clauses, clauses, wrongLine, clausesFrom, clausesAt}
+use Rattle.drat.proofs.Sound.{lit-parts}
+use Rattle.drat_read.specs.Known.{IsNumber}
+use Rattle.dimacs.specs.Reading.{lineFrom, within, Clauses, clauses, wrongLine, clausesFrom, clausesAt}
 use Rattle.dimacs.specs.Calls.{adds, allCodes, tallied, LineScan}
+use Rattle.dimacs.proofs.LineTokens.{line-sound, line-signed, line-stop}
 use Rattle.dimacs.proofs.LineLaws.{within-was, within-stops, wrong-clauses, clauses-part, Ahead, over, on, clauses-sound}
 use Rattle.dimacs.proofs.Turns.{prepend, Turn, turn-lit, turn-stop, turn-bad, turn-end, turn-cut, lit-moves, stop-moves, codes-kept, ends-kept}
-use Rattle.dimacs_read.specs.Known.{LinesFit, IsLit}
+use Rattle.dimacs_read.specs.Known.{LinesFit}
 
 -- ---- how many words the clauses take
 
@@ -125,20 +128,26 @@ module _ (s : List ℕ) (v from : ℕ) (codes₀ ends₀ : List ℕ) (f : LinesF
         go (lit-here c j a e) = absurd (a k)
         go (stop-here a e) = e
 
-    pub lit-known : at < length s → (getD s at 0 ≡ 48 → ⊥) → IsLit (lineFrom at (drop at s))
+    pub lit-known : at < length s → (getD s at 0 ≡ 48 → ⊥) → IsNumber s (signedFrom at (drop at s))
     lit-known h k =
-        let q = is-lit h k in record { code = q .0; next = q .1; is = within-was v (lineFrom at (drop at s)) (q .0) (q .1) (q .2) .0 }
+        let q = is-lit h k in
+        let w = line-signed s at (q .0) (q .1) (within-was v (lineFrom at (drop at s)) (q .0) (q .1) (q .2) .0) in
+        record { code = q .0; next = w .0; is = w .1; inside = word-inside s (w .0) (λ z. omega (arith, z, w .3)); below = omega (arith, w .3) }
 
-    lit-within : at < length s → (getD s at 0 ≡ 48 → ⊥) → (c j : ℕ) → lineFrom at (drop at s) ≡ Lit c j → within v (lineFrom at (drop at s)) ≡ Lit c j
-    lit-within h k c j e = let q = is-lit h k in q .2 ∙ sym (within-was v (lineFrom at (drop at s)) (q .0) (q .1) (q .2) .0) ∙ e
+    lit-within : at < length s → (getD s at 0 ≡ 48 → ⊥) → (c k : ℕ) → signedFrom at (drop at s) ≡ Lit c k → within v (lineFrom at (drop at s)) ≡ Lit c (k + 1)
+    lit-within h n c k e =
+        let q = is-lit h n in
+        let w = line-signed s at (q .0) (q .1) (within-was v (lineFrom at (drop at s)) (q .0) (q .1) (q .2) .0) in
+        let z = lit-parts (q .0) (w .0) c k (sym (w .1) ∙ e) in
+        q .2 ∙ ap₂ Lit (z .0) (omega (arith, z .1, w .2))
 
     -- a literal is stored
-    pub lit-step : at < length s → (getD s at 0 ≡ 48 → ⊥) → (c j : ℕ) → lineFrom at (drop at s) ≡ Lit c j
-        → (start < j) × (at < j) × (j ≤ length s) × Turn s v from codes₀ ends₀ (set codes n c) ends start j (n + 1) m
-    lit-step h k c j e =
-        let w = lit-within h k c j e in
-        let mv = lit-moves s v from codes₀ ends₀ codes ends start at n m t c j w in
-        (omega (arith, t .within-s, mv), mv .0, mv .1, turn-lit s v from codes₀ ends₀ codes ends start at n m t h c j w)
+    pub lit-step : at < length s → (getD s at 0 ≡ 48 → ⊥) → (c k : ℕ) → signedFrom at (drop at s) ≡ Lit c k
+        → (start < k + 1) × (at < k + 1) × (k + 1 ≤ length s) × Turn s v from codes₀ ends₀ (set codes n c) ends start (k + 1) (n + 1) m
+    lit-step h z c k e =
+        let w = lit-within h z c k e in
+        let mv = lit-moves s v from codes₀ ends₀ codes ends start at n m t c (k + 1) w in
+        (omega (arith, t .within-s, mv), mv .0, mv .1, turn-lit s v from codes₀ ends₀ codes ends start at n m t h c (k + 1) w)
 
     -- an end is stored
     pub stop-step : at < length s → getD s at 0 ≡ 48 → (at + 2 ≤ length s) × Turn s v from codes₀ ends₀ codes (set ends m n) (at + 2) (at + 2) n (m + 1)
@@ -148,17 +157,17 @@ module _ (s : List ℕ) (v from : ℕ) (codes₀ ends₀ : List ℕ) (f : LinesF
 
   module _ (codes ends : List ℕ) (start at n m : ℕ) (t : Turn s v from codes₀ ends₀ codes ends start at n m) where
     -- after a literal the line goes on
-    pub lit-turn : at < length s → (getD s at 0 ≡ 48 → ⊥) → (c j : ℕ) → lineFrom at (drop at s) ≡ Lit c j
-        → (j < length s) × Turn s v from codes₀ ends₀ (set codes n c) ends start j (n + 1) m
-    lit-turn h k c j e =
-        let w = lit-step codes ends start at n m t h k c j e in (goes-on (set codes n c) ends start j (n + 1) m (w .3) (w .0), w .3)
+    pub lit-turn : at < length s → (getD s at 0 ≡ 48 → ⊥) → (c k : ℕ) → signedFrom at (drop at s) ≡ Lit c k
+        → (k + 1 < length s) × Turn s v from codes₀ ends₀ (set codes n c) ends start (k + 1) (n + 1) m
+    lit-turn h z c k e =
+        let w = lit-step codes ends start at n m t h z c k e in (goes-on (set codes n c) ends start (k + 1) (n + 1) m (w .3) (w .0), w .3)
 
     -- there is room for it
     pub lit-room : at < length s → (getD s at 0 ≡ 48 → ⊥) → n < length codes
     lit-room h k =
         let q = lit-known codes ends start at n m t h k in
         let w = lit-step codes ends start at n m t h k (q .code) (q .next) (q .is) in
-        let z = turn-fits (set codes n (q .code)) ends start (q .next) (n + 1) m (w .3) in
+        let z = turn-fits (set codes n (q .code)) ends start (q .next + 1) (n + 1) m (w .3) in
         omega (arith, z .0, codes-kept s v from codes₀ ends₀ codes ends start at n m t)
 
     pub stop-room : at < length s → getD s at 0 ≡ 48 → m < length ends

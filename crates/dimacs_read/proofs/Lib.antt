@@ -1,4 +1,3 @@
 pub mod HeadingLaws
 pub mod CallLaws
-pub mod LiteralLaws
 pub mod FillLaws

@@ -13,6 +13,7 @@ ghost use Rattle.dimacs.specs.Calls.{readCnfOf, cnfRead};
 mod fill;
 mod heading;
 mod lines;
+mod place;
 
 // 17, with the place of the first wrong line; then 2. All lines are judged before anything is filled.
 // dimacs/specs/Calls.antt: readCnfOf, and cnfRead for the answer.

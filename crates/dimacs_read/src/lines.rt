@@ -1,15 +1,14 @@
 // The lines of the clauses: how many literals and clauses they are, or where the first wrong one starts.
+use crate::place::line_at;
 use dimacs_judge::Judged;
 use dimacs_judge::judge;
 use drat::Scanned;
 use drat::Token;
-use drat_read::place::line_at;
 ghost use mathlib.Core.Path.{_≡_};
 ghost use Prim.Native.Nat.{_≤_};
 ghost use lib.ListN.{length, drop};
 ghost use Rattle.base.specs.Lent.{old};
-ghost use Rattle.drat.specs.Reading.{lineFrom};
-ghost use Rattle.dimacs.specs.Reading.{within, clausesAt};
+ghost use Rattle.dimacs.specs.Reading.{lineFrom, within, clausesAt};
 ghost use Rattle.dimacs.specs.Calls.{tallied};
 
 // What stands at a place of a line, where no magnitude is above v.

@@ -1,8 +1,8 @@
 -- The place after a step, literal by literal; and what a call of the reader answers, from what its scans answer.
-use Prim.Native.Nat.{ℕ, zero, suc, _≤_, _<_}
+use Prim.Native.Nat.{ℕ, zero, suc, _-_, _≤_, _<_}
 use mathlib.Core.Path.{_≡_, refl, sym, ap, ap₂, _∙_}
 use mathlib.Core.List.{List, [], _∷_}
-use mathlib.Core.Bool.{Bool, true, _||_}
+use mathlib.Core.Bool.{Bool, true, false, _||_}
 use native.Mathlib.Omega.{arith}
 use lib.Dec.{ltb}
 use lib.ListN.{length, drop, take}
@@ -11,8 +11,10 @@ use borrow.Author.Tests.{lt-ltb, le-ltb}
 use Rattle.base.specs.Choice.{pick}
 use Rattle.base.specs.Answer.{accepted, refused}
 use Rattle.drat.specs.Grammar.{Step}
-use Rattle.drat.specs.Reading.{Part, whole, broken, consPart, One, got, fault, asStep, oneStep, Proof, steps, faultAt, readProof}
-use Rattle.drat.specs.Filled.{endOf, counted, codesOf, Scan, Filling, refusing, filling, answerOf, readOf, read, ReadCall, firstBy, firstOf, first}
+use Rattle.drat.specs.Reading.{lead, Part, whole, broken, consPart, One, got, fault, asStep, oneStep, Proof, steps, faultAt, readProof}
+use Rattle.drat.specs.Filled.{endOf, counted, codesOf, Scan, Filling, refusing, filling, answerOf, readOf, read, ReadCall, firstToken, firstBy, firstOf}
+use Rattle.drat.specs.Filled.{first}
+use Rattle.drat.specs.Writing.{part}
 use Rattle.drat.specs.declared.Kind.{Kind}
 use Rattle.drat.specs.declared.Format.{Format}
 use Rattle.drat.specs.declared.Scanned.{Scanned}
@@ -20,7 +22,8 @@ use Rattle.drat.specs.declared.Scanned.the-variants.{Whole, Fault}
 use Rattle.drat.specs.declared.Read.{Read}
 use Rattle.drat.specs.declared.Read.the-variants.{Filled, Broken, Short}
 use Rattle.drat.proofs.Places.{stepAt, step-moves}
-use Rattle.drat.proofs.Sound.{Bytes}
+use Rattle.drat.proofs.Separators.{lead-le}
+use Rattle.drat.proofs.Sound.{Bytes, bytes-drop}
 
 unfoldable pub endPart : ℕ → Part → ℕ
 endPart i (whole cs j) = j
@@ -141,16 +144,27 @@ read-one Short (Filled i j) e = let z : _≡_ {A = ℕ} 0 1 = cc in absurd (omeg
 read-one Short (Broken p) e = let z : _≡_ {A = ℕ} 2 13 = cc in absurd (omega arith)
 read-one Short Short e = refl
 
--- the first step alone: its part is empty only where no step is whole
-pub first-part : (f : Format) (s : List ℕ) → Bytes s → first (take (endOf 0 (oneStep f 0 s)) s) ≡ firstOf f s
-unfolding endOf firstBy
-first-part f s hb = go (oneStep f 0 s) refl
+-- the first token's place is in the input
+pub first-within : (f : Format) (s : List ℕ) → firstToken f s ≤ length s
+first-within f s = go (ltb (lead f s) (length s))
   where
-    some : (j : ℕ) (l : List ℕ) → 0 < j → j ≤ length l → first (take j l) ≡ accepted (take j l)
+    go : (t : Bool) → pick t (lead f s) 0 ≤ length s
+    go true = lead-le f s
+    go false = omega arith
+
+-- the first step alone: its part is empty only where no step is whole
+pub first-part : (f : Format) (s : List ℕ) → Bytes s → (i : ℕ) → i ≤ length s
+    → first i (part i (endOf i (oneStep f i (drop i s))) s) ≡ firstBy i s (oneStep f i (drop i s))
+unfolding endOf firstBy
+first-part f s hb i h = go (oneStep f i (drop i s)) refl
+  where
+    some : (j : ℕ) (l : List ℕ) → 0 < j → j ≤ length l → first i (take j l) ≡ accepted (take j l)
     some zero l p q = absurd (omega arith)
     some (suc j) [] p q = absurd (omega arith)
     some (suc j) (b ∷ l) p q = refl
 
-    go : (o : One) → oneStep f 0 s ≡ o → first (take (endOf 0 o) s) ≡ firstBy s o
-    go (got t j) e = let m = step-moves f 0 s t j hb e in some j s (m .0) (omega (arith, m .1))
-    go fault e = refl
+    go : (o : One) → oneStep f i (drop i s) ≡ o → first i (part i (endOf i o) s) ≡ firstBy i s o
+    go (got t j) e = let m = step-moves f i (drop i s) t j (bytes-drop i s hb) e in some (j - i) (drop i s) (omega (arith, m .0)) (omega (arith, m .1))
+    go fault e =
+        let z : i - i ≡ 0 = omega arith in
+        ap (λ (n : ℕ). first i (take n (drop i s))) z

@@ -5,23 +5,20 @@ use mathlib.Core.List.{List, [], _∷_, _++_}
 use native.Mathlib.Omega.{arith}
 use lib.ListN.{length, getD, drop, length-append, length-drop, drop-of-length-le}
 use lib.Seq.{drop-drop, getD-drop}
-use Rattle.drat.specs.Grammar.{Step, opens, ends}
+use Rattle.drat.specs.Grammar.{Step, stop}
 use Rattle.drat.specs.Reading.{signedFrom, token, opening, Part, whole, broken, consPart, body, One, got, fault, asStep, oneStep, Proof, steps, faultAt}
-use Rattle.drat.specs.Reading.{consStep, stepsFrom, readProof}
+use Rattle.drat.specs.Reading.{lead, past, consStep, stepsFrom, readProof}
 use Rattle.drat.specs.declared.Kind.{Kind}
 use Rattle.drat.specs.declared.Format.{Format}
 use Rattle.drat.specs.declared.Token.{Token}
 use Rattle.drat.specs.declared.Token.the-variants.{Lit, Stop, Bad}
 use Rattle.drat.specs.declared.Opening.the-variants.{Opens, Wrong}
-use Rattle.drat.proofs.Complete.{signed-first, number-length, body-length, ends-some, body-lit, body-stop, body-bad, one-opens, one-wrong, steps-got}
+use Rattle.drat.proofs.Complete.{signed-first, number-length, body-length, stop-some, none-left, body-lit, body-stop, body-bad, one-opens, one-wrong}
+use Rattle.drat.proofs.Complete.{steps-got}
 use Rattle.drat.proofs.Complete.{steps-not}
 use Rattle.drat.proofs.Steps.{next}
-use Rattle.drat.proofs.Sound.{Bytes, signed-sound, token-sound, token-stop, opening-sound, step-sound}
-
-none-left : (f : Format) (n i : ℕ) → stepsFrom f n i [] ≡ steps []
-unfolding stepsFrom
-none-left f zero i = refl
-none-left f (suc n) i = refl
+use Rattle.drat.proofs.Separators.{lead-le}
+use Rattle.drat.proofs.Sound.{Bytes, bytes-drop, signed-sound, token-sound, token-stop, opening-sound, step-sound}
 
 -- each token takes a byte, and so does a number
 pub signed-moves : (i : ℕ) (l : List ℕ) (c j : ℕ) → signedFrom i l ≡ Lit c j → (i < j) × (j ≤ i + length l)
@@ -38,12 +35,12 @@ lit-moves f i l c j hb e =
 pub stop-moves : (f : Format) (i : ℕ) (l : List ℕ) (j : ℕ) → token f i l ≡ Stop j → (i < j) × (j ≤ i + length l)
 stop-moves f i l j e =
     let r = token-stop f i l j e in
-    omega (arith, r .place, ends-some f, ap length (r .split) ∙ length-append (ends f) (r .rest))
+    omega (arith, r .place, stop-some f, ap length (r .split) ∙ length-append (stop f) (r .rest))
 
 pub open-moves : (f : Format) (i : ℕ) (l : List ℕ) (k : Kind) (j : ℕ) → opening f i l ≡ Opens k j → (i ≤ j) × (j ≤ i + length l)
 open-moves f i l k j e =
     let r = opening-sound f i l k j e in
-    omega (arith, r .place, ap length (r .split) ∙ length-append (opens f k) (r .rest))
+    omega (arith, r .place, ap length (r .split) ∙ length-append (r .bytes) (r .rest))
 
 pub step-moves : (f : Format) (i : ℕ) (l : List ℕ) (s : Step) (j : ℕ) → Bytes l → oneStep f i l ≡ got s j → (i < j) × (j ≤ i + length l)
 step-moves f i l s j hb e =
@@ -52,13 +49,10 @@ step-moves f i l s j hb e =
       arith,
       r .place,
       body-length (r .spelled),
-      length-append (opens f (s .kind)) (r .bytes),
+      length-append (r .front) (r .bytes),
       ap length (r .split)
-          ∙ length-append (opens f (s .kind) ++ r .bytes) (r .rest),
+          ∙ length-append (r .front ++ r .bytes) (r .rest),
     )
-
-bytes-drop : (n : ℕ) (l : List ℕ) → Bytes l → Bytes (drop n l)
-bytes-drop n l h k = rw getD-drop (h (n + k))
 
 pub shorter : (i j : ℕ) (l : List ℕ) → i < j → j ≤ i + length l → length (drop (j - i) l) < length l
 shorter i j l p q = simp length-drop (omega arith)
@@ -82,6 +76,10 @@ body-depth f (suc n) (suc m) i l hb p q = go (token f i l) refl (λ j. body-dept
     go (Stop j) t ih = body-stop f n i l j t ∙ sym (body-stop f m i l j t)
     go Bad t ih = body-bad f n i l t ∙ sym (body-bad f m i l t)
 
+-- a step and what may be passed after it
+pub past-moves : (f : Format) (i : ℕ) (l : List ℕ) (j : ℕ) → i ≤ j → j ≤ i + length l → (j ≤ past f i l j) × (past f i l j ≤ i + length l)
+past-moves f i l j p q = omega (arith, lead-le f (drop (j - i) l), length-drop (j - i) l)
+
 pub steps-depth : (f : Format) (n m i : ℕ) (l : List ℕ) → Bytes l → length l ≤ n → length l ≤ m → stepsFrom f n i l ≡ stepsFrom f m i l
 unfolding stepsFrom
 steps-depth f zero zero i l hb p q = refl
@@ -96,8 +94,10 @@ steps-depth f (suc n) (suc m) i (b ∷ l) hb p q = go (oneStep f i (b ∷ l)) re
         → stepsFrom f n j (drop (j - i) (b ∷ l)) ≡ stepsFrom f m j (drop (j - i) (b ∷ l))) → stepsFrom f (suc n) i (b ∷ l) ≡ stepsFrom f (suc m) i (b ∷ l)
     go (got s j) o ih =
         let v = step-moves f i (b ∷ l) s j hb o in
-        let w = shorter i j (b ∷ l) (v .0) (v .1) in
-        steps-got f n i (b ∷ l) s j o ∙ ap (consStep s) (ih j (omega arith) (omega arith)) ∙ sym (steps-got f m i (b ∷ l) s j o)
+        let x = past-moves f i (b ∷ l) j (omega (arith, v .0)) (v .1) in
+        let k = past f i (b ∷ l) j in
+        let w = shorter i k (b ∷ l) (omega (arith, v .0, x .0)) (x .1) in
+        steps-got f n i (b ∷ l) s j o ∙ ap (consStep s) (ih k (omega (arith, w)) (omega (arith, w))) ∙ sym (steps-got f m i (b ∷ l) s j o)
     go fault o ih = steps-not f n i b l o ∙ sym (steps-not f m i b l o)
 
 -- literals, a step and all steps from place i of s
@@ -109,6 +109,10 @@ stepAt f s i = oneStep f i (drop i s)
 
 unfoldable pub proofAt : Format → List ℕ → ℕ → Proof
 proofAt f s i = stepsFrom f (length s) i (drop i s)
+
+-- the place after what may be passed at place i
+abbrev pub tokenAt : Format → List ℕ → ℕ → ℕ
+tokenAt f s i = i + lead f (drop i s)
 
 module _ (f : Format) (s : List ℕ) (hb : Bytes s) where
   drops : (i j : ℕ) → i ≤ j → drop (j - i) (drop i s) ≡ drop j s
@@ -164,13 +168,18 @@ module _ (f : Format) (s : List ℕ) (hb : Bytes s) where
   unfolding stepAt
   wrong-at i e = one-wrong f i (drop i s) e
 
-  pub got-at : (i : ℕ) → i ≤ length s → (t : Step) (j : ℕ) → stepAt f s i ≡ got t j → proofAt f s i ≡ consStep t (proofAt f s j)
+  pub got-at : (i : ℕ) → i ≤ length s → (t : Step) (j : ℕ) → stepAt f s i ≡ got t j → proofAt f s i ≡ consStep t (proofAt f s (tokenAt f s j))
   unfolding stepAt proofAt
   got-at i h t j e =
       let v = step-moves f i (drop i s) t j (bytes-drop i s hb) e in
+      let k : past f i (drop i s) j ≡ tokenAt f s j = ap (λ (l : List ℕ). j + lead f l) (drops i j (omega (arith, v .0))) in
       steps-depth f (length s) (suc (length s)) i (drop i s) (bytes-drop i s hb) (rest-le i) (omega (arith, rest-le i))
       ∙ steps-got f (length s) i (drop i s) t j e
-      ∙ ap (λ (l : List ℕ). consStep t (stepsFrom f (length s) j l)) (drops i j (omega arith))
+      ∙ ap (λ (x : ℕ). consStep t (stepsFrom f (length s) x (drop (x - i) (drop i s)))) k
+      ∙ ap (λ (l : List ℕ). consStep t (stepsFrom f (length s) (tokenAt f s j) l)) (drops i (tokenAt f s j) (omega (arith, v .0)))
+
+  pub token-le : (i : ℕ) → i ≤ length s → tokenAt f s i ≤ length s
+  token-le i h = omega (arith, lead-le f (drop i s), length-drop i s)
 
   pub fault-at : (i : ℕ) → i < length s → stepAt f s i ≡ fault → proofAt f s i ≡ faultAt i
   unfolding stepAt proofAt
@@ -184,6 +193,6 @@ module _ (f : Format) (s : List ℕ) (hb : Bytes s) where
   unfolding proofAt
   end-at i h = ap (stepsFrom f (length s) i) (drop-of-length-le s h) ∙ none-left f (length s) i
 
-pub proof-at-zero : (f : Format) (s : List ℕ) → readProof f s ≡ proofAt f s 0
+pub proof-at-zero : (f : Format) (s : List ℕ) → readProof f s ≡ proofAt f s (tokenAt f s 0)
 unfolding readProof proofAt
-proof-at-zero f s = refl
+proof-at-zero f s = let e : lead f s ≡ tokenAt f s 0 = omega arith in ap (λ (k : ℕ). stepsFrom f (length s) k (drop k s)) e

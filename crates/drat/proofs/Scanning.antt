@@ -15,7 +15,8 @@ use Rattle.drat.specs.declared.Scanned.the-variants.{Whole, Fault}
 use Rattle.drat.specs.declared.Token.the-variants.{Lit, Stop, Bad}
 use Rattle.drat.specs.declared.Opening.the-variants.{Opens, Wrong}
 use Rattle.drat.proofs.Sound.{Bytes, steps-fault, steps-part}
-use Rattle.drat.proofs.Places.{bodyAt, stepAt, proofAt, lit-at, stop-at, bad-at, opens-at, wrong-at, got-at, fault-at, end-at, proof-at-zero}
+use Rattle.drat.proofs.Places.{bodyAt, stepAt, proofAt, tokenAt, token-le, lit-at, stop-at, bad-at, opens-at, wrong-at, got-at, fault-at, end-at}
+use Rattle.drat.proofs.Places.{proof-at-zero}
 
 -- what was read before, in front of the rest
 unfoldable pub prepend : List ℕ → Part → Part
@@ -94,7 +95,7 @@ pub record Outer (f : Format) (s codes₀ ends₀ kinds₀ codes ends kinds : Li
   pub ss : List Step
   pub within : at ≤ length s
   pub small : (n ≤ at) × (m ≤ at)
-  pub read : proofAt f s 0 ≡ prependSteps ss (proofAt f s at)
+  pub read : readProof f s ≡ prependSteps ss (proofAt f s at)
   pub count : (n ≡ length (codesOf ss)) × (m ≡ length ss)
   pub codes-held : codes ≡ sets codes₀ 0 (codesOf ss)
   pub ends-held : ends ≡ sets ends₀ 0 (endsFrom 0 ss)
@@ -126,13 +127,13 @@ inner-more f s codes₀ codes at₀ n₀ at n c j hb r e =
       held = store-next codes₀ _ (r .ds) n₀ n c (r .held) (r .count);
     }
 
-pub outer-start : (f : Format) (s codes ends kinds : List ℕ) → Outer f s codes ends kinds codes ends kinds 0 0 0
+pub outer-start : (f : Format) (s codes ends kinds : List ℕ) → Bytes s → Outer f s codes ends kinds codes ends kinds (tokenAt f s 0) 0 0
 unfolding codesOf endsFrom kindsOf
-outer-start f s codes ends kinds = record {
+outer-start f s codes ends kinds hb = record {
   ss = [];
-  within = omega arith;
+  within = token-le f s hb 0 (omega arith);
   small = omega arith;
-  read = steps-nil (proofAt f s 0);
+  read = proof-at-zero f s ∙ steps-nil (proofAt f s (tokenAt f s 0));
   count =
       (refl, refl);
   codes-held = refl;
@@ -145,7 +146,7 @@ module _ (f : Format) (s codes₀ ends₀ kinds₀ codes₁ ends kinds : List �
   -- a whole step
   pub outer-more : (k : Kind) (first : ℕ) → opening f start (drop start s) ≡ Opens k first → (codes : List ℕ) (at n j : ℕ)
       → Inner f s codes₁ first n₁ codes at n → token f at (drop at s) ≡ Stop j
-      → Outer f s codes₀ ends₀ kinds₀ codes (set ends m n) (set kinds m (kindNumber k)) j n (m + 1)
+      → Outer f s codes₀ ends₀ kinds₀ codes (set ends m n) (set kinds m (kindNumber k)) (tokenAt f s j) n (m + 1)
   unfolding asStep prepend
   outer-more k first e codes at n j r t =
       let a = opens-at f s hb start (o .within) k first e in
@@ -157,10 +158,10 @@ module _ (f : Format) (s codes₀ ends₀ kinds₀ codes₁ ends kinds : List �
       let v : n ≡ 0 + length (codesOf (o .ss)) + length (r .ds) = omega (arith, r .count, o .count) in
       record {
         ss = o .ss ++ stepOf k (r .ds) ∷ [];
-        within = b .2;
+        within = token-le f s hb j (b .2);
         small = omega (arith, r .small, r .after, o .small, a .1, b .1);
         read = o .read ∙ ap (prependSteps (o .ss)) (got-at f s hb start (o .within) (stepOf k (r .ds)) j g)
-            ∙ steps-snoc (o .ss) (stepOf k (r .ds)) (proofAt f s j);
+            ∙ steps-snoc (o .ss) (stepOf k (r .ds)) (proofAt f s (tokenAt f s j));
         count = (
           omega (arith, r .count, o .count, ap length c ∙ length-append (codesOf (o .ss)) (r .ds)),
           omega (arith, o .count, length-append (o .ss) (stepOf k (r .ds) ∷ [])),
@@ -177,7 +178,7 @@ module _ (f : Format) (s codes₀ ends₀ kinds₀ codes₁ ends kinds : List �
   stopped : proofAt f s start ≡ faultAt start → (codes ends′ kinds′ : List ℕ) → Scan f s codes₀ ends₀ kinds₀ codes ends′ kinds′ (Fault start)
   unfolding prependSteps counted
   stopped e codes ends′ kinds′ =
-      let p : readProof f s ≡ faultAt start = proof-at-zero f s ∙ o .read ∙ ap (prependSteps (o .ss)) e in
+      let p : readProof f s ≡ faultAt start = o .read ∙ ap (prependSteps (o .ss)) e in
       record { answer = sym (ap counted p); filled = λ ss q. absurd (steps-fault ss start (sym p ∙ q)) }
 
   pub outer-wrong : start < length s → opening f start (drop start s) ≡ Wrong → (codes ends′ kinds′ : List ℕ)
@@ -196,7 +197,7 @@ module _ (f : Format) (s codes₀ ends₀ kinds₀ codes₁ ends kinds : List �
   pub outer-end : length s ≤ start → Scan f s codes₀ ends₀ kinds₀ codes₁ ends kinds (Whole n₁ m)
   unfolding prependSteps counted
   outer-end h =
-      let p : readProof f s ≡ steps (o .ss) = proof-at-zero f s ∙ o .read ∙ ap (prependSteps (o .ss)) (end-at f s hb start h) ∙ ap steps (append-nil (o .ss)) in
+      let p : readProof f s ≡ steps (o .ss) = o .read ∙ ap (prependSteps (o .ss)) (end-at f s hb start h) ∙ ap steps (append-nil (o .ss)) in
       record {
         answer = ap₂ Whole (o .count .0) (o .count .1) ∙ sym (ap counted p);
         filled = λ ss q. let e = steps-part (o .ss) ss (sym p ∙ q) in (

@@ -23,18 +23,18 @@ use Rattle.drat.proofs.Steps.{step-length, numbers-sets, opens-le, ends
 more-digit : (n : ℕ) (ds : List ℕ) → 10 ≤ n → bytesOf decimal (n / 10) ≡ ds → bytesOf decimal n ≡ ds ++ (48 + n % 10) ∷ []
 more-digit n ds h e = bytes-below decimal (omega arith) n h ∙ ap (λ (bs : List ℕ). bs ++ (48 + n % 10) ∷ []) e
 
-digits-1 : (n : ℕ) → 0 < n → n < 10 → bytesOf decimal n ≡ (48 + n) ∷ []
+pub digits-1 : (n : ℕ) → 0 < n → n < 10 → bytesOf decimal n ≡ (48 + n) ∷ []
 digits-1 n h k = bytes-top decimal (omega arith) n h k
 
-digits-2 : (n : ℕ) → 10 ≤ n → n < 100 → bytesOf decimal n ≡ (48 + n / 10) ∷ (48 + n % 10) ∷ []
+pub digits-2 : (n : ℕ) → 10 ≤ n → n < 100 → bytesOf decimal n ≡ (48 + n / 10) ∷ (48 + n % 10) ∷ []
 digits-2 n h k = more-digit n _ h (digits-1 (n / 10) (omega arith) (omega arith))
 
-digits-3 : (n : ℕ) → 100 ≤ n → n < 1000 → bytesOf decimal n ≡ (48 + n / 100) ∷ (48 + n / 10 % 10) ∷ (48 + n % 10) ∷ []
+pub digits-3 : (n : ℕ) → 100 ≤ n → n < 1000 → bytesOf decimal n ≡ (48 + n / 100) ∷ (48 + n / 10 % 10) ∷ (48 + n % 10) ∷ []
 digits-3 n h k =
     let e : n / 10 / 10 ≡ n / 100 = omega arith in
     more-digit n _ (omega arith) (digits-2 (n / 10) (omega arith) (omega arith)) ∙ ap (λ (d : ℕ). (48 + d) ∷ (48 + n / 10 % 10) ∷ (48 + n % 10) ∷ []) e
 
-digits-4 : (n : ℕ) → 1000 ≤ n → n < 10000 → bytesOf decimal n ≡ (48 + n / 1000) ∷ (48 + n / 100 % 10) ∷ (48 + n / 10 % 10) ∷ (48 + n % 10) ∷ []
+pub digits-4 : (n : ℕ) → 1000 ≤ n → n < 10000 → bytesOf decimal n ≡ (48 + n / 1000) ∷ (48 + n / 100 % 10) ∷ (48 + n / 10 % 10) ∷ (48 + n % 10) ∷ []
 digits-4 n h k =
     let e : n / 10 / 100 ≡ n / 1000 = omega arith in
     let d : n / 10 / 10 ≡ n / 100 = omega arith in

@@ -6,13 +6,15 @@ use mathlib.Core.Bool.{Bool, true, false}
 use native.Mathlib.Omega.{arith}
 use lib.Dec.{eqb, ltb}
 use lib.ListN.{length, getD, drop, length-append}
-use lib.Seq.{drop-at, getD-append-add}
+use lib.Seq.{drop-at, getD-append-add, getD-drop}
 use borrow.Author.Tests.{eqb-true, eqb-false, ltb-true, ltb-false}
 use Rattle.base.specs.Choice.{pick}
 use Rattle.drat.specs.Numeral.{digit, decimal, leb128, Numeral, one, more}
-use Rattle.drat.specs.Grammar.{Step, stepOf, opens, ends, Signed, plus, minus, Number, spaced, code, Body, last, lit, Spells, none, step}
-use Rattle.drat.specs.Reading.{numbered, withDigit, digitsFrom, signedFrom, thenBlank, lebFrom, endFrom, lineFrom, token, blankFrom, opening, Part, whole}
-use Rattle.drat.specs.Reading.{broken, consPart, body, One, got, fault, asStep, oneStep, Proof, steps, faultAt, consStep, stepsFrom, readProof}
+use Rattle.drat.specs.Grammar.{Step, stepOf, Free, at-end, at-sep, any-byte, Begins, bare, dee, letter-a, letter-d, stop, Signed, plus, minus, Number}
+use Rattle.drat.specs.Grammar.{spaced, code, Body, last, lit, Spells, none, step}
+use Rattle.drat.specs.Reading.{numbered, withDigit, digitsFrom, signedFrom, sep, seps, lead, past, thenGap, lebFrom, closeFrom, token, gapFrom, opening}
+use Rattle.drat.specs.Reading.{Part, whole, broken, consPart, body, One, got, fault, asStep, oneStep, Proof, steps, faultAt, consStep, stepsFrom}
+use Rattle.drat.specs.Reading.{readProof}
 use Rattle.drat.specs.declared.Kind.{Kind}
 use Rattle.drat.specs.declared.Kind.the-variants.{Add, Delete}
 use Rattle.drat.specs.declared.Format.{Format}
@@ -22,7 +24,8 @@ use Rattle.drat.specs.declared.Token.the-variants.{Lit, Stop, Bad}
 use Rattle.drat.specs.declared.Opening.{Opening}
 use Rattle.drat.specs.declared.Opening.the-variants.{Opens, Wrong}
 use Rattle.drat.proofs.Numerals.{in-range-is}
-use Rattle.drat.proofs.Complete.{text-line, body-lit, body-stop, body-bad, one-opens, one-wrong, steps-got, steps-not}
+use Rattle.drat.proofs.Complete.{body-lit, body-stop, body-bad, one-opens, one-wrong, steps-got, steps-not, rest-past}
+use Rattle.drat.proofs.Separators.{is-sep, nothing-lead, lead-split, split-rest, some-gap, spells-lead}
 
 abbrev pub Bytes : List ℕ → Type 0
 Bytes l = (k : ℕ) → getD l k 0 < 256
@@ -142,33 +145,26 @@ signed-sound i (b ∷ l) c j e = go (eqb b 45) refl e
         let ec : 2 * r .index ≡ c = omega (arith, r .isCode) in
         record { bytes = r .digits; rest = r .rest; split = r .split; spelled = subst (Signed (r .digits)) ec (plus (r .small) (r .spelled)); place = r .place }
 
--- with the blank after it
-pub blank-read : (i : ℕ) (l : List ℕ) (t : Token) (c j : ℕ) → thenBlank i l t ≡ Lit c j → (k : ℕ) × (t ≡ Lit c k) × (j ≡ k + 1) × (getD l (k - i) 0 ≡ 32)
-unfolding thenBlank
-blank-read i l (Lit d k) c j e = go (eqb (getD l (k - i) 0) 32) refl e
+-- with the separators after it
+gap-read : (i : ℕ) (l : List ℕ) (t : Token) (c j : ℕ) → thenGap i l t ≡ Lit c j
+    → (k : ℕ) × (t ≡ Lit c k) × (j ≡ past Text i l k) × (sep (getD l (k - i) 0) ≡ true)
+unfolding thenGap
+gap-read i l (Lit d k) c j e = go (sep (getD l (k - i) 0)) refl e
   where
-    go : (u : Bool) → eqb (getD l (k - i) 0) 32 ≡ u → pick u (Lit d (k + 1)) Bad ≡ Lit c j
-        → (k′ : ℕ) × (Lit d k ≡ Lit c k′) × (j ≡ k′ + 1) × (getD l (k′ - i) 0 ≡ 32)
-    go true u e = let q = lit-parts d (k + 1) c j e in (k, ap (λ (x : ℕ). Lit x k) (q .0), sym (q .1), eqb-true _ 32 u)
+    go : (u : Bool) → sep (getD l (k - i) 0) ≡ u → pick u (Lit d (past Text i l k)) Bad ≡ Lit c j
+        → (k′ : ℕ) × (Lit d k ≡ Lit c k′) × (j ≡ past Text i l k′) × (sep (getD l (k′ - i) 0) ≡ true)
+    go true u e = let q = lit-parts d (past Text i l k) c j e in (k, ap (λ (x : ℕ). Lit x k) (q .0), sym (q .1), u)
     go false u e = absurd (lit-bad c j (sym e))
-blank-read i l (Stop k) c j e = absurd (lit-bad c j (sym e))
-blank-read i l Bad c j e = absurd (lit-bad c j (sym e))
+gap-read i l (Stop k) c j e = absurd (lit-bad c j (sym e))
+gap-read i l Bad c j e = absurd (lit-bad c j (sym e))
 
 pub first-is : (l : List ℕ) (b : ℕ) → 0 < b → getD l 0 0 ≡ b → (m : List ℕ) × (l ≡ b ∷ m)
 first-is [] b h e = absurd (omega arith)
 first-is (x ∷ m) b h e = (m, ap (λ (y : ℕ). y ∷ m) e)
 
-spaced-sound : (i : ℕ) (l : List ℕ) (c j : ℕ) → thenBlank i l (signedFrom i l) ≡ Lit c j
-    → (bs : List ℕ) × (m : List ℕ) × Signed bs c × (l ≡ bs ++ 32 ∷ m) × (j ≡ i + length bs + 1)
-spaced-sound i l c j e =
-    let q = blank-read i l (signedFrom i l) c j e in
-    let k = q .0 in
-    let r = signed-sound i l c k (q .1) in
-    let p : k - i ≡ length (r .bytes) + 0 = omega (arith, r .place) in
-    let b : getD (r .rest) 0 0 ≡ 32 =
-    sym (getD-append-add (r .bytes) (r .rest) 0 0) ∙ sym (ap₂ (λ (x : List ℕ) (n : ℕ). getD x n 0) (r .split) p) ∙ q .3 in
-    let f = first-is (r .rest) 32 (omega arith) b in
-    (r .bytes, f .0, r .spelled, r .split ∙ ap (λ (x : List ℕ). r .bytes ++ x) (f .1), omega (arith, r .place, q .2))
+-- the rest of l is what the place says
+pub rest-is : (i j : ℕ) (l bs r : List ℕ) → l ≡ bs ++ r → j ≡ i + length bs → drop (j - i) l ≡ r
+rest-is i j l bs r e h = ap (drop (j - i)) e ∙ drop-at bs r (j - i) (omega (arith, h))
 
 record LebRead (v w i : ℕ) (l : List ℕ) (c j : ℕ) : Type 0 where
   bytes : List ℕ
@@ -234,38 +230,42 @@ pub record LitRead (f : Format) (i : ℕ) (l : List ℕ) (c j : ℕ) : Type 0 wh
   pub spelled : Number f bytes c
   pub place : j ≡ i + length bytes
 
-pub no-lit-end : (i : ℕ) (l : List ℕ) (c j : ℕ) → endFrom i l ≡ Lit c j → ⊥
-unfolding endFrom
-no-lit-end i [] c j e = lit-bad c j (sym e)
-no-lit-end i (b ∷ l) c j e = go (eqb b 10) e
+pub close-no-lit : (i : ℕ) (l : List ℕ) (c j : ℕ) → closeFrom i l ≡ Lit c j → ⊥
+unfolding closeFrom
+close-no-lit i [] c j e = lit-stop c j i (sym e)
+close-no-lit i (b ∷ l) c j e = go (sep b) e
   where
-    go : (t : Bool) → pick t (Stop (i + 1)) Bad ≡ Lit c j → ⊥
-    go true e = lit-stop c j (i + 1) (sym e)
+    go : (t : Bool) → pick t (Stop i) Bad ≡ Lit c j → ⊥
+    go true e = lit-stop c j i (sym e)
     go false e = lit-bad c j (sym e)
 
--- a number and its blank on a line
-pub line-sound : (i : ℕ) (l : List ℕ) (c j : ℕ) → lineFrom i l ≡ Lit c j
-    → (bs : List ℕ) × (m : List ℕ) × Signed bs c × (l ≡ bs ++ 32 ∷ m) × (j ≡ i + length bs + 1)
-unfolding lineFrom
-line-sound i [] c j e = absurd (lit-bad c j (sym e))
-line-sound i (b ∷ l) c j e = go (eqb b 48) e
-  where
-    go : (t : Bool) → pick t (endFrom (i + 1) l) (thenBlank i (b ∷ l) (signedFrom i (b ∷ l))) ≡ Lit c j
-        → (bs : List ℕ) × (m : List ℕ) × Signed bs c × (b ∷ l ≡ bs ++ 32 ∷ m) × (j ≡ i + length bs + 1)
-    go true e = absurd (no-lit-end (i + 1) l c j e)
-    go false e = spaced-sound i (b ∷ l) c j e
+-- a number and its separators
+spaced-sound : (i : ℕ) (l : List ℕ) (c j : ℕ) → thenGap i l (signedFrom i l) ≡ Lit c j → LitRead Text i l c j
+spaced-sound i l c j e =
+    let q = gap-read i l (signedFrom i l) c j e in
+    let k = q .0 in
+    let r = signed-sound i l c k (q .1) in
+    let d = rest-is i k l (r .bytes) (r .rest) (r .split) (r .place) in
+    let p : k - i ≡ length (r .bytes) + 0 = omega (arith, r .place) in
+    let b : sep (getD (r .rest) 0 0) ≡ true =
+    ap sep (sym (getD-append-add (r .bytes) (r .rest) 0 0) ∙ sym (ap₂ (λ (x : List ℕ) (n : ℕ). getD x n 0) (r .split) p)) ∙ q .3 in
+    let t = lead-split Text (r .rest) in
+    record {
+      bytes = r .bytes ++ t .front;
+      rest = t .rest;
+      split = r .split ∙ ap (λ (x : List ℕ). r .bytes ++ x) (t .split) ∙ sym (append-assoc (r .bytes) (t .front) (t .rest));
+      spelled = spaced (r .spelled) (some-gap (r .rest) t b);
+      place = simp length-append (omega (arith, r .place, q .2, ap seps d, t .size));
+    }
 
 pub token-sound : (f : Format) (i : ℕ) (l : List ℕ) (c j : ℕ) → Bytes l → token f i l ≡ Lit c j → LitRead f i l c j
 unfolding token
-token-sound Text i l c j hb e =
-    let r = line-sound i l c j (sym (text-line i l) ∙ e) in
-    record {
-      bytes = r .0 ++ 32 ∷ [];
-      rest = r .1;
-      split = r .3 ∙ sym (append-assoc (r .0) (32 ∷ []) (r .1));
-      spelled = spaced (r .2);
-      place = r .4 ∙ simp length-append (omega arith);
-    }
+token-sound Text i [] c j hb e = absurd (lit-bad c j (sym e))
+token-sound Text i (b ∷ l) c j hb e = go (eqb b 48) e
+  where
+    go : (t : Bool) → pick t (closeFrom (i + 1) l) (thenGap i (b ∷ l) (signedFrom i (b ∷ l))) ≡ Lit c j → LitRead Text i (b ∷ l) c j
+    go true e = absurd (close-no-lit (i + 1) l c j e)
+    go false e = spaced-sound i (b ∷ l) c j e
 token-sound Binary i [] c j hb e = absurd (lit-bad c j (sym e))
 token-sound Binary i (b ∷ l) c j hb e = go (eqb b 0) e
   where
@@ -284,15 +284,15 @@ token-sound Binary i (b ∷ l) c j hb e = go (eqb b 0) e
         }
 
 -- a step's end that was read
-blank-no-stop : (i : ℕ) (l : List ℕ) (t : Token) (j : ℕ) → thenBlank i l t ≡ Stop j → ⊥
-unfolding thenBlank
-blank-no-stop i l (Lit c k) j e = go (eqb (getD l (k - i) 0) 32) e
+gap-no-stop : (i : ℕ) (l : List ℕ) (t : Token) (j : ℕ) → thenGap i l t ≡ Stop j → ⊥
+unfolding thenGap
+gap-no-stop i l (Lit c k) j e = go (sep (getD l (k - i) 0)) e
   where
-    go : (u : Bool) → pick u (Lit c (k + 1)) Bad ≡ Stop j → ⊥
-    go true e = lit-stop c (k + 1) j e
+    go : (u : Bool) → pick u (Lit c (past Text i l k)) Bad ≡ Stop j → ⊥
+    go true e = lit-stop c (past Text i l k) j e
     go false e = stop-bad j (sym e)
-blank-no-stop i l (Stop k) j e = stop-bad j (sym e)
-blank-no-stop i l Bad j e = stop-bad j (sym e)
+gap-no-stop i l (Stop k) j e = stop-bad j (sym e)
+gap-no-stop i l Bad j e = stop-bad j (sym e)
 
 leb-no-stop : (l : List ℕ) (v w i j : ℕ) → lebFrom v w i l ≡ Stop j → ⊥
 unfolding lebFrom
@@ -311,47 +311,46 @@ leb-no-stop (b ∷ l) v w i j e = go (ltb b 128) e (leb-no-stop l (v + w * (b - 
 
 pub record EndRead (f : Format) (i : ℕ) (l : List ℕ) (j : ℕ) : Type 0 where
   pub rest : List ℕ
-  pub split : l ≡ ends f ++ rest
-  pub place : j ≡ i + length (ends f)
+  pub split : l ≡ stop f ++ rest
+  pub free : Free f rest
+  pub place : j ≡ i + length (stop f)
 
 stop-part : (i j : ℕ) → Stop i ≡ Stop j → i ≡ j
 stop-part i j e = cc
 
-end-sound : (i : ℕ) (l : List ℕ) (j : ℕ) → endFrom i l ≡ Stop j → (m : List ℕ) × (l ≡ 10 ∷ m) × (j ≡ i + 1)
-unfolding endFrom
-end-sound i [] j e = absurd (stop-bad j (sym e))
-end-sound i (b ∷ l) j e = go (eqb b 10) refl e
+close-sound : (i : ℕ) (l : List ℕ) (j : ℕ) → closeFrom i l ≡ Stop j → Free Text l × (j ≡ i)
+unfolding closeFrom
+close-sound i [] j e = (at-end, sym (stop-part i j e))
+close-sound i (b ∷ l) j e = go (sep b) refl e
   where
-    go : (t : Bool) → eqb b 10 ≡ t → pick t (Stop (i + 1)) Bad ≡ Stop j → (m : List ℕ) × (b ∷ l ≡ 10 ∷ m) × (j ≡ i + 1)
-    go true t e = (l, ap (λ (x : ℕ). x ∷ l) (eqb-true b 10 t), sym (stop-part (i + 1) j e))
+    go : (t : Bool) → sep b ≡ t → pick t (Stop i) Bad ≡ Stop j → Free Text (b ∷ l) × (j ≡ i)
+    go true t e = (at-sep (is-sep b t), sym (stop-part i j e))
     go false t e = absurd (stop-bad j (sym e))
-
-pub line-stop : (i : ℕ) (l : List ℕ) (j : ℕ) → lineFrom i l ≡ Stop j → EndRead Text i l j
-unfolding lineFrom
-line-stop i [] j e = absurd (stop-bad j (sym e))
-line-stop i (b ∷ l) j e = go (eqb b 48) refl e
-  where
-    go : (t : Bool) → eqb b 48 ≡ t → pick t (endFrom (i + 1) l) (thenBlank i (b ∷ l) (signedFrom i (b ∷ l))) ≡ Stop j → EndRead Text i (b ∷ l) j
-    go true h e =
-        let r = end-sound (i + 1) l j e in
-        record { rest = r .0; split = ap₂ (λ (x : ℕ) (m : List ℕ). x ∷ m) (eqb-true b 48 h) (r .1); place = r .2 ∙ omega arith }
-    go false h e = absurd (blank-no-stop i (b ∷ l) (signedFrom i (b ∷ l)) j e)
 
 pub token-stop : (f : Format) (i : ℕ) (l : List ℕ) (j : ℕ) → token f i l ≡ Stop j → EndRead f i l j
 unfolding token
-token-stop Text i l j e = line-stop i l j (sym (text-line i l) ∙ e)
+token-stop Text i [] j e = absurd (stop-bad j (sym e))
+token-stop Text i (b ∷ l) j e = go (eqb b 48) refl e
+  where
+    go : (t : Bool) → eqb b 48 ≡ t → pick t (closeFrom (i + 1) l) (thenGap i (b ∷ l) (signedFrom i (b ∷ l))) ≡ Stop j → EndRead Text i (b ∷ l) j
+    go true h e =
+        let r = close-sound (i + 1) l j e in
+        record { rest = l; split = ap (λ (x : ℕ). x ∷ l) (eqb-true b 48 h); free = r .0; place = r .1 }
+    go false h e = absurd (gap-no-stop i (b ∷ l) (signedFrom i (b ∷ l)) j e)
 token-stop Binary i [] j e = absurd (stop-bad j (sym e))
 token-stop Binary i (b ∷ l) j e = go (eqb b 0) refl e
   where
     go : (t : Bool) → eqb b 0 ≡ t → pick t (Stop (i + 1)) (lebFrom 0 1 i (b ∷ l)) ≡ Stop j → EndRead Binary i (b ∷ l) j
-    go true h e = record { rest = l; split = ap (λ (x : ℕ). x ∷ l) (eqb-true b 0 h); place = sym (stop-part (i + 1) j e) }
+    go true h e = record { rest = l; split = ap (λ (x : ℕ). x ∷ l) (eqb-true b 0 h); free = any-byte; place = sym (stop-part (i + 1) j e) }
     go false h e = absurd (leb-no-stop (b ∷ l) 0 1 i j e)
 
 -- an opening that was read
 pub record OpenRead (f : Format) (i : ℕ) (l : List ℕ) (k : Kind) (j : ℕ) : Type 0 where
+  pub bytes : List ℕ
   pub rest : List ℕ
-  pub split : l ≡ opens f k ++ rest
-  pub place : j ≡ i + length (opens f k)
+  pub split : l ≡ bytes ++ rest
+  pub begins : Begins f k bytes
+  pub place : j ≡ i + length bytes
 
 pub opens-wrong : (k : Kind) (j : ℕ) → Opens k j ≡ Wrong → ⊥
 opens-wrong k j e = let z : _≡_ {A = ℕ} 0 1 = cc in omega arith
@@ -359,19 +358,21 @@ opens-wrong k j e = let z : _≡_ {A = ℕ} 0 1 = cc in omega arith
 opens-parts : (a b : Kind) (i j : ℕ) → Opens a i ≡ Opens b j → (a ≡ b) × (i ≡ j)
 opens-parts a b i j e = (cc, cc)
 
-open-at : (f : Format) (i : ℕ) (l : List ℕ) (a k : Kind) (i′ j : ℕ) (rest : List ℕ) → l ≡ opens f a ++ rest → i′ ≡ i + length (opens f a)
+open-at : (f : Format) (i : ℕ) (l : List ℕ) (a k : Kind) (i′ j : ℕ) (bs rest : List ℕ) → l ≡ bs ++ rest → Begins f a bs → i′ ≡ i + length bs
     → Opens a i′ ≡ Opens k j → OpenRead f i l k j
-open-at f i l a k i′ j rest s p e =
+open-at f i l a k i′ j bs rest s b p e =
     let q = opens-parts a k i′ j e in
-    record { rest = rest; split = s ∙ ap (λ (x : Kind). opens f x ++ rest) (q .0); place = sym (q .1) ∙ p ∙ ap (λ (x : Kind). i + length (opens f x)) (q .0) }
+    record { bytes = bs; rest = rest; split = s; begins = subst (λ (x : Kind). Begins f x bs) (q .0) b; place = sym (q .1) ∙ p }
 
-blank-sound : (i : ℕ) (l : List ℕ) (k : Kind) (j : ℕ) → blankFrom (i + 1) l ≡ Opens k j → OpenRead Text i (100 ∷ l) k j
-unfolding blankFrom
-blank-sound i [] k j e = absurd (opens-wrong k j (sym e))
-blank-sound i (b ∷ l) k j e = go (eqb b 32) refl e
+gap-sound : (i : ℕ) (l : List ℕ) (k : Kind) (j : ℕ) → gapFrom (i + 1) l ≡ Opens k j → OpenRead Text i (100 ∷ l) k j
+unfolding gapFrom
+gap-sound i l k j e = go (sep (getD l 0 0)) refl e
   where
-    go : (t : Bool) → eqb b 32 ≡ t → pick t (Opens Delete (i + 1 + 1)) Wrong ≡ Opens k j → OpenRead Text i (100 ∷ b ∷ l) k j
-    go true h e = open-at Text i (100 ∷ b ∷ l) Delete k (i + 1 + 1) j l (ap (λ (x : ℕ). 100 ∷ x ∷ l) (eqb-true b 32 h)) (omega arith) e
+    go : (t : Bool) → sep (getD l 0 0) ≡ t → pick t (Opens Delete (i + 1 + seps l)) Wrong ≡ Opens k j → OpenRead Text i (100 ∷ l) k j
+    go true h e =
+        let t = lead-split Text l in
+        open-at Text i (100 ∷ l) Delete k (i + 1 + seps l) j (100 ∷ t .front) (t .rest) (ap (λ (m : List ℕ). 100 ∷ m) (t .split)) (dee (some-gap l t h))
+        (omega (arith, t .size)) e
     go false h e = absurd (opens-wrong k j (sym e))
 
 pub opening-sound : (f : Format) (i : ℕ) (l : List ℕ) (k : Kind) (j : ℕ) → opening f i l ≡ Opens k j → OpenRead f i l k j
@@ -380,23 +381,20 @@ opening-sound Text i [] k j e = absurd (opens-wrong k j (sym e))
 opening-sound Binary i [] k j e = absurd (opens-wrong k j (sym e))
 opening-sound Text i (b ∷ l) k j e = go (eqb b 100) refl e
   where
-    go : (t : Bool) → eqb b 100 ≡ t → pick t (blankFrom (i + 1) l) (Opens Add i) ≡ Opens k j → OpenRead Text i (b ∷ l) k j
-    go true h e = subst (λ (x : ℕ). OpenRead Text i (x ∷ l) k j) (sym (eqb-true b 100 h)) (blank-sound i l k j e)
-    go false h e = open-at Text i (b ∷ l) Add k i j (b ∷ l) refl (omega arith) e
+    go : (t : Bool) → eqb b 100 ≡ t → pick t (gapFrom (i + 1) l) (Opens Add i) ≡ Opens k j → OpenRead Text i (b ∷ l) k j
+    go true h e = subst (λ (x : ℕ). OpenRead Text i (x ∷ l) k j) (sym (eqb-true b 100 h)) (gap-sound i l k j e)
+    go false h e = open-at Text i (b ∷ l) Add k i j [] (b ∷ l) refl bare (omega arith) e
 opening-sound Binary i (b ∷ l) k j e = go (eqb b 97) refl (eqb b 100) refl e
   where
     go : (t : Bool) → eqb b 97 ≡ t → (u : Bool) → eqb b 100 ≡ u → pick t (Opens Add (i + 1)) (pick u (Opens Delete (i + 1)) Wrong) ≡ Opens k j
         → OpenRead Binary i (b ∷ l) k j
-    go true h u g e = open-at Binary i (b ∷ l) Add k (i + 1) j l (ap (λ (x : ℕ). x ∷ l) (eqb-true b 97 h)) refl e
-    go false h true g e = open-at Binary i (b ∷ l) Delete k (i + 1) j l (ap (λ (x : ℕ). x ∷ l) (eqb-true b 100 g)) refl e
+    go true h u g e = open-at Binary i (b ∷ l) Add k (i + 1) j (97 ∷ []) l (ap (λ (x : ℕ). x ∷ l) (eqb-true b 97 h)) letter-a refl e
+    go false h true g e = open-at Binary i (b ∷ l) Delete k (i + 1) j (100 ∷ []) l (ap (λ (x : ℕ). x ∷ l) (eqb-true b 100 g)) letter-d refl e
     go false h false g e = absurd (opens-wrong k j (sym e))
 
 -- what is left of the input
 pub bytes-rest : (l bs rest : List ℕ) → Bytes l → l ≡ bs ++ rest → Bytes rest
 bytes-rest l bs rest h e k = rw getD-append-add at (subst (λ (m : List ℕ). getD m (length bs + k) 0 < 256) e (h (length bs + k)))
-
-pub rest-is : (i j : ℕ) (l bs rest : List ℕ) → l ≡ bs ++ rest → j ≡ i + length bs → drop (j - i) l ≡ rest
-rest-is i j l bs rest e p = ap (drop (j - i)) e ∙ drop-at bs rest (j - i) (omega arith)
 
 -- literals and an end that were read
 pub record BodyRead (f : Format) (i : ℕ) (l : List ℕ) (cs : List ℕ) (j : ℕ) : Type 0 where
@@ -404,6 +402,7 @@ pub record BodyRead (f : Format) (i : ℕ) (l : List ℕ) (cs : List ℕ) (j : �
   pub rest : List ℕ
   pub split : l ≡ bytes ++ rest
   pub spelled : Body f bytes cs
+  pub free : Free f rest
   pub place : j ≡ i + length bytes
 
 pub broken-whole : (cs : List ℕ) (j : ℕ) → broken ≡ whole cs j → ⊥
@@ -434,27 +433,32 @@ body-sound f (suc n) i l cs j hb e = go (token f i l) refl (λ m i′ ds h. body
           rest = b .rest;
           split = r .split ∙ ap (λ (m : List ℕ). r .bytes ++ m) (b .split) ∙ sym (append-assoc (r .bytes) (b .bytes) (b .rest));
           spelled = subst (λ (x : List ℕ). Body f (r .bytes ++ b .bytes) x) (q .2) (lit (r .spelled) (b .spelled));
+          free = b .free;
           place = simp length-append (omega (arith, r .place, b .place));
         }
     go (Stop i′) t ih =
         let r = token-stop f i l i′ t in
         let q = whole-parts [] cs i′ j (sym (body-stop f n i l i′ t) ∙ e) in
         record {
-          bytes = ends f;
+          bytes = stop f;
           rest = r .rest;
           split = r .split;
-          spelled = subst (λ (x : List ℕ). Body f (ends f) x) (q .0) last;
+          spelled = subst (λ (x : List ℕ). Body f (stop f) x) (q .0) last;
+          free = r .free;
           place =
               sym (q .1) ∙ r .place;
         }
     go Bad t ih = absurd (broken-whole cs j (sym (body-bad f n i l t) ∙ e))
 
 pub record StepRead (f : Format) (i : ℕ) (l : List ℕ) (s : Step) (j : ℕ) : Type 0 where
+  pub front : List ℕ
   pub bytes : List ℕ
   pub rest : List ℕ
-  pub split : l ≡ (opens f (s .kind) ++ bytes) ++ rest
+  pub split : l ≡ (front ++ bytes) ++ rest
+  pub begins : Begins f (s .kind) front
   pub spelled : Body f bytes (s .lits)
-  pub place : j ≡ i + length (opens f (s .kind) ++ bytes)
+  pub free : Free f rest
+  pub place : j ≡ i + length (front ++ bytes)
 
 pub fault-got : (s : Step) (j : ℕ) → fault ≡ got s j → ⊥
 fault-got s j e = let z : _≡_ {A = ℕ} 0 1 = cc in omega arith
@@ -475,15 +479,18 @@ step-sound f i l s j hb e = go (opening f i l) refl
     go (Opens k i′) o =
         let r = opening-sound f i l k i′ o in
         let q = as-step k (body f (length l) i′ (drop (i′ - i) l)) s j (sym (one-opens f i l k i′ o) ∙ e) in
-        let d = rest-is i i′ l (opens f k) (r .rest) (r .split) (r .place) in
-        let b = body-sound f (length l) i′ (r .rest) (q .0) j (bytes-rest l (opens f k) (r .rest) hb (r .split)) (ap (body f (length l) i′) (sym d) ∙ q .1) in
+        let d = rest-is i i′ l (r .bytes) (r .rest) (r .split) (r .place) in
+        let b = body-sound f (length l) i′ (r .rest) (q .0) j (bytes-rest l (r .bytes) (r .rest) hb (r .split)) (ap (body f (length l) i′) (sym d) ∙ q .1) in
         subst (λ (x : Step). StepRead f i l x j) (q .2)
         (record {
+          front = r .bytes;
           bytes = b .bytes;
           rest = b .rest;
-          split = r .split ∙ ap (λ (m : List ℕ). opens f k ++ m) (b .split)
-              ∙ sym (append-assoc (opens f k) (b .bytes) (b .rest));
+          split = r .split ∙ ap (λ (m : List ℕ). r .bytes ++ m) (b .split)
+              ∙ sym (append-assoc (r .bytes) (b .bytes) (b .rest));
+          begins = r .begins;
           spelled = b .spelled;
+          free = b .free;
           place = simp length-append (omega (arith, r .place, b .place));
         })
     go Wrong o = absurd (fault-got s j (sym (one-wrong f i l o) ∙ e))
@@ -499,24 +506,46 @@ unfolding consStep
 cons-step s (steps ts) ss e = (ts, refl, steps-part (s ∷ ts) ss e)
 cons-step s (faultAt i) ss e = absurd (steps-fault ss i e)
 
+-- the step after one that was read starts where the separators after it end
+pub rest-next : (f : Format) (i j : ℕ) (l bs r : List ℕ) → l ≡ bs ++ r → j ≡ i + length bs
+    → (past f i l j ≡ j + lead f r) × (drop (past f i l j - i) l ≡ drop (lead f r) r)
+rest-next f i j l bs r e h = (
+  ap (λ (m : List ℕ). j + lead f m) (rest-is i j l bs r e h),
+  ap₂ (λ (m : List ℕ) (k : ℕ). drop (past f i m k - i) m) e h ∙ rest-past f i bs r,
+)
+
+-- bytes that may be passed, in front of a spelling
+front-spells : (f : Format) (r : List ℕ) (ss : List Step) → Spells f (drop (lead f r) r) ss → Spells f r ss
+front-spells f r ss h =
+    let t = lead-split f r in
+    subst (λ (m : List ℕ). Spells f m ss) (sym (t .split)) (spells-lead (t .fronts) (subst (λ (m : List ℕ). Spells f m ss) (split-rest f r t) h))
+
+nothing-spells : (f : Format) → Spells f [] []
+nothing-spells f = none (nothing-lead f)
+
+pub bytes-drop : (n : ℕ) (l : List ℕ) → Bytes l → Bytes (drop n l)
+bytes-drop n l h k = rw getD-drop (h (n + k))
+
 pub steps-sound : (f : Format) (n i : ℕ) (l : List ℕ) (ss : List Step) → Bytes l → stepsFrom f n i l ≡ steps ss → Spells f l ss
 unfolding stepsFrom
-steps-sound f zero i [] ss hb e = subst (λ (x : List Step). Spells f [] x) (steps-part [] ss e) none
+steps-sound f zero i [] ss hb e = subst (λ (x : List Step). Spells f [] x) (steps-part [] ss e) (nothing-spells f)
 steps-sound f zero i (b ∷ l) ss hb e = absurd (steps-fault ss i e)
-steps-sound f (suc n) i [] ss hb e = subst (λ (x : List Step). Spells f [] x) (steps-part [] ss e) none
+steps-sound f (suc n) i [] ss hb e = subst (λ (x : List Step). Spells f [] x) (steps-part [] ss e) (nothing-spells f)
 steps-sound f (suc n) i (b ∷ l) ss hb e = go (oneStep f i (b ∷ l)) refl (λ i′ m ts. steps-sound f n i′ m ts)
   where
     go : (o : One) → oneStep f i (b ∷ l) ≡ o → ((i′ : ℕ) (m : List ℕ) (ts : List Step) → Bytes m → stepsFrom f n i′ m ≡ steps ts → Spells f m ts)
         → Spells f (b ∷ l) ss
     go (got s j) o ih =
         let r = step-sound f i (b ∷ l) s j hb o in
-        let q = cons-step s (stepsFrom f n j (drop (j - i) (b ∷ l))) ss (sym (steps-got f n i (b ∷ l) s j o) ∙ e) in
-        let d = rest-is i j (b ∷ l) (opens f (s .kind) ++ r .bytes) (r .rest) (r .split) (r .place) in
-        let t = ih j (r .rest) (q .0) (bytes-rest (b ∷ l) (opens f (s .kind) ++ r .bytes) (r .rest) hb (r .split)) (ap (stepsFrom f n j) (sym d) ∙ q .1) in
-        subst₂ (λ (x : List ℕ) (y : List Step). Spells f x y) (sym (r .split)) (q .2) (step (s .kind) (r .spelled) t)
+        let k = past f i (b ∷ l) j in
+        let q = cons-step s (stepsFrom f n k (drop (k - i) (b ∷ l))) ss (sym (steps-got f n i (b ∷ l) s j o) ∙ e) in
+        let d = rest-next f i j (b ∷ l) (r .front ++ r .bytes) (r .rest) (r .split) (r .place) in
+        let t = ih k (drop (k - i) (b ∷ l)) (q .0) (bytes-drop (k - i) (b ∷ l) hb) (q .1) in
+        let u = front-spells f (r .rest) (q .0) (subst (λ (m : List ℕ). Spells f m (q .0)) (d .1) t) in
+        subst₂ (λ (x : List ℕ) (y : List Step). Spells f x y) (sym (r .split)) (q .2) (step (nothing-lead f) (r .begins) (r .spelled) (r .free) u)
     go fault o ih = absurd (steps-fault ss i (sym (steps-not f n i b l o) ∙ e))
 
 -- the reader answers with steps exactly where the grammar has them
 pub read-spells : (f : Format) (l : List ℕ) (ss : List Step) → Bytes l → readProof f l ≡ steps ss → Spells f l ss
 unfolding readProof
-read-spells f l ss hb e = steps-sound f (length l) 0 l ss hb e
+read-spells f l ss hb e = front-spells f l ss (steps-sound f (length l) (lead f l) (drop (lead f l) l) ss (bytes-drop (lead f l) l hb) e)

@@ -84,7 +84,7 @@ writeRows =
     ∷ bytes (encode Text []) is bytes []
     ∷ []
 
--- Read: 13, with where the broken step starts, before 2. Codes, ends, kinds (0 add, 1 delete); literals, steps.
+-- Read: 13, with the first token of the unfinished step, before 2. Codes, ends, kinds (0 add, 1 delete); literals, steps.
 abbrev pub reads : List CodecRow
 reads =
     -- with just enough room
@@ -96,6 +96,7 @@ reads =
     ∷ filling (readOf Text text3 3 3 2) is filled (refused 2 []) [] [] []
     ∷ filling (readOf Binary binary3 2 3 3) is filled (refused 2 []) [] [] []
     -- no bytes are no steps; a delete of the empty clause
+    ∷ filling (readOf Text (32 ∷ 10 ∷ []) 0 0 0) is filled (accepted (0 ∷ 0 ∷ [])) [] [] []
     ∷ filling (readOf Text [] 0 0 0) is filled (accepted (0 ∷ 0 ∷ [])) [] [] []
     ∷ filling (readOf Binary [] 0 0 0) is filled (accepted (0 ∷ 0 ∷ [])) [] [] []
     ∷ filling (readOf Text (100 ∷ 32 ∷ 48 ∷ 10 ∷ []) 0 1 1) is filled (accepted (0 ∷ 1 ∷ [])) [] (0 ∷ []) (1 ∷ [])
@@ -106,36 +107,67 @@ reads =
     -- codes: 2, 127, 128, 8,193
     ∷ filling (readOf Binary (97 ∷ 2 ∷ 127 ∷ 128 ∷ 1 ∷ 129 ∷ 64 ∷ 0 ∷ []) 4 1 1)
     is filled (accepted (4 ∷ 1 ∷ [])) (0 ∷ 125 ∷ 126 ∷ 8191 ∷ []) (4 ∷ []) (0 ∷ [])
-    -- 13 with the place, whatever the room: the second line is cut, or has no line feed, or another
-    ∷ filling (readOf Text (49 ∷ 32 ∷ 48 ∷ 10 ∷ 50 ∷ 32 ∷ 48 ∷ []) 0 0 0) is filled (refused 13 (4 ∷ [])) [] [] []
+    -- separators before the first token, between tokens and after the last, blanks and line feeds in any number; none after the last 0
+    ∷ filling (readOf Text (49 ∷ 32 ∷ 48 ∷ 10 ∷ 50 ∷ 32 ∷ 48 ∷ []) 9 9 9) is filled (accepted (2 ∷ 2 ∷ [])) (0 ∷ 2 ∷ []) (1 ∷ 2 ∷ []) (0 ∷ 0 ∷ [])
+    ∷ filling (readOf Text (49 ∷ 32 ∷ 48 ∷ 10 ∷ 50 ∷ 32 ∷ 48 ∷ 32 ∷ []) 9 9 9) is filled (accepted (2 ∷ 2 ∷ [])) (0 ∷ 2 ∷ []) (1 ∷ 2 ∷ []) (0 ∷ 0 ∷ [])
+    ∷ filling (readOf Text (49 ∷ 32 ∷ 48 ∷ 32 ∷ 50 ∷ 32 ∷ 48 ∷ []) 9 9 9) is filled (accepted (2 ∷ 2 ∷ [])) (0 ∷ 2 ∷ []) (1 ∷ 2 ∷ []) (0 ∷ 0 ∷ [])
+    ∷ filling (readOf Text (49 ∷ 10 ∷ 48 ∷ 10 ∷ []) 9 9 9) is filled (accepted (1 ∷ 1 ∷ [])) (0 ∷ []) (1 ∷ []) (0 ∷ [])
+    ∷ filling (readOf Text (49 ∷ 32 ∷ 32 ∷ 48 ∷ 10 ∷ []) 9 9 9) is filled (accepted (1 ∷ 1 ∷ [])) (0 ∷ []) (1 ∷ []) (0 ∷ [])
+    ∷ filling (readOf Text (32 ∷ 49 ∷ 32 ∷ 48 ∷ 10 ∷ []) 9 9 9) is filled (accepted (1 ∷ 1 ∷ [])) (0 ∷ []) (1 ∷ []) (0 ∷ [])
+    ∷ filling (readOf Text (10 ∷ 32 ∷ 10 ∷ 49 ∷ 10 ∷ 45 ∷ 50 ∷ 32 ∷ 10 ∷ 32 ∷ 48 ∷ 32 ∷ 10 ∷ 100 ∷ 10 ∷ 10 ∷ 32 ∷ 51 ∷ 10 ∷ 48 ∷ []) 9 9 9)
+    is filled (accepted (3 ∷ 2 ∷ [])) (0 ∷ 3 ∷ 4 ∷ []) (2 ∷ 3 ∷ []) (0 ∷ 1 ∷ [])
+    ∷ filling (readOf Text (49 ∷ 32 ∷ 48 ∷ 10 ∷ 10 ∷ []) 9 9 9) is filled (accepted (1 ∷ 1 ∷ [])) (0 ∷ []) (1 ∷ []) (0 ∷ [])
+    ∷ filling (readOf Text (10 ∷ []) 9 9 9) is filled (accepted (0 ∷ 0 ∷ [])) [] [] []
+    ∷ filling (readOf Text (32 ∷ 32 ∷ 10 ∷ 10 ∷ 32 ∷ []) 9 9 9) is filled (accepted (0 ∷ 0 ∷ [])) [] [] []
+    ∷ filling (readOf Text (48 ∷ []) 9 9 9) is filled (accepted (0 ∷ 1 ∷ [])) [] (0 ∷ []) (0 ∷ [])
+    ∷ filling (readOf Text (100 ∷ 10 ∷ 48 ∷ []) 9 9 9) is filled (accepted (0 ∷ 1 ∷ [])) [] (0 ∷ []) (1 ∷ [])
+    ∷ filling (readOf Text (10 ∷ 49 ∷ 10 ∷ 50 ∷ 32 ∷ 48 ∷ []) 1 9 9) is filled (refused 2 []) [] [] []
+    -- 13 with the place of the unfinished step's first token, whatever the room: cut, or a token that is none
     ∷ filling (readOf Text (49 ∷ 32 ∷ 48 ∷ 10 ∷ 50 ∷ []) 0 0 0) is filled (refused 13 (4 ∷ [])) [] [] []
-    ∷ filling (readOf Text (49 ∷ 32 ∷ 48 ∷ 10 ∷ 50 ∷ 32 ∷ 48 ∷ 32 ∷ []) 0 0 0) is filled (refused 13 (4 ∷ [])) [] [] []
-    ∷ filling (readOf Text (49 ∷ 32 ∷ 48 ∷ 10 ∷ 10 ∷ []) 0 0 0) is filled (refused 13 (4 ∷ [])) [] [] []
+    ∷ filling (readOf Text (49 ∷ 32 ∷ 48 ∷ 32 ∷ 50 ∷ []) 0 0 0) is filled (refused 13 (4 ∷ [])) [] [] []
+    ∷ filling (readOf Text (49 ∷ 32 ∷ 48 ∷ 32 ∷ 50 ∷ 32 ∷ []) 0 0 0) is filled (refused 13 (4 ∷ [])) [] [] []
+    ∷ filling (readOf Text (10 ∷ 10 ∷ 49 ∷ 32 ∷ 120 ∷ []) 0 0 0) is filled (refused 13 (2 ∷ [])) [] [] []
+    ∷ filling (readOf Text (49 ∷ 32 ∷ 48 ∷ 10 ∷ 32 ∷ 10 ∷ 32 ∷ 100 ∷ 32 ∷ 50 ∷ []) 0 0 0) is filled (refused 13 (7 ∷ [])) [] [] []
     ∷ filling (readOf Text (48 ∷ 10 ∷ 48 ∷ 10 ∷ 52 ∷ 48 ∷ 57 ∷ 55 ∷ 32 ∷ 48 ∷ 10 ∷ []) 0 0 0) is filled (refused 13 (4 ∷ [])) [] [] []
-    -- 01, 0 after a minus, 4097, two blanks, a number and no blank, d and no blank, a, a plus sign, a tab, two lines in one, a carriage return;
-    -- bytes beside the digits
+    ∷ filling (readOf Text (32 ∷ 100 ∷ []) 0 0 0) is filled (refused 13 (1 ∷ [])) [] [] []
+    ∷ filling (readOf Text (49 ∷ 32 ∷ 48 ∷ 32 ∷ 10 ∷ 45 ∷ []) 0 0 0) is filled (refused 13 (5 ∷ [])) [] [] []
+    -- a `d` inside a clause or joined to a number, two of them, no blank before the 0, another byte after it, two steps joined
+    ∷ filling (readOf Text (49 ∷ 32 ∷ 100 ∷ 32 ∷ 50 ∷ 32 ∷ 48 ∷ 10 ∷ []) 9 9 9) is filled (refused 13 (0 ∷ [])) [] [] []
+    ∷ filling (readOf Text (100 ∷ 49 ∷ 32 ∷ 48 ∷ 10 ∷ []) 9 9 9) is filled (refused 13 (0 ∷ [])) [] [] []
+    ∷ filling (readOf Text (100 ∷ 32 ∷ 100 ∷ 32 ∷ 48 ∷ 10 ∷ []) 9 9 9) is filled (refused 13 (0 ∷ [])) [] [] []
+    ∷ filling (readOf Text (49 ∷ 48 ∷ 10 ∷ []) 9 9 9) is filled (refused 13 (0 ∷ [])) [] [] []
+    ∷ filling (readOf Text (49 ∷ 32 ∷ 48 ∷ 120 ∷ 10 ∷ []) 9 9 9) is filled (refused 13 (0 ∷ [])) [] [] []
+    ∷ filling (readOf Text (49 ∷ 32 ∷ 48 ∷ 100 ∷ 32 ∷ 50 ∷ 32 ∷ 48 ∷ 10 ∷ []) 9 9 9) is filled (refused 13 (0 ∷ [])) [] [] []
+    ∷ filling (readOf Text (49 ∷ 32 ∷ 48 ∷ 50 ∷ 32 ∷ 48 ∷ 10 ∷ []) 9 9 9) is filled (refused 13 (0 ∷ [])) [] [] []
+    ∷ filling (readOf Text (100 ∷ []) 9 9 9) is filled (refused 13 (0 ∷ [])) [] [] []
+    ∷ filling (readOf Text (100 ∷ 10 ∷ []) 9 9 9) is filled (refused 13 (0 ∷ [])) [] [] []
+    ∷ filling (readOf Text (49 ∷ 45 ∷ 50 ∷ 32 ∷ 48 ∷ 10 ∷ []) 9 9 9) is filled (refused 13 (0 ∷ [])) [] [] []
+    -- 01, 0 after a minus, 4097, a, a plus sign, a tab, a carriage return; bytes beside the digits
     ∷ filling (readOf Text (48 ∷ 49 ∷ 32 ∷ 48 ∷ 10 ∷ []) 9 9 9) is filled (refused 13 (0 ∷ [])) [] [] []
     ∷ filling (readOf Text (45 ∷ 48 ∷ 32 ∷ 48 ∷ 10 ∷ []) 9 9 9) is filled (refused 13 (0 ∷ [])) [] [] []
     ∷ filling (readOf Text (45 ∷ 48 ∷ 49 ∷ 32 ∷ 48 ∷ 10 ∷ []) 9 9 9) is filled (refused 13 (0 ∷ [])) [] [] []
     ∷ filling (readOf Text (52 ∷ 48 ∷ 57 ∷ 55 ∷ 32 ∷ 48 ∷ 10 ∷ []) 9 9 9) is filled (refused 13 (0 ∷ [])) [] [] []
     ∷ filling (readOf Text (45 ∷ 52 ∷ 48 ∷ 57 ∷ 55 ∷ 32 ∷ 48 ∷ 10 ∷ []) 9 9 9) is filled (refused 13 (0 ∷ [])) [] [] []
-    ∷ filling (readOf Text (49 ∷ 32 ∷ 32 ∷ 48 ∷ 10 ∷ []) 9 9 9) is filled (refused 13 (0 ∷ [])) [] [] []
-    ∷ filling (readOf Text (49 ∷ 48 ∷ 10 ∷ []) 9 9 9) is filled (refused 13 (0 ∷ [])) [] [] []
-    ∷ filling (readOf Text (100 ∷ 49 ∷ 32 ∷ 48 ∷ 10 ∷ []) 9 9 9) is filled (refused 13 (0 ∷ [])) [] [] []
-    ∷ filling (readOf Text (100 ∷ []) 9 9 9) is filled (refused 13 (0 ∷ [])) [] [] []
     ∷ filling (readOf Text (97 ∷ 32 ∷ 49 ∷ 32 ∷ 48 ∷ 10 ∷ []) 9 9 9) is filled (refused 13 (0 ∷ [])) [] [] []
     ∷ filling (readOf Text (43 ∷ 49 ∷ 32 ∷ 48 ∷ 10 ∷ []) 9 9 9) is filled (refused 13 (0 ∷ [])) [] [] []
     ∷ filling (readOf Text (49 ∷ 9 ∷ 48 ∷ 10 ∷ []) 9 9 9) is filled (refused 13 (0 ∷ [])) [] [] []
-    ∷ filling (readOf Text (49 ∷ 10 ∷ 48 ∷ 10 ∷ []) 9 9 9) is filled (refused 13 (0 ∷ [])) [] [] []
+    ∷ filling (readOf Text (9 ∷ 49 ∷ 32 ∷ 48 ∷ 10 ∷ []) 9 9 9) is filled (refused 13 (0 ∷ [])) [] [] []
     ∷ filling (readOf Text (49 ∷ 32 ∷ 48 ∷ 13 ∷ 10 ∷ []) 9 9 9) is filled (refused 13 (0 ∷ [])) [] [] []
     ∷ filling (readOf Text (48 ∷ 48 ∷ 10 ∷ []) 9 9 9) is filled (refused 13 (0 ∷ [])) [] [] []
     ∷ filling (readOf Text (45 ∷ 45 ∷ 49 ∷ 32 ∷ 48 ∷ 10 ∷ []) 9 9 9) is filled (refused 13 (0 ∷ [])) [] [] []
-    ∷ filling (readOf Text (32 ∷ 49 ∷ 32 ∷ 48 ∷ 10 ∷ []) 9 9 9) is filled (refused 13 (0 ∷ [])) [] [] []
     ∷ filling (readOf Text (49 ∷ 32 ∷ 45 ∷ 48 ∷ 10 ∷ []) 9 9 9) is filled (refused 13 (0 ∷ [])) [] [] []
+    ∷ filling (readOf Text (45 ∷ 32 ∷ 49 ∷ 32 ∷ 48 ∷ 10 ∷ []) 9 9 9) is filled (refused 13 (0 ∷ [])) [] [] []
     ∷ filling (readOf Text (58 ∷ 32 ∷ 48 ∷ 10 ∷ []) 9 9 9) is filled (refused 13 (0 ∷ [])) [] [] []
     ∷ filling (readOf Text (49 ∷ 58 ∷ 32 ∷ 48 ∷ 10 ∷ []) 9 9 9) is filled (refused 13 (0 ∷ [])) [] [] []
     ∷ filling (readOf Text (47 ∷ 32 ∷ 48 ∷ 10 ∷ []) 9 9 9) is filled (refused 13 (0 ∷ [])) [] [] []
     ∷ filling (readOf Text (49 ∷ 47 ∷ 32 ∷ 48 ∷ 10 ∷ []) 9 9 9) is filled (refused 13 (0 ∷ [])) [] [] []
+    ∷ filling (readOf Text (0 ∷ []) 9 9 9) is filled (refused 13 (0 ∷ [])) [] [] []
+    ∷ filling (readOf Text (255 ∷ []) 9 9 9) is filled (refused 13 (0 ∷ [])) [] [] []
+    ∷ filling (readOf Text (49 ∷ 32 ∷ 48 ∷ 0 ∷ []) 9 9 9) is filled (refused 13 (0 ∷ [])) [] [] []
+    ∷ filling (readOf Text (52 ∷ 48 ∷ 57 ∷ 54 ∷ 48 ∷ 32 ∷ 48 ∷ 10 ∷ []) 9 9 9) is filled (refused 13 (0 ∷ [])) [] [] []
+    ∷ filling (readOf Text (49 ∷ 32 ∷ 48 ∷ 10 ∷ 50 ∷ 32 ∷ 48 ∷ 13 ∷ 10 ∷ []) 9 9 9) is filled (refused 13 (4 ∷ [])) [] [] []
+    ∷ filling (readOf Text (49 ∷ 255 ∷ 32 ∷ 48 ∷ 10 ∷ []) 9 9 9) is filled (refused 13 (0 ∷ [])) [] [] []
+    ∷ filling (readOf Text (99 ∷ 32 ∷ 120 ∷ 10 ∷ 49 ∷ 32 ∷ 48 ∷ 10 ∷ []) 9 9 9) is filled (refused 13 (0 ∷ [])) [] [] []
     -- binary: cut, another opening, code 1, a needless byte, 8,194, three bytes
     ∷ filling (readOf Binary (97 ∷ 2 ∷ 0 ∷ 97 ∷ 2 ∷ []) 0 9 9) is filled (refused 13 (3 ∷ [])) [] [] []
     ∷ filling (readOf Binary (97 ∷ 2 ∷ 0 ∷ 98 ∷ 0 ∷ []) 0 9 9) is filled (refused 13 (3 ∷ [])) [] [] []
@@ -147,21 +179,30 @@ reads =
     ∷ filling (readOf Binary (97 ∷ 130 ∷ 64 ∷ 0 ∷ []) 9 9 9) is filled (refused 13 (0 ∷ [])) [] [] []
     ∷ filling (readOf Binary (97 ∷ 128 ∷ 128 ∷ 1 ∷ 0 ∷ []) 9 9 9) is filled (refused 13 (0 ∷ [])) [] [] []
     ∷ filling (readOf Binary (0 ∷ []) 9 9 9) is filled (refused 13 (0 ∷ [])) [] [] []
+    ∷ filling (readOf Binary (97 ∷ 0 ∷ 10 ∷ []) 9 9 9) is filled (refused 13 (2 ∷ [])) [] [] []
     ∷ []
 
--- The first step alone: its part of the bytes; 13 at 0.
+-- The first step alone, from its first token to its end; 13 at that token, at 0 without any.
 abbrev pub firsts : List CodecRow
 firsts =
-    answer (firstOf Text text3) is answer (accepted (49 ∷ 32 ∷ 45 ∷ 50 ∷ 32 ∷ 48 ∷ 10 ∷ []))
-    ∷ answer (firstOf Text (100 ∷ 32 ∷ 51 ∷ 32 ∷ 48 ∷ 10 ∷ 48 ∷ 49 ∷ [])) is answer (accepted (100 ∷ 32 ∷ 51 ∷ 32 ∷ 48 ∷ 10 ∷ []))
+    answer (firstOf Text text3) is answer (accepted (49 ∷ 32 ∷ 45 ∷ 50 ∷ 32 ∷ 48 ∷ []))
+    ∷ answer (firstOf Text (100 ∷ 32 ∷ 51 ∷ 32 ∷ 48 ∷ 10 ∷ 48 ∷ 49 ∷ [])) is answer (accepted (100 ∷ 32 ∷ 51 ∷ 32 ∷ 48 ∷ []))
+    ∷ answer (firstOf Text (10 ∷ 32 ∷ 49 ∷ 10 ∷ 50 ∷ 32 ∷ 48 ∷ 10 ∷ [])) is answer (accepted (49 ∷ 10 ∷ 50 ∷ 32 ∷ 48 ∷ []))
+    ∷ answer (firstOf Text (49 ∷ 32 ∷ 48 ∷ [])) is answer (accepted (49 ∷ 32 ∷ 48 ∷ []))
+    ∷ answer (firstOf Text (48 ∷ 32 ∷ 48 ∷ [])) is answer (accepted (48 ∷ []))
     ∷ answer (firstOf Binary binary3) is answer (accepted (97 ∷ 2 ∷ 5 ∷ 0 ∷ []))
     ∷ answer (firstOf Binary (100 ∷ 0 ∷ 98 ∷ [])) is answer (accepted (100 ∷ 0 ∷ []))
+    ∷ answer (firstOf Text (10 ∷ 32 ∷ 100 ∷ 32 ∷ 51 ∷ 10 ∷ 48 ∷ [])) is answer (accepted (100 ∷ 32 ∷ 51 ∷ 10 ∷ 48 ∷ []))
     ∷ answer (firstOf Text []) is answer (refused 13 (0 ∷ []))
     ∷ answer (firstOf Binary []) is answer (refused 13 (0 ∷ []))
-    ∷ answer (firstOf Text (49 ∷ 32 ∷ 48 ∷ [])) is answer (refused 13 (0 ∷ []))
+    ∷ answer (firstOf Text (10 ∷ 32 ∷ 10 ∷ [])) is answer (refused 13 (0 ∷ []))
+    ∷ answer (firstOf Text (10 ∷ 10 ∷ 49 ∷ [])) is answer (refused 13 (2 ∷ []))
+    ∷ answer (firstOf Text (32 ∷ 49 ∷ 32 ∷ 48 ∷ 120 ∷ [])) is answer (refused 13 (1 ∷ []))
+    ∷ answer (firstOf Text (49 ∷ 10 ∷ [])) is answer (refused 13 (0 ∷ []))
     ∷ answer (firstOf Text (48 ∷ 49 ∷ 32 ∷ 48 ∷ 10 ∷ 49 ∷ 32 ∷ 48 ∷ 10 ∷ [])) is answer (refused 13 (0 ∷ []))
     ∷ answer (firstOf Binary (97 ∷ 2 ∷ [])) is answer (refused 13 (0 ∷ []))
     ∷ answer (firstOf Binary (98 ∷ 0 ∷ [])) is answer (refused 13 (0 ∷ []))
+    ∷ answer (firstOf Binary (10 ∷ 97 ∷ 0 ∷ [])) is answer (refused 13 (0 ∷ []))
     ∷ []
 
 -- The numbers of the answers: literals and steps; 13 and the place; 2. The place after what was written; 3; 2.
@@ -173,8 +214,8 @@ answerRows =
     ∷ answer (wrote (Done 7)) is answer (accepted (7 ∷ []))
     ∷ answer (wrote Outside) is answer (refused 3 [])
     ∷ answer (wrote Lacking) is answer (refused 2 [])
-    ∷ answer (first []) is answer (refused 13 (0 ∷ []))
-    ∷ answer (first (48 ∷ 10 ∷ [])) is answer (accepted (48 ∷ 10 ∷ []))
+    ∷ answer (first 3 []) is answer (refused 13 (3 ∷ []))
+    ∷ answer (first 3 (48 ∷ [])) is answer (accepted (48 ∷ []))
     ∷ []
 
 -- One clause of a buffer, from a to b, into so much room from a place on: 3, 2.

@@ -4,12 +4,13 @@ use mathlib.Core.List.{List, [], _∷_, _++_}
 use mathlib.Core.Path.{_≡_}
 use mathlib.Core.Bool.{_||_}
 use lib.Dec.{ltb}
-use lib.ListN.{length, take}
+use lib.ListN.{length, drop}
 use lib.Seq.{sets}
 use Rattle.base.specs.Choice.{pick}
 use Rattle.base.specs.Answer.{Answer, accepted, refused}
 use Rattle.drat.specs.Grammar.{Step}
-use Rattle.drat.specs.Reading.{One, got, fault, oneStep, Proof, steps, faultAt, readProof}
+use Rattle.drat.specs.Reading.{lead, One, got, fault, oneStep, Proof, steps, faultAt, readProof}
+use Rattle.drat.specs.Writing.{part}
 use Rattle.drat.specs.declared.Read.{Read}
 use Rattle.drat.specs.declared.Read.the-variants.{Filled, Broken, Short}
 use Rattle.drat.specs.declared.Kind.{Kind}
@@ -51,7 +52,7 @@ refusing n vs = record { answer = refused n vs; codes = []; ends = []; kinds = [
 abbrev pub filling : List Step → Filling
 filling ss = record { answer = accepted (length (codesOf ss) ∷ length ss ∷ []); codes = codesOf ss; ends = endsFrom 0 ss; kinds = kindsOf ss }
 
--- 13 gives the place where the first broken step starts; then 2; a, b and c are the lengths of the slices for codes, ends and kinds.
+-- 13 gives the place of the first token of the first broken step; then 2; a, b and c are the lengths of the slices for codes, ends and kinds.
 unfoldable pub answerOf : Proof → ℕ → ℕ → ℕ → Filling
 answerOf (faultAt i) a b c = refusing 13 (i ∷ [])
 answerOf (steps ss) a b c = pick (ltb a (length (codesOf ss)) || ltb b (length ss) || ltb c (length ss)) (refusing 2 []) (filling ss)
@@ -79,18 +80,22 @@ unfoldable pub endOf : ℕ → One → ℕ
 endOf i (got s j) = j
 endOf i fault = i
 
--- That step's part of the input; 13 at 0.
-unfoldable pub firstBy : List ℕ → One → Answer
-firstBy s (got t j) = accepted (take j s)
-firstBy s fault = refused 13 (0 ∷ [])
+-- The place of the first token; 0 without any.
+abbrev pub firstToken : Format → List ℕ → ℕ
+firstToken f s = pick (ltb (lead f s) (length s)) (lead f s) 0
+
+-- The step at that place, from there to its end; 13 with the place.
+unfoldable pub firstBy : ℕ → List ℕ → One → Answer
+firstBy i s (got t j) = accepted (part i j s)
+firstBy i s fault = refused 13 (i ∷ [])
 
 abbrev pub firstOf : Format → List ℕ → Answer
-firstOf f s = firstBy s (oneStep f 0 s)
+firstOf f s = firstBy (firstToken f s) s (oneStep f (firstToken f s) (drop (firstToken f s) s))
 
--- The part answered: an empty one is 13 at 0.
-abbrev pub first : List ℕ → Answer
-first [] = refused 13 (0 ∷ [])
-first (b ∷ bs) = accepted (b ∷ bs)
+-- The part answered: an empty one is 13 at the first token's place i.
+abbrev pub first : ℕ → List ℕ → Answer
+first i [] = refused 13 (i ∷ [])
+first i (b ∷ bs) = accepted (b ∷ bs)
 
 -- ---- one scan, which stores where there is room
 

@@ -1,5 +1,6 @@
 -- The reader, as a definition: what stands at a place, one step, all steps.
 use Prim.Native.Nat.{ℕ, zero, suc, _+_, _-_, _*_}
+use mathlib.Core.Bool.{Bool, _||_}
 use mathlib.Core.List.{List, [], _∷_}
 use lib.Dec.{eqb, ltb}
 use lib.ListN.{length, getD, drop}
@@ -37,11 +38,28 @@ unfoldable pub signedFrom : ℕ → List ℕ → Token
 signedFrom i [] = Bad
 signedFrom i (b ∷ l) = pick (eqb b 45) (digitsFrom 1 0 (i + 1) l) (digitsFrom 0 0 i (b ∷ l))
 
--- The blank after it.
-unfoldable pub thenBlank : ℕ → List ℕ → Token → Token
-thenBlank i l (Lit c j) = pick (eqb (getD l (j - i) 0) 32) (Lit c (j + 1)) Bad
-thenBlank i l (Stop j) = Bad
-thenBlank i l Bad = Bad
+-- A separator of text is a blank or a line feed. How many of them l starts with.
+abbrev pub sep : ℕ → Bool
+sep b = eqb b 32 || eqb b 10
+
+unfoldable pub seps : List ℕ → ℕ
+seps [] = 0
+seps (b ∷ l) = pick (sep b) (suc (seps l)) 0
+
+-- How many bytes may be passed before a step; in binary none.
+abbrev pub lead : Format → List ℕ → ℕ
+lead Text l = seps l
+lead Binary l = 0
+
+-- The place after the bytes that may be passed at place j.
+abbrev pub past : Format → ℕ → List ℕ → ℕ → ℕ
+past f i l j = j + lead f (drop (j - i) l)
+
+-- A text number's separators, at least one.
+unfoldable pub thenGap : ℕ → List ℕ → Token → Token
+thenGap i l (Lit c j) = pick (sep (getD l (j - i) 0)) (Lit c (past Text i l j)) Bad
+thenGap i l (Stop j) = Bad
+thenGap i l Bad = Bad
 
 -- LEB128 bytes, with the value v of those before, and the weight w of the next.
 unfoldable pub lebFrom : ℕ → ℕ → ℕ → List ℕ → Token
@@ -51,31 +69,25 @@ lebFrom v w i (b ∷ l) =
     (pick (eqb b 0) Bad (pick (ltb (v + w * b) 2) Bad (pick (ltb 8193 (v + w * b)) Bad (Lit (v + w * b - 2) (i + 1)))))
     (pick (ltb 64 w) Bad (lebFrom (v + w * (b - 128)) (w * 128) (i + 1) l))
 
--- The line feed that ends a line.
-unfoldable pub endFrom : ℕ → List ℕ → Token
-endFrom i [] = Bad
-endFrom i (b ∷ l) = pick (eqb b 10) (Stop (i + 1)) Bad
+-- The end of a text step, place i being the one after its 0: a token goes on up to a separator or the end of the input.
+unfoldable pub closeFrom : ℕ → List ℕ → Token
+closeFrom i [] = Stop i
+closeFrom i (b ∷ l) = pick (sep b) (Stop i) Bad
 
--- What stands at place i of a line: a number and the blank after it, or `0` and the line feed.
-unfoldable pub lineFrom : ℕ → List ℕ → Token
-lineFrom i [] = Bad
-lineFrom i (b ∷ l) = pick (eqb b 48) (endFrom (i + 1) l) (thenBlank i (b ∷ l) (signedFrom i (b ∷ l)))
-
--- What stands at place i of a step.
+-- What stands at place i of a step: a literal, with the separators after it in text, or the step's end, a `0` or byte 0.
 unfoldable pub token : Format → ℕ → List ℕ → Token
 token f i [] = Bad
-token Text i (b ∷ l) = lineFrom i (b ∷ l)
+token Text i (b ∷ l) = pick (eqb b 48) (closeFrom (i + 1) l) (thenGap i (b ∷ l) (signedFrom i (b ∷ l)))
 token Binary i (b ∷ l) = pick (eqb b 0) (Stop (i + 1)) (lebFrom 0 1 i (b ∷ l))
 
--- The blank after a text step's `d`.
-unfoldable pub blankFrom : ℕ → List ℕ → Opening
-blankFrom i [] = Wrong
-blankFrom i (b ∷ l) = pick (eqb b 32) (Opens Delete (i + 1)) Wrong
+-- The separators after a text step's `d`, at least one.
+unfoldable pub gapFrom : ℕ → List ℕ → Opening
+gapFrom i l = pick (sep (getD l 0 0)) (Opens Delete (i + seps l)) Wrong
 
 -- How the step at place i opens.
 unfoldable pub opening : Format → ℕ → List ℕ → Opening
 opening f i [] = Wrong
-opening Text i (b ∷ l) = pick (eqb b 100) (blankFrom (i + 1) l) (Opens Add i)
+opening Text i (b ∷ l) = pick (eqb b 100) (gapFrom (i + 1) l) (Opens Add i)
 opening Binary i (b ∷ l) = pick (eqb b 97) (Opens Add (i + 1)) (pick (eqb b 100) (Opens Delete (i + 1)) Wrong)
 
 -- A step's literals and the place after it, or none.
@@ -114,13 +126,16 @@ unfoldable pub consStep : Step → Proof → Proof
 consStep s (steps ss) = steps (s ∷ ss)
 consStep s (faultAt i) = faultAt i
 
--- Steps up to the end of the input, at most n of them.
+-- Steps up to the end of the input, at most n of them; i is the place of a step's first token, or the end.
 unfoldable pub stepsFrom : Format → ℕ → ℕ → List ℕ → Proof
 stepsFrom f zero i [] = steps []
 stepsFrom f zero i (b ∷ l) = faultAt i
 stepsFrom f (suc n) i [] = steps []
-stepsFrom f (suc n) i (b ∷ l) = elim (oneStep f i (b ∷ l)) [ got s j ↦ consStep s (stepsFrom f n j (drop (j - i) (b ∷ l))) | fault ↦ faultAt i ]
+stepsFrom f (suc n) i (b ∷ l) = elim (oneStep f i (b ∷ l)) [
+  | got s j ↦ consStep s (stepsFrom f n (past f i (b ∷ l) j) (drop (past f i (b ∷ l) j - i) (b ∷ l)))
+  | fault ↦ faultAt i
+]
 
 -- The reading of a whole input.
 unfoldable pub readProof : Format → List ℕ → Proof
-readProof f l = stepsFrom f (length l) 0 l
+readProof f l = stepsFrom f (length l) (lead f l) (drop (lead f l) l)

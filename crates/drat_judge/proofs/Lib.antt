@@ -1,5 +1,6 @@
+pub mod LimitLaws
+pub mod RunsLaws
 pub mod NextLaws
 pub mod JudgedLaws
 pub mod TallyLaws
-pub mod RunsLaws
 pub mod CountsLaws

@@ -3,107 +3,139 @@ use Prim.Native.Nat.{ℕ, _+_, _-_, _*_, _≤_, _<_}
 use mathlib.Core.Bool.{Bool, true, false, _&&_, _||_, not, true≢false}
 use mathlib.Core.List.{List, [], _∷_}
 use mathlib.Core.Logic.{_⊎_, inl, inr}
-use mathlib.Core.Path.{_≡_, refl}
+use mathlib.Core.Path.{_≡_, refl, sym, ap₂, _∙_, subst}
 use lib.Dec.{eqb, leb, ltb}
 use native.Mathlib.Omega.{arith}
-use borrow.Author.Tests.{leb-true, leb-false, ltb-true, ltb-false, eqb-true, eqb-false, lt-ltb, le-ltb, ne-eqb, not-true}
+use borrow.Author.Tests.{leb-true, ltb-true, ltb-false, eqb-true, eqb-false, lt-ltb, le-ltb, eq-eqb, ne-eqb, not-true}
 use Rattle.base.proofs.BelowLaws.{and-left, and-right}
-use Rattle.base.proofs.MemberLaws.{or-left, or-right}
-use Rattle.base.specs.Choice.{pick}
-use Rattle.drat.proofs.Numerals.{in-range-is, is-in-range}
+use Rattle.drat.proofs.Numerals.{in-range-is, is-in-range, below-range}
+use Rattle.drat.specs.Grammar.{Sep, blank, feed}
 use Rattle.drat.specs.Numeral.{inRange, digit}
+use Rattle.drat.specs.Reading.{sep}
+use Rattle.drat.specs.declared.Format.the-variants.{Text, Binary}
 use Rattle.drat.specs.declared.Format.{Format}
-use Rattle.drat_judge.specs.Local.{endByte, closing, over, textNext, binaryNext, mayFollow, runs}
+use Rattle.drat_judge.specs.declared.Limit.{Limit}
+use Rattle.drat_judge.specs.Local.{near, above, closing, closed, digitNext, markNext, textNext, binaryNext, mayFollow, ended, runs}
 
 pub runs-cons : (f : Format) (a b c p x : ℕ) (l : List ℕ) → runs f a b c p (x ∷ l) ≡ true → (mayFollow f a b c p x ≡ true) × (runs f b c p x l ≡ true)
 unfolding runs
 runs-cons f a b c p x l e = (and-left (mayFollow f a b c p x) (runs f b c p x l) e, and-right (mayFollow f a b c p x) (runs f b c p x l) e)
 
-pub runs-end : (f : Format) (a b c p : ℕ) → runs f a b c p [] ≡ true → p ≡ endByte f
+runs-end : (f : Format) (a b c p : ℕ) → runs f a b c p [] ≡ true → ended f a b c p ≡ true
 unfolding runs
-runs-end f a b c p e = eqb-true p (endByte f) e
+runs-end f a b c p e = e
 
--- ---- text: what stands where a number or the closing 0 may begin
-pub data First (x : ℕ) : Type 0 where
-  closes : x ≡ 48 → First x
-  negative : x ≡ 45 → First x
-  begins : 49 ≤ x → x ≤ 57 → First x
+either : (a b : Bool) → a || b ≡ true → (a ≡ true) ⊎ (b ≡ true)
+either true b h = inl refl
+either false b h = inr h
 
-digit-first : (x : ℕ) → digit x ≡ true → First x
-digit-first x h = go (eqb x 48) refl
+-- ---- the end
+pub not-near : (c : ℕ) → 48 ≤ c → c ≤ 127 → near c ≡ false → ⊥
+not-near c h k e = true≢false (sym (is-in-range 48 127 c h k) ∙ e)
+
+pub not-closing : (c p : ℕ) → (p ≡ 48 → near c ≡ false → ⊥) → closing c p ≡ true → ⊥
+not-closing c p h e = h (eqb-true p 48 (and-left (eqb p 48) (not (near c)) e)) (not-true (near c) (and-right (eqb p 48) (not (near c)) e))
+
+-- a closing 0, and one separator or two: the last, p, is apart
+pub data Closed (a b c : ℕ) : Type 0 where
+  once : closing b c ≡ true → Closed a b c
+  twice : near c ≡ false → closing a b ≡ true → Closed a b c
+
+pub not-closed : (a b c : ℕ) → (closing b c ≡ true → ⊥) → (near c ≡ false → closing a b ≡ true → ⊥) → Closed a b c → ⊥
+not-closed a b c h k (once e) = h e
+not-closed a b c h k (twice n e) = k n e
+
+closed-is : (a b c p : ℕ) → closed a b c p ≡ true → (p < 45) × Closed a b c
+closed-is a b c p h =
+    let rest = closing b c || (not (near c) && closing a b) in
+    (ltb-true p 45 (and-left (ltb p 45) rest h), go (either (closing b c) (not (near c) && closing a b) (and-right (ltb p 45) rest h)))
   where
-    go : (t : Bool) → eqb x 48 ≡ t → First x
-    go true e = closes (eqb-true x 48 e)
-    go false e = let d = in-range-is 48 57 x h in let n = eqb-false x 48 e in begins (omega arith) (d .1)
+    go : (closing b c ≡ true) ⊎ (not (near c) && closing a b ≡ true) → Closed a b c
+    go (inl e) = once e
+    go (inr e) = twice (not-true (near c) (and-left (not (near c)) (closing a b) e)) (and-right (not (near c)) (closing a b) e)
 
-pub blank-next : (a b c x : ℕ) → textNext a b c 32 x ≡ true → First x
-unfolding textNext
-blank-next a b c x h = go (digit x) refl h
+pub text-end : (a b c p : ℕ) → runs Text a b c p [] ≡ true → (closing c p ≡ true) ⊎ ((p < 45) × Closed a b c)
+text-end a b c p e = go (either (closing c p) (closed a b c p) (runs-end Text a b c p e))
   where
-    go : (t : Bool) → digit x ≡ t → t || eqb x 45 ≡ true → First x
-    go true e h = digit-first x e
-    go false e h = negative (eqb-true x 45 h)
+    go : (closing c p ≡ true) ⊎ (closed a b c p ≡ true) → (closing c p ≡ true) ⊎ ((p < 45) × Closed a b c)
+    go (inl h) = inl h
+    go (inr h) = inr (closed-is a b c p h)
 
-pub line-next : (a b c x : ℕ) → textNext a b c 10 x ≡ true → First x ⊎ (x ≡ 100)
-unfolding textNext
-line-next a b c x h = go (digit x) refl (eqb x 45) refl h
+pub binary-end : (a b c p : ℕ) → runs Binary a b c p [] ≡ true → p ≡ 0
+binary-end a b c p e = eqb-true p 0 (runs-end Binary a b c p e)
+
+-- ---- text: what x may be
+pub sep-is : (x : ℕ) → sep x ≡ true → Sep x
+sep-is x h = go (either (eqb x 32) (eqb x 10) h)
   where
-    go : (t : Bool) → digit x ≡ t → (u : Bool) → eqb x 45 ≡ u → t || (u || eqb x 100) ≡ true → First x ⊎ (x ≡ 100)
-    go true e u g h = inl (digit-first x e)
-    go false e true g h = inl (negative (eqb-true x 45 g))
-    go false e false g h = inr (eqb-true x 100 h)
+    go : (eqb x 32 ≡ true) ⊎ (eqb x 10 ≡ true) → Sep x
+    go (inl e) = subst Sep (sym (eqb-true x 32 e)) blank
+    go (inr e) = subst Sep (sym (eqb-true x 10 e)) feed
 
-pub minus-next : (a b c x : ℕ) → textNext a b c 45 x ≡ true → (49 ≤ x) × (x ≤ 57)
-unfolding textNext
-minus-next a b c x h = in-range-is 49 57 x h
+pub sep-low : {x : ℕ} → Sep x → x < 45
+sep-low blank = omega arith
+sep-low feed = omega arith
 
-pub d-next : (a b c x : ℕ) → textNext a b c 100 x ≡ true → x ≡ 32
-unfolding textNext
-d-next a b c x h = eqb-true x 32 h
+pub record Digit (t : Limit) (a b c p x : ℕ) : Type 0 where
+  pub low : 48 ≤ x
+  pub high : x ≤ 57
+  pub no-dee : p ≡ 100 → ⊥
+  pub inside : closing c p ≡ false
+  pub proper : p ≡ 45 → 49 ≤ x
+  pub within : above t a b c p x ≡ false
 
--- after the closing 0
-pub zero-next : (a b c x : ℕ) → (c ≡ 32) ⊎ (c ≡ 10) → textNext a b c 48 x ≡ true → x ≡ 10
-unfolding textNext
-zero-next a b c x (inl e) h = eqb-true x 10 (rw e at h)
-zero-next a b c x (inr e) h = eqb-true x 10 (rw e at h)
+pub data Next (t : Limit) (a b c p x : ℕ) : Type 0 where
+  digits : Digit t a b c p x → Next t a b c p x
+  seps : Sep x → (p ≡ 45 → ⊥) → Next t a b c p x
+  signs : p < 45 → x ≡ 45 → Next t a b c p x
+  dees : p < 45 → x ≡ 100 → Closed a b c → Next t a b c p x
 
--- after another digit: a blank, or a digit that makes no number above 4096
-pub digit-next : (a b c p x : ℕ) → 48 ≤ p → p ≤ 57 → closing c p ≡ false → textNext a b c p x ≡ true → (x ≡ 32) ⊎ ((digit x ≡ true) × (over a b c p x ≡ false))
-unfolding textNext
-digit-next a b c p x k m o h = go (digit x) refl (simp (is-in-range 48 57 p k m, o) at h)
+not-both : (a b : Bool) → not (a && b) ≡ true → a ≡ true → b ≡ false
+not-both true b h e = not-true b h
+not-both false b h e = absurd (true≢false (sym e))
+
+digit-is : (t : Limit) (a b c p x : ℕ) → digitNext t a b c p x ≡ true → Digit t a b c p x
+digit-is t a b c p x h =
+    let token = not (eqb p 100) && not (closing c p) in
+    let number = not (eqb p 45 && ltb x 49) && not (above t a b c p x) in
+    let d = in-range-is 48 57 x (and-left (digit x) (token && number) h) in
+    let r = and-right (digit x) (token && number) h in
+    let l = and-left token number r in
+    let m = and-right token number r in
+    record {
+      low = d .0;
+      high = d .1;
+      no-dee = eqb-false p 100 (not-true (eqb p 100) (and-left (not (eqb p 100)) (not (closing c p)) l));
+      inside = not-true (closing c p) (and-right (not (eqb p 100)) (not (closing c p)) l);
+      proper = λ e. ltb-false x 49 (not-both (eqb p 45) (ltb x 49) (and-left (not (eqb p 45 && ltb x 49)) (not (above t a b c p x)) m) (eq-eqb p 45 e));
+      within = not-true (above t a b c p x) (and-right (not (eqb p 45 && ltb x 49)) (not (above t a b c p x)) m);
+    }
+
+mark-is : (t : Limit) (a b c p x : ℕ) → markNext a b c p x ≡ true → Next t a b c p x
+mark-is t a b c p x h = go (either (eqb x 45 && ltb p 45) (eqb x 100 && closed a b c p) h)
   where
-    go : (t : Bool) → digit x ≡ t → pick t (not (over a b c p x)) (eqb x 32) ≡ true → (x ≡ 32) ⊎ ((digit x ≡ true) × (over a b c p x ≡ false))
-    go true e h = inr (e, not-true (over a b c p x) h)
-    go false e h = inl (eqb-true x 32 h)
+    go : (eqb x 45 && ltb p 45 ≡ true) ⊎ (eqb x 100 && closed a b c p ≡ true) → Next t a b c p x
+    go (inl e) = signs (ltb-true p 45 (and-right (eqb x 45) (ltb p 45) e)) (eqb-true x 45 (and-left (eqb x 45) (ltb p 45) e))
+    go (inr e) =
+        let m = closed-is a b c p (and-right (eqb x 100) (closed a b c p) e) in
+        dees (m .0) (eqb-true x 100 (and-left (eqb x 100) (closed a b c p) e)) (m .1)
 
--- a fifth digit is refused, and a fourth that makes a number above 4096
-pub no-fifth : (a b c p x : ℕ) → digit a ≡ true → digit b ≡ true → digit c ≡ true → over a b c p x ≡ false → ⊥
-no-fifth a b c p x ha hb hc h = true≢false (simp (ha, hb, hc) at h)
-
-pub fourth-small : (a b c p x : ℕ) → digit b ≡ true → digit c ≡ true → digit p ≡ true → digit x ≡ true → over a b c p x ≡ false
-    → 10 * (10 * (10 * (b - 48) + (c - 48)) + (p - 48)) + (x - 48) ≤ 4096
-fourth-small a b c p x hb hc hp hx h = go (eqb b 52) refl (eqb p 57) refl
-    (or-right (digit a) (leb 53 b || (eqb b 52 && (leb 49 c || (eqb p 57 && leb 55 x)))) (simp (hb, hc) at h))
+pub next-is : (t : Limit) (a b c p x : ℕ) → textNext t a b c p x ≡ true → Next t a b c p x
+unfolding textNext
+next-is t a b c p x h = go (either (digitNext t a b c p x) ((sep x && not (eqb p 45)) || markNext a b c p x) h)
   where
-    go : (t : Bool) → eqb b 52 ≡ t → (u : Bool) → eqb p 57 ≡ u → leb 53 b || (t && (leb 49 c || (u && leb 55 x))) ≡ false
-        → 10 * (10 * (10 * (b - 48) + (c - 48)) + (p - 48)) + (x - 48) ≤ 4096
-    go true e true g h =
-        let k = or-right (leb 53 b) (leb 49 c || leb 55 x) h in
-        omega (
-          arith,
-          eqb-true b 52 e,
-          eqb-true p 57 g,
-          leb-false 49 c (or-left (leb 49 c) (leb 55 x) k),
-          leb-false 55 x (or-right (leb 49 c) (leb 55 x) k),
-          in-range-is 48 57 c hc,
-          in-range-is 48 57 x hx,
-        )
-    go true e false g h =
-        let k = or-left (leb 49 c) false (or-right (leb 53 b) (leb 49 c || false) h) in
-        omega (arith, eqb-true b 52 e, eqb-false p 57 g, leb-false 49 c k, in-range-is 48 57 c hc, in-range-is 48 57 p hp, in-range-is 48 57 x hx)
-    go false e u g h =
-        let k = or-left (leb 53 b) false h in
-        omega (arith, eqb-false b 52 e, leb-false 53 b k, in-range-is 48 57 b hb, in-range-is 48 57 c hc, in-range-is 48 57 p hp, in-range-is 48 57 x hx)
+    spaced : (sep x && not (eqb p 45) ≡ true) ⊎ (markNext a b c p x ≡ true) → Next t a b c p x
+    spaced (inl e) = seps (sep-is x (and-left (sep x) (not (eqb p 45)) e))
+        (eqb-false p 45 (not-true (eqb p 45) (and-right (sep x) (not (eqb p 45)) e)))
+    spaced (inr e) = mark-is t a b c p x e
+
+    go : (digitNext t a b c p x ≡ true) ⊎ ((sep x && not (eqb p 45)) || markNext a b c p x ≡ true) → Next t a b c p x
+    go (inl e) = digits (digit-is t a b c p x e)
+    go (inr e) = spaced (either (sep x && not (eqb p 45)) (markNext a b c p x) e)
+
+-- a closing 0
+pub closing-is : (c p : ℕ) → p ≡ 48 → c < 48 → closing c p ≡ true
+closing-is c p e h = ap₂ (λ (u w : Bool). u && not w) (eq-eqb p 48 e) (below-range 48 127 c h)
 
 -- ---- binary
 pub start-next : (x : ℕ) → binaryNext 0 x ≡ true → (x ≡ 97) ⊎ (x ≡ 100)

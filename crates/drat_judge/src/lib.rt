@@ -8,21 +8,33 @@ ghost use lib.ListN.{length, drop};
 ghost use Rattle.base.specs.Choice.{pick};
 ghost use Rattle.base.specs.Lent.{old};
 ghost use Rattle.drat.specs.Numeral.{inRange};
-ghost use Rattle.drat_judge.specs.Local.{endByte, textNext, binaryNext, mayFollow, judged, byteBack, runsAt, tally, stepsBy, litsBy, judgedOf};
+ghost use Rattle.drat_judge.specs.Local.{near, LimitOf, raised, fits, above, closing, closed, textNext, binaryNext, mayFollow, ended, before, judged};
+ghost use Rattle.drat_judge.specs.Local.{byteBack, runsAt, tally, starts, startsAt, stepsBy, litsBy};
 ghost use Rattle.drat.specs.declared.Format.the-variants.{Text, Binary};
 
-// Judged whole, with the numbers of literals and of steps; or not.
-pub enum Judged {
-    Counts(usize, usize),
-    Unsure,
+// The numbers of literals and of steps.
+pub struct Counts {
+    pub lits: usize,
+    pub steps: usize,
 }
 
-fn end_byte(f: Format) -> u8
-    ensures { λ r. ⌜ r ≡ endByte f ⌝ }
+// The largest number allowed: its last digit as a byte, and of the three digits before it the byte below.
+pub struct Limit {
+    pub ones: u8,
+    pub tens: u8,
+    pub hundreds: u8,
+    pub thousands: u8,
+}
+
+pub fn limit_of(v: u32) -> Limit
+    requires { ⌜ v ≤ 4096 ⌝ }
+    ensures { λ r. ⌜ LimitOf v r ⌝ }
 {
-    match f {
-        Format::Text => 10,
-        Format::Binary => 0,
+    Limit {
+        ones: (48 + v % 10) as u8,
+        tens: (47 + v / 10 % 10) as u8,
+        hundreds: (47 + v / 100 % 10) as u8,
+        thousands: (47 + v / 1000) as u8,
     }
 }
 
@@ -38,20 +50,77 @@ pub fn choose(t: bool, u: bool, v: bool) -> bool
     if t { u } else { v }
 }
 
-// Whether x may stand after a b c p.
-fn text_next(a: u8, b: u8, c: u8, p: u8, x: u8) -> bool
-    ensures { λ r. ⌜ r ≡ textNext a b c p x ⌝ }
+// A digit, in text that was judged up to there. The bound is 127 since that makes one comparison of signed bytes.
+pub fn is_near(x: u8) -> bool
+    ensures { λ r. ⌜ r ≡ near x ⌝ }
 {
-    let digit = in_range(x, 48, 57);
-    let closing = (p == 48) & ((c == 32) | (c == 10));
-    let above = (b == 52) & ((49 <= c) | ((p == 57) & (55 <= x)));
-    let over = in_range(b, 48, 57)
-        & (in_range(c, 48, 57) & (in_range(a, 48, 57) | ((53 <= b) | above)));
-    let after_digit = choose(closing, x == 10, choose(digit, !over, x == 32));
-    let after_minus = choose(p == 45, in_range(x, 49, 57), (p == 100) & (x == 32));
-    let after_line = choose(p == 10, digit | ((x == 45) | (x == 100)), after_minus);
-    let after_blank = choose(p == 32, digit | (x == 45), after_line);
-    choose(in_range(p, 48, 57), after_digit, after_blank)
+    in_range(x, 48, 127)
+}
+
+fn one(t: bool) -> u8
+    ensures { λ r. ⌜ (r ≡ pick t 1 0) × (r ≤ 1) ⌝ }
+{
+    if t { 1 } else { 0 }
+}
+
+fn byte_if(t: bool, b: u8) -> u8
+    ensures { λ r. ⌜ r ≡ pick t b 0 ⌝ }
+{
+    if t { b } else { 0 }
+}
+
+fn raise(b: u8) -> u8
+    ensures { λ r. ⌜ r ≡ raised b ⌝ }
+{
+    if b < 48 { 48 } else { b }
+}
+
+// Whether the number that the digits among b c p x end with is within the limit.
+fn number_fits(t: Limit, b: u8, c: u8, p: u8, x: u8) -> bool
+    requires { ⌜ (t .tens ≤ 56) × (t .hundreds ≤ 56) × (t .thousands ≤ 56) ⌝ }
+    ensures { λ r. ⌜ r ≡ fits t b c p x ⌝ }
+{
+    let two = is_near(p);
+    let three = two & is_near(c);
+    let k = x <= t.ones;
+    let l = raise(p) <= t.tens + one(k);
+    let m = raise(byte_if(two, c)) <= t.hundreds + one(l);
+    raise(byte_if(three, b)) <= t.thousands + one(m)
+}
+
+// Whether the digit x makes a number above the limit, or is a fifth digit.
+pub fn is_above(t: Limit, a: u8, b: u8, c: u8, p: u8, x: u8) -> bool
+    requires { ⌜ (t .tens ≤ 56) × (t .hundreds ≤ 56) × (t .thousands ≤ 56) ⌝ }
+    ensures { λ r. ⌜ r ≡ above t a b c p x ⌝ }
+{
+    let fifth = is_near(a) & (is_near(b) & (is_near(c) & is_near(p)));
+    in_range(x, 48, 57) & (fifth | !number_fits(t, b, c, p, x))
+}
+
+// Whether p is a closing 0.
+pub fn is_closing(c: u8, p: u8) -> bool
+    ensures { λ r. ⌜ r ≡ closing c p ⌝ }
+{
+    (p == 48) & !is_near(c)
+}
+
+// Whether a b c p end with a closing 0 and one or two separators.
+fn is_closed(a: u8, b: u8, c: u8, p: u8) -> bool
+    ensures { λ r. ⌜ r ≡ closed a b c p ⌝ }
+{
+    (p < 45) & (is_closing(b, c) | (!is_near(c) & is_closing(a, b)))
+}
+
+// Whether x may stand after a b c p.
+fn text_next(t: Limit, a: u8, b: u8, c: u8, p: u8, x: u8) -> bool
+    requires { ⌜ (t .tens ≤ 56) × (t .hundreds ≤ 56) × (t .thousands ≤ 56) ⌝ }
+    ensures { λ r. ⌜ r ≡ textNext t a b c p x ⌝ }
+{
+    let token = !(p == 100) & !is_closing(c, p);
+    let number = !((p == 45) & (x < 49)) & !is_above(t, a, b, c, p, x);
+    let digit = in_range(x, 48, 57) & (token & number);
+    let mark = ((x == 45) & (p < 45)) | ((x == 100) & is_closed(a, b, c, p));
+    digit | ((((x == 32) | (x == 10)) & !(p == 45)) | mark)
 }
 
 // Whether x may stand after p.
@@ -66,18 +135,42 @@ fn next(f: Format, a: u8, b: u8, c: u8, p: u8, x: u8) -> bool
     ensures { λ r. ⌜ r ≡ mayFollow f a b c p x ⌝ }
 {
     match f {
-        Format::Text => text_next(a, b, c, p, x),
+        Format::Text => text_next(limit_of(4096), a, b, c, p, x),
         Format::Binary => binary_next(p, x),
     }
 }
 
-// The byte k places before place i; before the first byte there are steps' ends.
+// What counts as the byte d places before the first.
+fn before_first(f: Format, d: usize) -> u8
+    ensures { λ r. ⌜ r ≡ before f d ⌝ }
+{
+    match f {
+        Format::Text => if d == 2 { 48 } else { 10 },
+        Format::Binary => 0,
+    }
+}
+
+// Whether a b c p end a step.
+fn is_end(f: Format, a: u8, b: u8, c: u8, p: u8) -> bool
+    ensures { λ r. ⌜ r ≡ ended f a b c p ⌝ }
+{
+    match f {
+        Format::Text => is_closing(c, p) | is_closed(a, b, c, p),
+        Format::Binary => p == 0,
+    }
+}
+
+// The byte k places before place i.
 fn byte_back(f: Format, s: &[u8], i: usize, k: usize) -> u8
     requires { ⌜ i ≤ length (now s) ⌝ }
     requires { ⌜ 0 < k ⌝ }
     ensures { λ r. ⌜ r ≡ byteBack f (old s) i k ⌝ }
 {
-    if i < k { end_byte(f) } else { s[i - k] }
+    if i < k {
+        before_first(f, k - i)
+    } else {
+        s[i - k]
+    }
 }
 
 // The first n bytes.
@@ -105,10 +198,11 @@ fn text_part(s: &[u8], from: usize, to: usize) -> bool
     requires { ⌜ to ≤ length (now s) ⌝ }
     ensures { λ r. ⌜ r && runsAt Text (old s) to ≡ runsAt Text (old s) from ⌝ }
 {
+    let t = limit_of(4096);
     let mut ok = true;
     let mut i = from;
     while i < to {
-        ok = ok & text_next(s[i - 4], s[i - 3], s[i - 2], s[i - 1], s[i]);
+        ok = ok & text_next(t, s[i - 4], s[i - 3], s[i - 2], s[i - 1], s[i]);
         i += 1;
     }
     ok
@@ -155,26 +249,24 @@ fn tail_runs(f: Format, s: &[u8]) -> bool
         i += 4096;
     }
     let n = s.len();
-    part_runs(f, s, i, n) & (s[n - 1] == end_byte(f))
+    part_runs(f, s, i, n) & is_end(f, s[n - 4], s[n - 3], s[n - 2], s[n - 1])
 }
 
-fn is_judged(f: Format, s: &[u8]) -> bool
+// specs/Local.antt: judged. What is judged is a proof's bytes, by proofs/JudgedLaws.antt.
+pub fn is_judged(f: Format, s: &[u8]) -> bool
     ensures { λ r. ⌜ r ≡ judged f (old s) ⌝ }
 {
     let n = s.len();
     if n < 4 {
-        return head_runs(f, s, n) & (byte_back(f, s, n, 1) == end_byte(f));
+        let a = byte_back(f, s, n, 4);
+        let b = byte_back(f, s, n, 3);
+        let c = byte_back(f, s, n, 2);
+        return head_runs(f, s, n) & is_end(f, a, b, c, byte_back(f, s, n, 1));
     }
     if !head_runs(f, s, 4) {
         return false;
     }
     tail_runs(f, s)
-}
-
-fn one(t: bool) -> u8
-    ensures { λ r. ⌜ r ≡ pick t 1 0 ⌝ }
-{
-    if t { 1 } else { 0 }
 }
 
 // How many of the bytes from one place to another, at most 192 of them, are from lo to hi.
@@ -206,11 +298,44 @@ pub fn tally_of(s: &[u8], lo: u8, hi: u8) -> usize
     k + block(s, i, s.len(), lo, hi) as usize
 }
 
+// How many of the bytes from one place to another, at most 192 of them, are from lo to hi and stand after a separator.
+fn starts_block(s: &[u8], from: usize, to: usize, lo: u8, hi: u8) -> u8
+    requires { ⌜ 1 ≤ from ⌝ }
+    requires { ⌜ from ≤ to ⌝ }
+    requires { ⌜ to ≤ from + 192 ⌝ }
+    requires { ⌜ to ≤ length (now s) ⌝ }
+    ensures { λ r. ⌜ (r + startsAt lo hi (old s) to ≡ startsAt lo hi (old s) from) × (r ≤ to - from) ⌝ }
+{
+    let mut k: u8 = 0;
+    let mut i = from;
+    while i < to {
+        k += one((s[i - 1] < 45) & in_range(s[i], lo, hi));
+        i += 1;
+    }
+    k
+}
+
+// How many bytes of text are from lo to hi and stand after a separator or first.
+fn starts_of(s: &[u8], lo: u8, hi: u8) -> usize
+    ensures { λ r. ⌜ r ≡ starts lo hi 10 (old s) ⌝ }
+{
+    if s.len() == 0 {
+        return 0;
+    }
+    let mut k = one(in_range(s[0], lo, hi)) as usize;
+    let mut i: usize = 1;
+    while 192 < s.len() - i {
+        k += starts_block(s, i, i + 192, lo, hi) as usize;
+        i += 192;
+    }
+    k + starts_block(s, i, s.len(), lo, hi) as usize
+}
+
 fn steps_of(f: Format, s: &[u8]) -> usize
     ensures { λ r. ⌜ r ≡ stepsBy f (old s) ⌝ }
 {
     match f {
-        Format::Text => tally_of(s, 10, 10),
+        Format::Text => starts_of(s, 48, 48),
         Format::Binary => tally_of(s, 0, 0),
     }
 }
@@ -221,18 +346,19 @@ fn lits_of(f: Format, s: &[u8], steps: usize) -> usize
     ensures { λ r. ⌜ r ≡ litsBy f (old s) ⌝ }
 {
     match f {
-        Format::Text => tally_of(s, 32, 32) - tally_of(s, 100, 100),
+        Format::Text => starts_of(s, 45, 99) - steps,
         Format::Binary => tally_of(s, 0, 127) - 2 * steps,
     }
 }
 
-// specs/Local.antt: judgedOf. What is judged is a proof's bytes, by proofs/JudgedLaws.antt.
-pub fn judge(f: Format, s: &[u8]) -> Judged
-    ensures { λ r. ⌜ r ≡ judgedOf f (old s) ⌝ }
+// How many literals and steps bytes have that are judged whole.
+pub fn counts_of(f: Format, s: &[u8]) -> Counts
+    requires { ⌜ judged f (now s) ≡ true ⌝ }
+    ensures { λ r. ⌜ (r .lits ≡ litsBy f (old s)) × (r .steps ≡ stepsBy f (old s)) ⌝ }
 {
-    if is_judged(f, s) {
-        let steps = steps_of(f, s);
-        return Judged::Counts(lits_of(f, s, steps), steps);
+    let steps = steps_of(f, s);
+    Counts {
+        lits: lits_of(f, s, steps),
+        steps,
     }
-    Judged::Unsure
 }

@@ -10,15 +10,16 @@ use borrow.Author.Tests.{eq-eqb}
 use Rattle.base.proofs.SetsLaws.{sets-append}
 use Rattle.base.proofs.Truth.{split}
 use Rattle.drat.proofs.At.{text-here, binary-here, token-past}
+use Rattle.drat.proofs.Complete.{signed-first}
 use Rattle.drat.proofs.Places.{bodyAt, lit-at, stop-at, bad-at}
-use Rattle.drat.proofs.Sound.{Bytes, lit-bad, lit-stop, stop-bad, broken-whole, cons-part, no-lit-end, token-stop}
-use Rattle.drat.specs.Grammar.{ends}
-use Rattle.drat.specs.Reading.{endFrom, token, whole}
+use Rattle.drat.proofs.Sound.{Bytes, lit-bad, lit-stop, stop-bad, broken-whole, cons-part, close-no-lit, token-stop, signed-sound}
+use Rattle.drat.specs.Reading.{closeFrom, signedFrom, seps, token, whole}
 use Rattle.drat.specs.declared.Format.the-variants.{Text, Binary}
 use Rattle.drat.specs.declared.Format.{Format}
 use Rattle.drat.specs.declared.Token.the-variants.{Lit, Stop, Bad}
 use Rattle.drat.specs.declared.Token.{Token}
-use Rattle.drat_read.specs.Known.{bodyFrom, BodyFits, BodyFilled, IsLit}
+use Rattle.drat_read.specs.Known.{bodyFrom, BodyFits, BodyFilled, IsNumber, IsGap, IsLit}
+use Rattle.drat_read.proofs.LitLaws.{text-number, text-read}
 
 pub body-is : (f : Format) (s : List ℕ) (i : ℕ) → bodyAt f s i ≡ bodyFrom f s i
 unfolding bodyAt
@@ -53,8 +54,8 @@ next-token f s i cs j hb h e = go (token f i (drop i s)) refl
 head-is : (s : List ℕ) (i x : ℕ) (l : List ℕ) → drop i s ≡ x ∷ l → getD s i 0 ≡ x
 head-is s i x l e = let z : i + 0 ≡ i = omega arith in ap (λ (k : ℕ). getD s k 0) (sym z) ∙ sym (getD-drop i s 0 0) ∙ ap (λ (m : List ℕ). getD m 0 0) e
 
-stop-byte : (f : Format) (s : List ℕ) (i j : ℕ) → token f i (drop i s) ≡ Stop j → (getD s i 0 ≡ stopByte f) × (j ≡ i + length (ends f))
-stop-byte Text s i j e = let r = token-stop Text i (drop i s) j e in (head-is s i 48 (10 ∷ r .rest) (r .split), r .place)
+stop-byte : (f : Format) (s : List ℕ) (i j : ℕ) → token f i (drop i s) ≡ Stop j → (getD s i 0 ≡ stopByte f) × (j ≡ i + 1)
+stop-byte Text s i j e = let r = token-stop Text i (drop i s) j e in (head-is s i 48 (r .rest) (r .split), r .place)
 stop-byte Binary s i j e = let r = token-stop Binary i (drop i s) j e in (head-is s i 0 (r .rest) (r .split), r .place)
 
 here : (f : Format) (s : List ℕ) (i : ℕ) (t : Token) → token f i (drop i s) ≡ t → (t ≡ Bad → ⊥) → i < length s
@@ -63,12 +64,25 @@ here f s i t e n = ⊎-elim (λ (h : i < length s). h) (λ (h : length s ≤ i).
 lit-byte : (f : Format) (s : List ℕ) (i c j : ℕ) → token f i (drop i s) ≡ Lit c j → getD s i 0 ≡ stopByte f → ⊥
 lit-byte Text s i c j e h =
     let l = here Text s i (Lit c j) e (lit-bad c j) in
-    let t : token Text i (drop i s) ≡ endFrom (i + 1) (drop (i + 1) s) = text-here s i l ∙ simp (eq-eqb (getD s i 0) 48 h) in
-    no-lit-end (i + 1) (drop (i + 1) s) c j (sym t ∙ e)
+    let t : token Text i (drop i s) ≡ closeFrom (i + 1) (drop (i + 1) s) = text-here s i l ∙ simp (eq-eqb (getD s i 0) 48 h) in
+    close-no-lit (i + 1) (drop (i + 1) s) c j (sym t ∙ e)
 lit-byte Binary s i c j e h =
     let l = here Binary s i (Lit c j) e (lit-bad c j) in
     let t : token Binary i (drop i s) ≡ Stop (i + 1) = binary-here s i l ∙ simp (eq-eqb (getD s i 0) 0 h) in
     lit-stop c j (i + 1) (sym e ∙ t)
+
+-- a text step's literals start with a minus or a digit, and end with a digit
+pub body-byte : (s : List ℕ) (i : ℕ) (cs : List ℕ) (j : ℕ) → Bytes s → i ≤ length s → bodyAt Text s i ≡ whole cs j → (i < length s) × (45 ≤ getD s i 0)
+body-byte s i cs j hb h e = go (next-token Text s i cs j hb h e)
+  where
+    go : NextToken Text s i cs j → (i < length s) × (45 ≤ getD s i 0)
+    go (stops t q k) = (here Text s i (Stop j) t (stop-bad j), omega (arith, stop-byte Text s i j t .0))
+    go (goes c k ds t q b u v) =
+        let l = here Text s i (Lit c k) t (lit-bad c k) in
+        let n = text-number s i c k l (lit-byte Text s i c k t) t in
+        let r = signed-sound i (drop i s) (n .code) (n .next) (n .is) in
+        let f = signed-first (r .spelled) in
+        (l, omega (arith, f .5, head-is s i (f .0) (f .1 ++ r .rest) (r .split ∙ ap (λ (x : List ℕ). x ++ r .rest) (f .2))))
 
 -- between two literals: ds were filled, rest is ahead
 pub record BodyFilling (f : Format) (s codes₀ : List ℕ) (i n : ℕ) (codes : List ℕ) (at m : ℕ) : Type 0 where
@@ -109,10 +123,10 @@ module _ (f : Format) (s codes₀ codes : List ℕ) (i n at m : ℕ) (hb : Bytes
       go (goes c k ds t z b o p) = omega arith
 
   -- the step's end
-  pub filling-stop : getD s at 0 ≡ stopByte f → (at + length (ends f) ≤ length s) × BodyFilled f s i n codes₀ codes (at + length (ends f)) m
+  pub filling-stop : getD s at 0 ≡ stopByte f → (at + 1 ≤ length s) × BodyFilled f s i n codes₀ codes (at + 1) m
   filling-stop h = go known
     where
-      go : NextToken f s at (r .rest) (r .end) → (at + length (ends f) ≤ length s) × BodyFilled f s i n codes₀ codes (at + length (ends f)) m
+      go : NextToken f s at (r .rest) (r .end) → (at + 1 ≤ length s) × BodyFilled f s i n codes₀ codes (at + 1) m
       go (stops t z k) =
           let p = stop-byte f s at (r .end) t .1 in (
             omega (arith, p),
@@ -157,3 +171,22 @@ module _ (f : Format) (s codes₀ codes : List ℕ) (i n at m : ℕ) (hb : Bytes
               held = ap₂ (λ (x : List ℕ) (y : ℕ). set x y c) (r .held) (r .count) ∙ sym (sets-append (r .ds) (c ∷ []) codes₀ n);
             },
           )
+
+module _ (s codes₀ codes : List ℕ) (i n at m : ℕ) (hb : Bytes s) (r : BodyFilling Text s codes₀ i n codes at m) (h : getD s at 0 ≡ 48 → ⊥) where
+  -- a text literal: its number, and the separators after it
+  pub filling-number : IsNumber s (signedFrom at (drop at s))
+  filling-number =
+      let l = filling-lit Text s codes₀ codes i n at m hb r h in
+      text-number s at (l .code) (l .next) (filling-inside Text s codes₀ codes i n at m hb r) h (l .is)
+
+  module _ (c k : ℕ) (e : signedFrom at (drop at s) ≡ Lit c k) where
+    pub filling-read : (k < length s) × (token Text at (drop at s) ≡ Lit c (k + 1 + seps (drop (k + 1) s)))
+    filling-read =
+        let l = filling-lit Text s codes₀ codes i n at m hb r h in
+        text-read s at (l .code) (l .next) c k (filling-inside Text s codes₀ codes i n at m hb r) h (l .is) e
+
+    pub filling-gap : IsGap s (k + 1)
+    filling-gap =
+        let w = filling-more Text s codes₀ codes i n at m hb r c (k + 1 + seps (drop (k + 1) s)) (filling-read .1) in
+        let b = body-byte s (k + 1 + seps (drop (k + 1) s)) (w .3 .rest) (w .3 .end) hb (w .1) (w .3 .ahead) in
+        record { inside = b .0; token = b .1 }

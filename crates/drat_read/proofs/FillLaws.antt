@@ -1,24 +1,28 @@
 -- The fill from step to step: all steps are whole, so that each turn fills one more.
 use Prim.Native.Nat.{ℕ, _+_, _-_, _≤_, _<_}
+use mathlib.Core.Bool.{true}
 use mathlib.Core.List.{List, [], _∷_, _++_}
 use mathlib.Core.Path.{_≡_, refl, sym, ap, _∙_, subst, subst₂}
 use lib.ListN.{length, drop, set, length-append}
 use lib.Seq.{sets}
 use native.Mathlib.Numerals.{add-one}
 use native.Mathlib.Omega.{arith}
-use Rattle.drat.proofs.Places.{bodyAt, stepAt, proofAt, opens-at, stop-at, wrong-at, got-at, fault-at, proof-at-zero}
+use Rattle.drat.proofs.Ends.{step-is, call-filled}
+use Rattle.drat.proofs.Places.{bodyAt, stepAt, proofAt, opens-at, stop-at, got-at, fault-at, tokenAt}
 use Rattle.drat.proofs.Scanning.{prependSteps, codes-of-append, Inner, Outer, inner-start, inner-more, outer-more, outer-end}
-use Rattle.drat.proofs.Sound.{Bytes, as-step, cons-step, steps-fault, fault-got}
-use Rattle.drat.specs.Filled.{kindNumber, codesOf, counted, Scan}
+use Rattle.drat.proofs.Sound.{Bytes, as-step, cons-step, steps-fault}
+use Rattle.drat.specs.Filled.{kindNumber, codesOf, counted, Scan, ReadCall}
 use Rattle.drat.specs.Grammar.{Step}
-use Rattle.drat.specs.Reading.{token, opening, whole, One, got, fault, Proof, steps, faultAt, readProof}
+use Rattle.drat.specs.Reading.{token, opening, whole, One, got, fault, oneStep, Proof, steps, faultAt, readProof}
 use Rattle.drat.specs.declared.Format.{Format}
 use Rattle.drat.specs.declared.Kind.{Kind}
-use Rattle.drat.specs.declared.Opening.the-variants.{Opens, Wrong}
-use Rattle.drat.specs.declared.Opening.{Opening}
+use Rattle.drat.specs.declared.Opening.the-variants.{Opens}
+use Rattle.drat.specs.declared.Read.the-variants.{Filled}
 use Rattle.drat.specs.declared.Scanned.the-variants.{Whole}
 use Rattle.drat.specs.declared.Token.the-variants.{Lit, Stop}
-use Rattle.drat_read.specs.Known.{StepsFit, BodyFits, BodyFilled, IsOpen}
+use Rattle.drat_judge.proofs.CountsLaws.{judged-size}
+use Rattle.drat_judge.specs.Local.{judged}
+use Rattle.drat_read.specs.Known.{StepsFit, BodyFits, BodyFilled, IsStep}
 use Rattle.drat_read.proofs.BodyLaws.{body-is, NextToken, stops, goes, next-token}
 
 -- ---- what a whole is made of
@@ -70,24 +74,17 @@ module _ (f : Format) (s codes₀ ends₀ kinds₀ codes ends kinds : List ℕ) 
     coming ss e h = go (stepAt f s at) refl
       where
         r : (ts : List Step) × (proofAt f s at ≡ steps ts) × (ss ≡ o .ss ++ ts)
-        r = rest-steps (o .ss) (proofAt f s at) ss (sym (o .read) ∙ sym (proof-at-zero f s) ∙ e)
+        r = rest-steps (o .ss) (proofAt f s at) ss (sym (o .read) ∙ e)
 
         go : (t : One) → stepAt f s at ≡ t → Coming ss
         go (got t j) g =
-            let q = cons-step t (proofAt f s j) (r .0) (sym (got-at f s hb at (o .within) t j g) ∙ r .1) in
+            let q = cons-step t (proofAt f s (tokenAt f s j)) (r .0) (sym (got-at f s hb at (o .within) t j g) ∙ r .1) in
             record { now = t; end = j; later = q .0; here = g; all = r .2 ∙ ap (λ (l : List Step). o .ss ++ l) (sym (q .2)) }
         go fault g = absurd (steps-fault (r .0) at (sym (fault-at f s hb at h g) ∙ r .1))
 
     module _ (a b c : ℕ) (w : StepsFit f s a b c) (h : at < length s) where
-      fill-wrong : opening f at (drop at s) ≡ Wrong → ⊥
-      fill-wrong e = let g = coming (w .ss) (w .reads) h in fault-got (g .now) (g .end) (sym (wrong-at f s hb at e) ∙ g .here)
-
-      pub fill-open : IsOpen (opening f at (drop at s))
-      fill-open = go (opening f at (drop at s)) refl
-        where
-          go : (t : Opening) → opening f at (drop at s) ≡ t → IsOpen (opening f at (drop at s))
-          go (Opens k j) e = record { kind = k; first = j; is = e }
-          go Wrong e = absurd (fill-wrong e)
+      pub fill-here : IsStep (oneStep f at (drop at s))
+      fill-here = let g = coming (w .ss) (w .reads) h in record { step = g .now; end = g .end; is = sym (step-is f s at) ∙ g .here }
 
       pub fill-opens : (k : Kind) (first : ℕ) → opening f at (drop at s) ≡ Opens k first → BodyFits f s first n a
       fill-opens k first e =
@@ -113,7 +110,7 @@ module _ (f : Format) (s codes₀ ends₀ kinds₀ codes ends kinds : List ℕ) 
     -- one step more
     pub fill-step : (k : Kind) (first : ℕ) → opening f at (drop at s) ≡ Opens k first → (codes′ : List ℕ) (at′ n′ : ℕ)
         → BodyFilled f s first n codes codes′ at′ n′
-        → (at < at′) × Outer f s codes₀ ends₀ kinds₀ codes′ (set ends m n′) (set kinds m (kindNumber k)) at′ n′ (m + 1)
+        → (at < at′) × Outer f s codes₀ ends₀ kinds₀ codes′ (set ends m n′) (set kinds m (kindNumber k)) (tokenAt f s at′) n′ (m + 1)
     fill-step k first e codes′ at′ n′ b =
         let x = opens-at f s hb at (o .within) k first e in
         let g = along f s hb (b .cs) codes codes first n first n at′ (inner-start f s codes first n (x .2) (omega (arith, x .1, o .small)))
@@ -126,8 +123,8 @@ module _ (f : Format) (s codes₀ ends₀ kinds₀ codes ends kinds : List ℕ) 
         )
 
     -- no step more
-    pub fill-end : length s ≤ at → Scan f s codes₀ ends₀ kinds₀ codes ends kinds (counted (readProof f s))
-    fill-end h = let r = outer-end f s codes₀ ends₀ kinds₀ codes ends kinds at n m hb o h in record { answer = refl; filled = r .filled }
+    pub fill-end : length s ≤ at → Scan f s codes₀ ends₀ kinds₀ codes ends kinds (Whole n m)
+    fill-end h = outer-end f s codes₀ ends₀ kinds₀ codes ends kinds at n m hb o h
 
 -- the numbers of literals and of steps say whether slices hold them
 pub whole-fits : (f : Format) (s : List ℕ) (n m a b c : ℕ) → Whole n m ≡ counted (readProof f s) → n ≤ a → m ≤ b → m ≤ c → StepsFit f s a b c
@@ -140,3 +137,28 @@ whole-fits f s n m a b c e ha hb hc = go (readProof f s) refl e
         let qm : m ≡ length ss = cc in
         record { ss = ss; reads = q; codes-fit = omega arith; ends-fit = omega arith; kinds-fit = omega arith }
     go (faultAt i) q e = let z : _≡_ {A = ℕ} 0 1 = cc in absurd (omega arith)
+
+-- slices with a word for each byte hold what is judged whole
+pub ample-fits : (f : Format) (s : List ℕ) (a b c : ℕ) → Bytes s → judged f s ≡ true → length s ≤ a → length s ≤ b → length s ≤ c → StepsFit f s a b c
+ample-fits f s a b c hb h ha hc hk =
+    let j = judged-size f s hb h in
+    record {
+      ss = j .0;
+      reads = j .1;
+      codes-fit = omega (arith, j .2, ha);
+      ends-fit = omega (arith, j .2, hc);
+      kinds-fit = omega (arith, j .2, hk);
+    }
+
+-- what was filled is what the call answers
+pub ample-call : (f : Format) (s codes ends kinds codes′ ends′ kinds′ : List ℕ) (n m : ℕ) → Bytes s → judged f s ≡ true → length s ≤ length codes
+    → length s ≤ length ends → length s ≤ length kinds → Scan f s codes ends kinds codes′ ends′ kinds′ (Whole n m)
+    → ReadCall f s codes ends kinds codes′ ends′ kinds′ (Filled n m)
+unfolding counted
+ample-call f s codes ends kinds codes′ ends′ kinds′ n m hb h ha hc hk q =
+    let j = judged-size f s hb h in
+    let e = q .answer ∙ ap counted (j .1) in
+    let qn : n ≡ length (codesOf (j .0)) = cc in
+    let qm : m ≡ length (j .0) = cc in
+    call-filled f s codes ends kinds n m (q .answer) (omega (arith, j .2, qn, ha)) (omega (arith, j .2, qm, hc)) (omega (arith, j .2, qm, hk))
+    codes′ ends′ kinds′ (Whole n m) q

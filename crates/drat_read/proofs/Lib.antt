@@ -1,5 +1,6 @@
 pub mod LitLaws
+pub mod LiteralLaws
+pub mod ScanLaws
 pub mod BodyLaws
 pub mod OpenLaws
 pub mod FillLaws
-pub mod ScanLaws

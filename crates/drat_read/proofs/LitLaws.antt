@@ -1,29 +1,37 @@
 -- What a place must hold if a literal stands there.
-use Prim.Native.Nat.{ℕ, _+_, _-_, _*_, _≤_, _<_}
-use mathlib.Core.Bool.{Bool, true, false}
+use Prim.Native.Nat.{ℕ, suc, _+_, _-_, _*_, _≤_, _<_}
+use mathlib.Core.Bool.{Bool, true, false, not}
 use mathlib.Core.List.{List}
 use mathlib.Core.Logic.{_⊎_, ⊎-elim}
 use mathlib.Core.Path.{_≡_, refl, sym, ap, ap₂, _∙_}
 use lib.Dec.{eqb, ltb}
-use lib.ListN.{length, getD, drop}
-use lib.Seq.{getD-drop}
+use lib.ListN.{length, getD, drop, List·getD-eq-default}
 use native.Mathlib.Omega.{arith}
 use borrow.Author.Tests.{eqb-false, ltb-false, ne-eqb, lt-ltb, le-ltb}
 use Rattle.base.proofs.MemberLaws.{word-inside}
 use Rattle.base.proofs.Truth.{split}
 use Rattle.base.specs.Choice.{pick}
-use Rattle.drat.proofs.At.{digits-here, signed-here, leb-here, line-here, binary-here, digits-past, leb-past, token-past}
-use Rattle.drat.proofs.Numerals.{in-range-is, below-range}
+use Rattle.drat.proofs.At.{signed-here, leb-here, seps-here, text-here, binary-here, leb-past, token-past, gap-after, gap-stop, gap-bad, gap-at}
 use Rattle.drat.proofs.Places.{signed-moves}
-use Rattle.drat.proofs.Sound.{lit-bad, passed, blank-read}
-use Rattle.drat.specs.Numeral.{digit}
-use Rattle.drat.specs.Reading.{numbered, withDigit, digitsFrom, signedFrom, thenBlank, lebFrom, lineFrom, token}
-use Rattle.drat.proofs.Complete.{text-line}
+use Rattle.drat.proofs.Separators.{is-sep, no-sep}
+use Rattle.drat.proofs.Sound.{lit-bad, lit-parts, passed}
+use Rattle.drat.specs.Grammar.{Sep, blank, feed}
+use Rattle.drat.specs.Reading.{digitsFrom, signedFrom, sep, seps, thenGap, lebFrom, token, gapFrom}
 use Rattle.drat.specs.declared.Format.the-variants.{Text, Binary}
 use Rattle.drat.specs.declared.Format.{Format}
+use Rattle.drat.specs.declared.Kind.the-variants.{Delete}
+use Rattle.drat.specs.declared.Opening.the-variants.{Opens, Wrong}
 use Rattle.drat.specs.declared.Token.the-variants.{Lit, Stop, Bad}
 use Rattle.drat.specs.declared.Token.{Token}
-use Rattle.drat_read.specs.Known.{IsNumber, IsLit}
+use Rattle.drat_read.specs.Known.{IsNumber, IsGap}
+
+pub not-true : (t : Bool) → not t ≡ true → t ≡ false
+not-true true h = sym h
+not-true false h = refl
+
+pub not-false : (t : Bool) → not t ≡ false → t ≡ true
+not-false true h = refl
+not-false false h = sym h
 
 -- a literal's code may be written as any sum that it is
 pub lit-code : (x : Token) (c k j : ℕ) → x ≡ Lit c j → k ≡ c → x ≡ Lit k j
@@ -36,42 +44,6 @@ kept false y c j e = absurd (lit-bad c j (sym e))
 -- what is read stands in the input
 standing : (s : List ℕ) (i : ℕ) (t : Token) (c j : ℕ) → t ≡ Lit c j → (length s ≤ i → t ≡ Bad) → i < length s
 standing s i t c j e past = ⊎-elim (λ (h : i < length s). h) (λ (h : length s ≤ i). absurd (lit-bad c j (sym e ∙ past h))) (split i (length s))
-
--- digits of a number t, with a byte below the digits after them; v is the value of those before place i
-module _ (s : List ℕ) (sign v i : ℕ) (t : Token) (n : IsNumber s t) (e : digitsFrom sign v i (drop i s) ≡ t) where
-  run-over : numbered sign v i ≡ t → (0 < v) × (i ≡ n .next) × (t ≡ Lit (2 * (v - 1) + sign) i)
-  run-over o =
-      let z = passed (eqb v 0) (Lit (2 * (v - 1) + sign) i) (n .code) (n .next) (o ∙ n .is) in
-      let nz = eqb-false v 0 (z .0) in
-      let q = z .1 in
-      (omega arith, cc, n .is ∙ sym q)
-
-  pub digits-inside : i < length s
-  digits-inside =
-      ⊎-elim (λ (h : i < length s). h) (λ (h : length s ≤ i). absurd (omega (arith, n .inside, run-over (sym (digits-past s i h sign v) ∙ e) .1)))
-      (split i (length s))
-
-  pub digits-ended : getD s i 0 < 48 → (0 < v) × (t ≡ Lit (2 * (v - 1) + sign) i)
-  digits-ended h =
-      let d : digitsFrom sign v i (drop i s) ≡ numbered sign v i = digits-here s i digits-inside sign v ∙ simp (below-range 48 57 (getD s i 0) h) in
-      let o = run-over (sym d ∙ e) in
-      (o .0, o .2)
-
-  pub digits-more : 48 ≤ getD s i 0
-      → (getD s i 0 ≤ 57) × (withDigit v (getD s i 0) ≤ 4096) × (digitsFrom sign (withDigit v (getD s i 0)) (i + 1) (drop (i + 1) s) ≡ t)
-  digits-more h = go (digit (getD s i 0)) refl (sym (digits-here s i digits-inside sign v) ∙ e)
-    where
-      go : (u : Bool) → digit (getD s i 0) ≡ u
-          → pick u
-          (pick (eqb (withDigit v (getD s i 0)) 0) Bad
-          (pick (ltb 4096 (withDigit v (getD s i 0))) Bad (digitsFrom sign (withDigit v (getD s i 0)) (i + 1) (drop (i + 1) s))))
-          (numbered sign v i) ≡ t
-          → (getD s i 0 ≤ 57) × (withDigit v (getD s i 0) ≤ 4096) × (digitsFrom sign (withDigit v (getD s i 0)) (i + 1) (drop (i + 1) s) ≡ t)
-      go true q o =
-          let z₁ = passed (eqb (withDigit v (getD s i 0)) 0) _ (n .code) (n .next) (o ∙ n .is) in
-          let z₂ = passed (ltb 4096 (withDigit v (getD s i 0))) _ (n .code) (n .next) (z₁ .1) in
-          (in-range-is 48 57 (getD s i 0) q .1, ltb-false 4096 (withDigit v (getD s i 0)) (z₂ .0), z₂ .1 ∙ sym (n .is))
-      go false q o = absurd (omega (arith, n .below, ap (λ (k : ℕ). getD s k 0) (run-over o .1)))
 
 pub token-inside : (f : Format) (s : List ℕ) (i c j : ℕ) → token f i (drop i s) ≡ Lit c j → i < length s
 token-inside f s i c j e = standing s i (token f i (drop i s)) c j e (λ h. token-past s i h f)
@@ -93,35 +65,100 @@ signed-digits s i sign h e = go (eqb (getD s i 0) 45) refl
         let z : i ≡ i + 0 = omega arith in
         choice false q ∙ ap (λ (w : ℕ). digitsFrom 0 0 w (drop w s)) z ∙ ap (λ (w : ℕ). digitsFrom w 0 (i + w) (drop (i + w) s)) (signs false q)
 
--- a text literal: a number and a blank
-pub line-literal : (s : List ℕ) (i : ℕ) → i < length s → (getD s i 0 ≡ 48 → ⊥) → lineFrom i (drop i s) ≡ thenBlank i (drop i s) (signedFrom i (drop i s))
-line-literal s i h n = line-here s i h ∙ simp (ne-eqb (getD s i 0) 48 n)
+-- a text literal: a number and the separators after it
+pub text-literal : (s : List ℕ) (i : ℕ) → i < length s → (getD s i 0 ≡ 48 → ⊥) → token Text i (drop i s) ≡ thenGap i (drop i s) (signedFrom i (drop i s))
+text-literal s i h n = text-here s i h ∙ simp (ne-eqb (getD s i 0) 48 n)
 
-text-literal : (s : List ℕ) (i : ℕ) → i < length s → (getD s i 0 ≡ 48 → ⊥) → token Text i (drop i s) ≡ thenBlank i (drop i s) (signedFrom i (drop i s))
-text-literal s i h n = text-line i (drop i s) ∙ line-literal s i h n
+-- its number ends at place end, and its separators before place j
+pub record Spaced (s : List ℕ) (i c j : ℕ) : Type 0 where
+  pub end : ℕ
+  pub number : signedFrom i (drop i s) ≡ Lit c end
+  pub sepped : sep (getD s end 0) ≡ true
+  pub place : j ≡ end + seps (drop end s)
 
-pub text-number : (s : List ℕ) (i sign c j : ℕ) → i < length s → (getD s i 0 ≡ 48 → ⊥) → sign ≡ pick (eqb (getD s i 0) 45) 1 0
-    → token Text i (drop i s) ≡ Lit c j
-    → IsNumber s (digitsFrom sign 0 (i + sign) (drop (i + sign) s))
-text-number s i sign c j h n q e =
-    let r = blank-read i (drop i s) (signedFrom i (drop i s)) c j (sym (text-literal s i h n) ∙ e) in
-    let m = signed-moves i (drop i s) c (r .0) (r .1) in
-    let k : i + (r .0 - i) ≡ r .0 = omega (arith, m .0) in
-    let b : getD s (r .0) 0 ≡ 32 = sym (getD-drop i s (r .0 - i) 0 ∙ ap (λ (x : ℕ). getD s x 0) k) ∙ r .3 in
-    record { code = c; next = r .0; is = sym (signed-digits s i sign h q) ∙ r .1; inside = word-inside s (r .0) (λ z. omega arith); below = omega arith }
+pub text-spaced : (s : List ℕ) (i c j : ℕ) → i < length s → (getD s i 0 ≡ 48 → ⊥) → token Text i (drop i s) ≡ Lit c j → Spaced s i c j
+text-spaced s i c j h n e = go (signedFrom i (drop i s)) refl (sym (text-literal s i h n) ∙ e)
+  where
+    go : (t : Token) → signedFrom i (drop i s) ≡ t → thenGap i (drop i s) t ≡ Lit c j → Spaced s i c j
+    go (Lit d k) q g =
+        let m = signed-moves i (drop i s) d k q .0 in
+        gone (sep (getD s k 0)) refl (sym (gap-after s i k (omega arith) d) ∙ g)
+      where
+        gone : (u : Bool) → sep (getD s k 0) ≡ u → pick u (Lit d (k + seps (drop k s))) Bad ≡ Lit c j → Spaced s i c j
+        gone true u g = let l = lit-parts d (k + seps (drop k s)) c j g in
+            record { end = k; number = q ∙ ap (λ (x : ℕ). Lit x k) (l .0); sepped = u; place = sym (l .1) }
+        gone false u g = absurd (lit-bad c j (sym g))
+    go (Stop k) q g = absurd (lit-bad c j (sym g ∙ gap-stop i (drop i s) k))
+    go Bad q g = absurd (lit-bad c j (sym g ∙ gap-bad i (drop i s)))
 
-pub text-read : (s : List ℕ) (i sign c k : ℕ) (t : IsLit (token Text i (drop i s))) → i < length s → (getD s i 0 ≡ 48 → ⊥)
-    → sign ≡ pick (eqb (getD s i 0) 45) 1 0
-    → digitsFrom sign 0 (i + sign) (drop (i + sign) s) ≡ Lit c k → (k < length s) × (token Text i (drop i s) ≡ Lit c (k + 1))
-text-read s i sign c k t h n q e =
-    let r = blank-read i (drop i s) (signedFrom i (drop i s)) (t .code) (t .next) (sym (text-literal s i h n) ∙ t .is) in
-    let d : Lit (t .code) (r .0) ≡ Lit c k = sym (r .1) ∙ signed-digits s i sign h q ∙ e in
-    let w : IsNumber s (digitsFrom sign 0 (i + sign) (drop (i + sign) s)) = text-number s i sign (t .code) (t .next) h n q (t .is) in
-    let dw : Lit (w .code) (w .next) ≡ Lit c k = sym (w .is) ∙ e in
-    let kw : w .next ≡ k = cc in
-    let kr : r .0 ≡ k = cc in
-    let cr : t .code ≡ c = cc in
-    (omega (arith, w .inside), t .is ∙ ap₂ Lit cr (omega (arith, r .2)))
+-- a separator is a byte below a minus, and no default
+pub sep-small : (b : ℕ) → sep b ≡ true → (0 < b) × (b < 45)
+sep-small b h = go (is-sep b h)
+  where
+    go : {x : ℕ} → Sep x → (0 < x) × (x < 45)
+    go blank = omega arith
+    go feed = omega arith
+
+pub text-number : (s : List ℕ) (i c j : ℕ) → i < length s → (getD s i 0 ≡ 48 → ⊥) → token Text i (drop i s) ≡ Lit c j
+    → IsNumber s (signedFrom i (drop i s))
+text-number s i c j h n e =
+    let r = text-spaced s i c j h n e in
+    let b = sep-small (getD s (r .end) 0) (r .sepped) in
+    record { code = c; next = r .end; is = r .number; inside = word-inside s (r .end) (λ z. omega (arith, b .0)); below = b .1 }
+
+-- no separator
+pub seps-none : (s : List ℕ) (i : ℕ) → i < length s → sep (getD s i 0) ≡ false → seps (drop i s) ≡ 0
+seps-none s i h n = seps-here s i h ∙ simp n
+
+-- separators, the first of them apart
+pub seps-one : (s : List ℕ) (i : ℕ) → sep (getD s i 0) ≡ true → i + seps (drop i s) ≡ i + 1 + seps (drop (i + 1) s)
+seps-one s i h =
+    let b = sep-small (getD s i 0) h in
+    let e : seps (drop i s) ≡ suc (seps (drop (i + 1) s)) = seps-here s i (word-inside s i (λ z. omega (arith, b .0))) ∙ simp h in
+    omega (arith, e)
+
+pub text-read : (s : List ℕ) (i c j d k : ℕ) → i < length s → (getD s i 0 ≡ 48 → ⊥) → token Text i (drop i s) ≡ Lit c j → signedFrom i (drop i s) ≡ Lit d k
+    → (k < length s) × (token Text i (drop i s) ≡ Lit d (k + 1 + seps (drop (k + 1) s)))
+text-read s i c j d k h n e q =
+    let r = text-spaced s i c j h n e in
+    let w = text-number s i c j h n e in
+    let p = lit-parts c (r .end) d k (sym (r .number) ∙ q) in
+    let v = lit-parts (w .code) (w .next) d k (sym (w .is) ∙ q) in
+    let o : j ≡ k + 1 + seps (drop (k + 1) s) = r .place ∙ seps-one s (r .end) (r .sepped) ∙ ap (λ (x : ℕ). x + 1 + seps (drop (x + 1) s)) (p .1) in
+    (omega (arith, v .1, w .inside), e ∙ ap₂ Lit (p .0) o)
+
+-- inside a gap: a byte below 45 is a separator, and no other
+module _ (s : List ℕ) (at i : ℕ) (g : IsGap s at) (e : i + seps (drop i s) ≡ at + seps (drop at s)) where
+  pub gap-inside : i < length s
+  gap-inside = omega (arith, e, g .inside)
+
+  pub gap-end : 45 ≤ getD s i 0 → i ≡ at + seps (drop at s)
+  gap-end h = let z = seps-none s i gap-inside (no-sep (getD s i 0) (omega arith)) in omega (arith, z, e)
+
+  pub gap-more : getD s i 0 < 45 → i + 1 + seps (drop (i + 1) s) ≡ at + seps (drop at s)
+  gap-more h = go (sep (getD s i 0)) refl
+    where
+      go : (t : Bool) → sep (getD s i 0) ≡ t → i + 1 + seps (drop (i + 1) s) ≡ at + seps (drop at s)
+      go true t = sym (seps-one s i t) ∙ e
+      go false t =
+          let z = seps-none s i gap-inside t in
+          let o : i ≡ at + seps (drop at s) = omega (arith, z, e) in
+          absurd (omega (arith, h, g .token, ap (λ (x : ℕ). getD s x 0) o))
+
+-- the gap after a number, and the one after a `d`
+pub gap-some : (s : List ℕ) (code i r : ℕ) → sep (getD s i 0) ≡ true → r ≡ i + 1 + seps (drop (i + 1) s)
+    → Lit code r ≡ pick (sep (getD s i 0)) (Lit code (i + seps (drop i s))) Bad
+gap-some s code i r h e = ap (Lit code) (e ∙ sym (seps-one s i h)) ∙ sym (ap (λ (t : Bool). pick t (Lit code (i + seps (drop i s))) Bad) h)
+
+pub open-none : (s : List ℕ) (i : ℕ) → length s ≤ i → Wrong ≡ gapFrom i (drop i s)
+open-none s i h = sym (gap-at s i ∙ simp (List·getD-eq-default s 0 h))
+
+pub open-some : (s : List ℕ) (i r : ℕ) → sep (getD s i 0) ≡ true → r ≡ i + 1 + seps (drop (i + 1) s) → Opens Delete r ≡ gapFrom i (drop i s)
+open-some s i r h e =
+    ap (Opens Delete) (e ∙ sym (seps-one s i h)) ∙ sym (gap-at s i ∙ ap (λ (t : Bool). pick t (Opens Delete (i + seps (drop i s))) Wrong) h)
+
+pub open-not : (s : List ℕ) (i : ℕ) → sep (getD s i 0) ≡ false → Wrong ≡ gapFrom i (drop i s)
+open-not s i h = sym (gap-at s i ∙ ap (λ (t : Bool). pick t (Opens Delete (i + seps (drop i s))) Wrong) h)
 
 -- a binary literal: one byte, or two
 pub binary-literal : (s : List ℕ) (i : ℕ) → i < length s → (getD s i 0 ≡ 0 → ⊥) → token Binary i (drop i s) ≡ lebFrom 0 1 i (drop i s)

@@ -1,13 +1,17 @@
 -- The scan fills nothing: its turns are those of a fill of empty slices.
 use Prim.Native.Nat.{ℕ, _+_, _≤_, _<_}
 use mathlib.Core.List.{List, []}
-use mathlib.Core.Path.{_≡_, refl}
+use mathlib.Core.Path.{_≡_, refl, ap, _∙_}
 use lib.ListN.{length, drop, set}
 use lib.Seq.{sets}
+use native.Mathlib.Omega.{arith}
+use Rattle.drat.proofs.Ends.{first-within, first-part}
+use Rattle.drat.proofs.Places.{tokenAt, step-moves}
 use Rattle.drat.proofs.Scanning.{Inner, Outer, inner-start, inner-more, outer-start, outer-more, outer-wrong, outer-bad, outer-end}
-use Rattle.drat.proofs.Sound.{Bytes}
-use Rattle.drat.specs.Filled.{counted}
-use Rattle.drat.specs.Reading.{token, opening, readProof}
+use Rattle.drat.proofs.Sound.{Bytes, bytes-drop}
+use Rattle.drat.specs.Filled.{counted, endOf, firstToken, firstOf, first}
+use Rattle.drat.specs.Reading.{token, opening, One, got, fault, oneStep, readProof}
+use Rattle.drat.specs.Writing.{part}
 use Rattle.drat.specs.declared.Format.{Format}
 use Rattle.drat.specs.declared.Kind.{Kind}
 use Rattle.drat.specs.declared.Opening.the-variants.{Opens, Wrong}
@@ -26,8 +30,8 @@ pub record InStep (f : Format) (s : List ℕ) (first n₀ at n : ℕ) : Type 0 w
   codes : List ℕ
   pub inner : Inner f s [] first n₀ codes at n
 
-pub between-start : (f : Format) (s : List ℕ) → Between f s 0 0 0
-between-start f s = record { codes = []; ends = []; kinds = []; outer = outer-start f s [] [] [] }
+pub between-start : (f : Format) (s : List ℕ) → Bytes s → Between f s (tokenAt f s 0) 0 0
+between-start f s hb = record { codes = []; ends = []; kinds = []; outer = outer-start f s [] [] [] hb }
 
 pub inside-start : (f : Format) (s : List ℕ) (at n : ℕ) → at ≤ length s → n ≤ at → InStep f s at n at n
 inside-start f s at n h g = record { codes = []; inner = inner-start f s [] at n h g }
@@ -44,7 +48,7 @@ onto f s codes first n₀ at n i =
 
 module _ (f : Format) (s : List ℕ) (start n m : ℕ) (hb : Bytes s) (b : Between f s start n m) where
   pub between-more : (k : Kind) (first at n′ j : ℕ) → opening f start (drop start s) ≡ Opens k first → InStep f s first n at n′
-      → token f at (drop at s) ≡ Stop j → Between f s j n′ (m + 1)
+      → token f at (drop at s) ≡ Stop j → Between f s (tokenAt f s j) n′ (m + 1)
   between-more k first at n′ j e i t =
       record {
         codes = _;
@@ -65,3 +69,20 @@ module _ (f : Format) (s : List ℕ) (start n m : ℕ) (hb : Bytes s) (b : Betwe
 
   pub between-end : length s ≤ start → Whole n m ≡ counted (readProof f s)
   between-end h = outer-end f s [] [] [] (b .codes) (b .ends) (b .kinds) start n m hb (b .outer) h .answer
+
+-- a step's end is not before its start
+pub end-after : (f : Format) (s : List ℕ) (i : ℕ) → Bytes s → i ≤ endOf i (oneStep f i (drop i s))
+unfolding endOf
+end-after f s i hb = go (oneStep f i (drop i s)) refl
+  where
+    go : (o : One) → oneStep f i (drop i s) ≡ o → i ≤ endOf i o
+    go (got t j) e = let m = step-moves f i (drop i s) t j (bytes-drop i s hb) e in omega (arith, m .0)
+    go fault e = omega arith
+
+-- the part from the first token to the end of the step there
+pub first-is : (f : Format) (s : List ℕ) (i e : ℕ) → Bytes s → i ≡ firstToken f s → e ≡ endOf i (oneStep f i (drop i s))
+    → first (firstToken f s) (part i e s) ≡ firstOf f s
+first-is f s i e hb q h =
+    ap (λ (n : ℕ). first (firstToken f s) (part i n s)) h
+    ∙ ap (λ (x : ℕ). first (firstToken f s) (part x (endOf x (oneStep f x (drop x s))) s)) q
+    ∙ first-part f s hb (firstToken f s) (first-within f s)

@@ -1,11 +1,13 @@
 -- What the fill is told of bytes that were judged whole, and what it says of a step's literals.
-use Prim.Native.Nat.{ℕ, _+_, _*_, _≤_, _<_}
+use Prim.Native.Nat.{ℕ, _+_, _-_, _*_, _≤_, _<_}
 use mathlib.Core.Path.{_≡_}
 use mathlib.Core.List.{List}
+use lib.Dec.{eqb}
 use lib.ListN.{length, getD, drop}
 use lib.Seq.{sets}
+use Rattle.base.specs.Choice.{pick}
 use Rattle.drat.specs.Grammar.{Step}
-use Rattle.drat.specs.Reading.{Part, whole, body, steps, readProof}
+use Rattle.drat.specs.Reading.{seps, Part, whole, body, One, got, steps, readProof}
 use Rattle.drat.specs.Filled.{kindNumber, codesOf}
 use Rattle.drat.specs.declared.Format.{Format}
 use Rattle.drat.specs.declared.Format.the-variants.{Text, Binary}
@@ -43,13 +45,25 @@ pub record BodyFilled (f : Format) (s : List ℕ) (i n : ℕ) (codes₀ codes : 
   pub count : m ≡ n + length cs
   pub held : codes ≡ sets codes₀ n cs
 
--- A number, and after it a byte below the digits, as a blank is.
+-- A number, and after it a byte below a minus and the digits, as separators are.
 pub record IsNumber (s : List ℕ) (t : Token) : Type 0 where
   pub code : ℕ
   pub next : ℕ
   pub is : t ≡ Lit code next
   pub inside : next < length s
-  pub below : getD s next 0 < 48
+  pub below : getD s next 0 < 45
+
+-- Separators, maybe none, and then a byte that is none below 45: a minus or a digit.
+pub record IsGap (s : List ℕ) (i : ℕ) : Type 0 where
+  pub inside : i + seps (drop i s) < length s
+  pub token : 45 ≤ getD s (i + seps (drop i s)) 0
+
+-- What the first of several bytes adds to a literal's code: 1 for a minus, or the digit with its weight.
+abbrev pub leadOf : ℕ → ℕ → ℕ
+leadOf b weight = pick (eqb b 45) 1 (weight * (b - 48))
+
+abbrev pub MinusOrDigit : ℕ → Type 0
+MinusOrDigit b = (b ≡ 45 → ⊥) → 48 ≤ b
 
 -- A literal.
 pub record IsLit (t : Token) : Type 0 where
@@ -57,18 +71,18 @@ pub record IsLit (t : Token) : Type 0 where
   pub next : ℕ
   pub is : t ≡ Lit code next
 
--- A step that opens; the number of its kind and the place of its first literal.
-pub record IsOpen (t : Opening) : Type 0 where
-  pub kind : Kind
-  pub first : ℕ
-  pub is : t ≡ Opens kind first
+-- A whole step; the number of its kind and the place of its first literal.
+pub record IsStep (t : One) : Type 0 where
+  pub step : Step
+  pub end : ℕ
+  pub is : t ≡ got step end
 
 pub record OpenedAs (t : Opening) (number first : ℕ) : Type 0 where
   pub kind : Kind
   pub is : t ≡ Opens kind first
   pub numbered : number ≡ kindNumber kind
 
--- That place, by the number: in text a deletion has two bytes before it, in binary each step has one.
-abbrev pub firstPlace : Format → ℕ → ℕ → ℕ
-firstPlace Text i number = i + 2 * number
-firstPlace Binary i number = i + 1
+-- That place, by the number: in text a deletion has `d` and separators before it, in binary each step has one byte.
+abbrev pub firstPlace : Format → List ℕ → ℕ → ℕ → ℕ
+firstPlace Text s i number = i + 2 * number + seps (drop (i + 2 * number) s)
+firstPlace Binary s i number = i + 1

@@ -1,23 +1,21 @@
 // The fill: the words of steps that were judged whole. It asks nothing of a byte that the judging has asked.
-use crate::place::minus;
+use crate::literal::Literal;
+use crate::literal::literal_at;
+use crate::place::past;
 use drat::Format;
+use drat_judge::Counts;
 ghost use mathlib.Core.Path.{_≡_};
 ghost use Prim.Native.Nat.{_+_, _≤_};
 ghost use lib.Dec.{eqb};
 ghost use lib.ListN.{length, getD, drop};
 ghost use Rattle.base.specs.Choice.{pick};
 ghost use Rattle.base.specs.Lent.{old, new};
-ghost use Rattle.drat.specs.Reading.{digitsFrom, token, opening, readProof};
-ghost use Rattle.drat.specs.Filled.{counted, Scan};
+ghost use Rattle.drat.specs.Reading.{seps, token, opening, oneStep};
+ghost use Rattle.drat.specs.Filled.{Scan};
 ghost use Rattle.drat.specs.declared.Format.the-variants.{Text, Binary};
+ghost use Rattle.drat.specs.declared.Scanned.the-variants.{Whole};
 ghost use Rattle.drat.specs.declared.Token.the-variants.{Lit};
-ghost use Rattle.drat_read.specs.Known.{StepsFit, BodyFits, BodyFilled, IsNumber, IsLit, IsOpen, OpenedAs};
-
-// A literal's code and the place after it.
-struct Literal {
-    code: u32,
-    next: usize,
-}
+ghost use Rattle.drat_read.specs.Known.{StepsFit, BodyFits, BodyFilled, IsGap, IsLit, IsStep, OpenedAs};
 
 // The place after a step and the number of literals filled.
 struct Place {
@@ -31,35 +29,16 @@ struct Start {
     first: usize,
 }
 
-// The digits from a place on, and the place of the byte after them.
-fn digits_at(s: &[u8], from: usize, sign: u32) -> Literal
-    requires { ⌜ sign ≤ 1 ⌝ }
-    requires { ⌜ IsNumber (now s) (digitsFrom sign 0 from (drop from (now s))) ⌝ }
-    ensures { λ r. ⌜ digitsFrom sign 0 from (drop from (old s)) ≡ Lit (r .code) (r .next) ⌝ }
+// The place after separators that a token follows.
+fn past_gap(s: &[u8], at: usize) -> usize
+    requires { ⌜ IsGap (now s) at ⌝ }
+    ensures { λ r. ⌜ r ≡ at + seps (drop at (old s)) ⌝ }
 {
-    let mut v: u32 = 0;
-    let mut i = from;
-    while 48 <= s[i] {
-        v = 10 * v + (s[i] as u32 - 48);
+    let mut i = at;
+    while s[i] < 45 {
         i += 1;
     }
-    Literal {
-        code: 2 * (v - 1) + sign,
-        next: i,
-    }
-}
-
-fn number_at(s: &[u8], at: usize) -> Literal
-    requires { ⌜ (getD (now s) at 0 ≡ 48 → ⊥) ⌝ }
-    requires { ⌜ IsLit (token Text at (drop at (now s))) ⌝ }
-    ensures { λ r. ⌜ token Text at (drop at (old s)) ≡ Lit (r .code) (r .next) ⌝ }
-{
-    let sign = minus(s[at]);
-    let w = digits_at(s, at + sign as usize, sign);
-    Literal {
-        code: w.code,
-        next: w.next + 1,
-    }
+    i
 }
 
 fn code_at(s: &[u8], at: usize) -> Literal
@@ -87,12 +66,12 @@ fn numbers_from(s: &[u8], codes: &mut [u32], from: usize, first: usize) -> Place
     let mut at = from;
     let mut n = first;
     while s[at] != 48 {
-        let w = number_at(s, at);
+        let w = literal_at(s, at);
         codes[n] = w.code;
         n += 1;
-        at = w.next;
+        at = past_gap(s, w.next + 1);
     }
-    Place { at: at + 2, n }
+    Place { at: at + 1, n }
 }
 
 fn codes_from(s: &[u8], codes: &mut [u32], from: usize, first: usize) -> Place
@@ -126,16 +105,16 @@ fn kind_by(b: u8) -> u8
     if b == 100 { 1 } else { 0 }
 }
 
-// How a step opens that is known to open. Without a branch on the kind: where additions and deletions mix it would be mispredicted.
+// How a step opens that is known to be whole. Without a branch on the kind: where additions and deletions mix it would be mispredicted.
 fn start_at(f: Format, s: &[u8], at: usize) -> Start
-    requires { ⌜ IsOpen (opening f at (drop at (now s))) ⌝ }
+    requires { ⌜ IsStep (oneStep f at (drop at (now s))) ⌝ }
     ensures { λ r. ⌜ OpenedAs (opening f at (drop at (old s))) (r .kind) (r .first) ⌝ }
 {
     let kind = kind_by(s[at]);
     match f {
         Format::Text => Start {
             kind,
-            first: at + 2 * (kind as usize),
+            first: past_gap(s, at + 2 * (kind as usize)),
         },
         Format::Binary => Start {
             kind,
@@ -144,21 +123,28 @@ fn start_at(f: Format, s: &[u8], at: usize) -> Start
     }
 }
 
-// Fills all steps. Where they are whole every step opens.
-pub(crate) fn fill(f: Format, s: &[u8], codes: &mut [u32], ends: &mut [u64], kinds: &mut [u8])
+// Fills all steps, and says how many. Between steps `at` is the place of a first token.
+pub(crate) fn fill(
+    f: Format,
+    s: &[u8],
+    codes: &mut [u32],
+    ends: &mut [u64],
+    kinds: &mut [u8],
+) -> Counts
     requires { ⌜ StepsFit f (now s) (length (now codes)) (length (now ends)) (length (now kinds)) ⌝ }
-    ensures { λ _. ⌜ Scan f (old s) (old codes) (old ends) (old kinds) (new codes) (new ends) (new kinds) (counted (readProof f (old s))) ⌝ }
+    ensures { λ r. ⌜ Scan f (old s) (old codes) (old ends) (old kinds) (new codes) (new ends) (new kinds) (Whole (r .lits) (r .steps)) ⌝ }
 {
-    let mut at: usize = 0;
+    let mut at = past(f, s, 0);
     let mut n: usize = 0;
     let mut m: usize = 0;
     while at < s.len() {
         let b = start_at(f, s, at);
         let p = body_from(f, s, codes, b.first, n);
         n = p.n;
-        at = p.at;
+        at = past(f, s, p.at);
         ends[m] = n as u64;
         kinds[m] = b.kind;
         m += 1;
     }
+    Counts { lits: n, steps: m }
 }

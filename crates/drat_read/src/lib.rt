@@ -2,32 +2,96 @@
 use drat::Format;
 use drat::Read;
 use drat::Scanned;
-use drat_judge::Judged;
-use drat_judge::judge;
+use drat_judge::counts_of;
+use drat_judge::is_judged;
 use fill::fill;
+use place::past;
 use scan::scan;
 use scan::step_end;
 ghost use mathlib.Core.Path.{_≡_};
+ghost use mathlib.Core.Bool.{true};
+ghost use Prim.Native.Nat.{_≤_};
 ghost use lib.ListN.{length};
-ghost use Rattle.base.specs.Lent.{old, Fills};
-ghost use Rattle.drat.specs.Filled.{readOf, read, firstOf, first, counted};
+ghost use Rattle.base.specs.Lent.{old, new, Fills};
+ghost use Rattle.drat.specs.Filled.{readOf, read, ReadCall, firstToken, firstOf, first, counted};
 ghost use Rattle.drat.specs.Reading.{readProof};
+ghost use Rattle.drat.specs.declared.Scanned.the-variants.{Whole};
+ghost use Rattle.drat_judge.specs.Local.{judged};
 
 mod fill;
+pub mod literal;
 pub mod place;
 mod scan;
 
-// The number of literals and of steps, or the start of the first step that is not whole: only a fault is looked for step by step.
-fn count(f: Format, bytes: &[u8]) -> Scanned
-    ensures { λ r. ⌜ r ≡ counted (readProof f (old bytes)) ⌝ }
+// Whether the bytes are judged whole. For fewer than 64 bytes judging costs more than it saves.
+fn is_known(f: Format, bytes: &[u8]) -> bool
+    ensures { λ r. ⌜ (r ≡ true → judged f (old bytes) ≡ true) ⌝ }
 {
-    match judge(f, bytes) {
-        Judged::Counts(n, m) => Scanned::Whole(n, m),
-        Judged::Unsure => scan(f, bytes),
+    if bytes.len() < 64 {
+        return false;
     }
+    is_judged(f, bytes)
 }
 
-// Read: 13, with the place where the first broken step starts; then 2.
+// Whether each slice has a word for each of n bytes.
+fn is_ample(n: usize, a: usize, b: usize, c: usize) -> bool
+    ensures { λ r. ⌜ (r ≡ true → (n ≤ a) × (n ≤ b) × (n ≤ c)) ⌝ }
+{
+    if a < n {
+        return false;
+    }
+    if b < n {
+        return false;
+    }
+    n <= c
+}
+
+// Steps that were counted: n literals and m steps.
+fn read_counted(
+    f: Format,
+    bytes: &[u8],
+    codes: &mut [u32],
+    ends: &mut [u64],
+    kinds: &mut [u8],
+    n: usize,
+    m: usize,
+) -> Read
+    requires { ⌜ Whole n m ≡ counted (readProof f (now bytes)) ⌝ }
+    ensures { λ r. ⌜ ReadCall f (old bytes) (old codes) (old ends) (old kinds) (new codes) (new ends) (new kinds) r ⌝ }
+{
+    if codes.len() < n {
+        return Read::Short;
+    }
+    if ends.len() < m {
+        return Read::Short;
+    }
+    if kinds.len() < m {
+        return Read::Short;
+    }
+    fill(f, bytes, codes, ends, kinds);
+    Read::Filled(n, m)
+}
+
+// Steps that are judged whole. They are counted beforehand only where they might not fit.
+fn read_judged(
+    f: Format,
+    bytes: &[u8],
+    codes: &mut [u32],
+    ends: &mut [u64],
+    kinds: &mut [u8],
+) -> Read
+    requires { ⌜ judged f (now bytes) ≡ true ⌝ }
+    ensures { λ r. ⌜ ReadCall f (old bytes) (old codes) (old ends) (old kinds) (new codes) (new ends) (new kinds) r ⌝ }
+{
+    if is_ample(bytes.len(), codes.len(), ends.len(), kinds.len()) {
+        let w = fill(f, bytes, codes, ends, kinds);
+        return Read::Filled(w.lits, w.steps);
+    }
+    let w = counts_of(f, bytes);
+    read_counted(f, bytes, codes, ends, kinds, w.lits, w.steps)
+}
+
+// Read: 13, with the place of the first token of the first broken step; then 2. Only a fault is looked for step by step.
 // drat/specs/Filled.antt: readOf, and read for the answer.
 pub fn read_proof(
     f: Format,
@@ -42,29 +106,30 @@ pub fn read_proof(
         ∗ ⌜ Fills ends 0 (w .ends) ⌝
         ∗ ⌜ Fills kinds 0 (w .kinds) ⌝ }
 {
-    match count(f, bytes) {
+    if is_known(f, bytes) {
+        return read_judged(f, bytes, codes, ends, kinds);
+    }
+    match scan(f, bytes) {
         Scanned::Fault(p) => Read::Broken(p),
-        Scanned::Whole(n, m) => {
-            if codes.len() < n {
-                return Read::Short;
-            }
-            if ends.len() < m {
-                return Read::Short;
-            }
-            if kinds.len() < m {
-                return Read::Short;
-            }
-            fill(f, bytes, codes, ends, kinds);
-            Read::Filled(n, m)
-        }
+        Scanned::Whole(n, m) => read_counted(f, bytes, codes, ends, kinds, n, m),
     }
 }
 
-// The first step alone: that step's part of the bytes; an empty part says 13 at 0.
+// The place of the first token; 0 without any.
+// drat/specs/Filled.antt: firstToken.
+pub fn first_token(f: Format, bytes: &[u8]) -> usize
+    ensures { λ r. ⌜ r ≡ firstToken f (old bytes) ⌝ }
+{
+    let i = past(f, bytes, 0);
+    if i < bytes.len() { i } else { 0 }
+}
+
+// The first step alone: its part of the bytes, from its first token to its 0; an empty part says 13 at the first token's place.
 // drat/specs/Filled.antt: firstOf, and first for the part.
 pub fn first_step(f: Format, bytes: &[u8]) -> &[u8]
-    ensures { λ r. ⌜ first (now r) ≡ firstOf f (old bytes) ⌝ }
+    ensures { λ r. ⌜ first (firstToken f (old bytes)) (now r) ≡ firstOf f (old bytes) ⌝ }
 {
-    let e = step_end(f, bytes, 0);
-    &bytes[..e]
+    let i = first_token(f, bytes);
+    let e = step_end(f, bytes, i);
+    &bytes[i..e]
 }

@@ -1,7 +1,8 @@
 // The scan: all steps in turn, up to the first fault.
 use crate::place::binary_token;
-use crate::place::line_at;
 use crate::place::opening_at;
+use crate::place::past;
+use crate::place::text_token;
 use drat::Format;
 use drat::Opening;
 use drat::Scanned;
@@ -18,16 +19,16 @@ fn token_at(f: Format, s: &[u8], at: usize) -> Token
     ensures { λ r. ⌜ r ≡ token f at (drop at (old s)) ⌝ }
 {
     match f {
-        Format::Text => line_at(s, at),
+        Format::Text => text_token(s, at),
         Format::Binary => binary_token(s, at),
     }
 }
 
-// The number of literals and of steps, or the start of the first step that is not whole.
+// The number of literals and of steps, or the start of the first step that is not whole. Between steps `at` is the place of a first token.
 pub(crate) fn scan(f: Format, s: &[u8]) -> Scanned
     ensures { λ r. ⌜ r ≡ counted (readProof f (old s)) ⌝ }
 {
-    let mut at: usize = 0;
+    let mut at = past(f, s, 0);
     let mut n: usize = 0;
     let mut m: usize = 0;
     let place = 'steps: loop {
@@ -46,7 +47,7 @@ pub(crate) fn scan(f: Format, s: &[u8]) -> Scanned
                     at = next;
                 }
                 Token::Stop(next) => {
-                    at = next;
+                    at = past(f, s, next);
                     break;
                 }
                 Token::Bad => break 'steps start,
@@ -66,7 +67,7 @@ fn token_alone(f: Format, s: &[u8], at: usize) -> Token
     ensures { λ r. ⌜ r ≡ token f at (drop at (old s)) ⌝ }
 {
     match f {
-        Format::Text => line_at(s, at),
+        Format::Text => text_token(s, at),
         Format::Binary => binary_token(s, at),
     }
 }

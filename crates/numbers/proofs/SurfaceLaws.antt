@@ -12,7 +12,7 @@ use Rattle.scope.specs.Notes.{notesWords}
 use Rattle.scope.specs.Outcome.{Outcome, refusal}
 use Rattle.scope.specs.Contract.{Said, Does}
 use Rattle.drat.specs.Filled.{first}
-use Rattle.numbers.specs.Surface.{located, measured, Given}
+use Rattle.numbers.specs.Surface.{placed, Given}
 use Rattle.numbers.specs.Flat.{Numbered}
 
 -- an answer, by what it is
@@ -53,10 +53,10 @@ pub second-same : {k n m : ℕ} {ns : List ℕ} → n ≡ m → k ∷ n ∷ ns �
 second-same {k = k} {ns = ns} e = ap (λ (v : ℕ). k ∷ v ∷ ns) e
 
 -- an empty part, and any other
-pub no-part : (l : List ℕ) → length l ≡ 0 → 13 ∷ 0 ∷ 0 ∷ [] ≡ located 1 (measured (first l))
-no-part [] h = refl
-no-part (b ∷ l) h = absurd (let z : _≡_ {A = ℕ} 0 1 = cc in omega arith)
+pub no-part : (i : ℕ) (l : List ℕ) → length l ≡ 0 → 13 ∷ i ∷ 0 ∷ [] ≡ placed i (first i l)
+no-part i [] h = refl
+no-part i (b ∷ l) h = absurd (let z : _≡_ {A = ℕ} 0 1 = cc in omega arith)
 
-pub some-part : (l : List ℕ) → length l ≢ 0 → 0 ∷ 0 ∷ length l ∷ [] ≡ located 1 (measured (first l))
-some-part [] n = absurd (n refl)
-some-part (b ∷ l) n = refl
+pub some-part : (i : ℕ) (l : List ℕ) → length l ≢ 0 → 0 ∷ i ∷ length l ∷ [] ≡ placed i (first i l)
+some-part i [] n = absurd (n refl)
+some-part i (b ∷ l) n = refl

@@ -36,14 +36,14 @@ abbrev pub stepped : List ℕ → Answer → List ℕ
 stepped step (accepted vs) = 0 ∷ vs
 stepped step (refused k ps) = k ∷ 0 ∷ 0 ∷ step
 
--- of the first step alone: the bytes answered, and their number in place of them
+-- of the first step alone: its place i, and the number of the bytes answered; and these bytes
+abbrev pub placed : ℕ → Answer → List ℕ
+placed i (accepted bs) = 0 ∷ i ∷ length bs ∷ []
+placed i (refused k ps) = k ∷ i ∷ 0 ∷ []
+
 abbrev pub partOf : Answer → List ℕ
 partOf (accepted bs) = bs
 partOf (refused k ps) = []
-
-abbrev pub measured : Answer → Answer
-measured (accepted bs) = accepted (length bs ∷ [])
-measured (refused k ps) = refused k ps
 
 -- ---- calls
 

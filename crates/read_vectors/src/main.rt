@@ -1,8 +1,9 @@
-// Reading vectors. Each fault must give 13 at the start of its step and leave the lent words; each whole input must give its steps.
+// Reading vectors. Each fault must give 13 at the first token of its step and leave the lent words; each whole input must give its steps.
 // A vector that comes out otherwise is written with its number; then there is a line for each group.
 use drat::Format;
 use drat::Read;
 use drat_read::first_step;
+use drat_read::first_token;
 use drat_read::read_proof;
 use std::num::wrapping_add_u64;
 ghost use Prim.Native.Nat.{_≤_};
@@ -126,33 +127,34 @@ fn binary(t: Score, bytes: &[u8], place: usize) -> Score {
     told(t, gives(Format::Binary, bytes, 4, 4, 4, w))
 }
 
-// What 01 lists as no number, no step or no whole step, in text.
+// What is no number, no step or no whole step, in text.
 fn text_words(t: Score) -> Score {
     let t = text(t, b"01 0\n", 0);
     let t = text(t, b"-0 0\n", 0);
     let t = text(t, b"00\n", 0);
-    let t = text(t, b"0 0\n", 0);
     let t = text(t, b"+1 0\n", 0);
     let t = text(t, b"1\t0\n", 0);
     let t = text(t, b"1 0\r\n", 0);
-    let t = text(t, b"1  0\n", 0);
-    let t = text(t, b" 1 0\n", 0);
     let t = text(t, b"1 -0\n", 0);
-    text(t, b"1 - 0\n", 0)
+    let t = text(t, b"1 - 0\n", 0);
+    let t = text(t, b"--1 0\n", 0);
+    let t = text(t, b"1 2-3 0\n", 0);
+    text(t, b"a 1 0\n", 0)
 }
 
-fn text_blanks(t: Score) -> Score {
-    let t = text(t, b"1 2-3 0\n", 0);
-    let t = text(t, b"1 2\n", 0);
-    let t = text(t, b"1 0", 0);
+// Tokens that are joined, a `d` where none may be, bytes that are in no text.
+fn text_tokens(t: Score) -> Score {
+    let t = text(t, b"10\n", 0);
+    let t = text(t, b"1 02 0\n", 0);
+    let t = text(t, b"1 0d 2 0\n", 0);
     let t = text(t, b"d1 0\n", 0);
-    let t = text(t, b"d  1 0\n", 0);
     let t = text(t, b"dd 1 0\n", 0);
-    let t = text(t, b"1 d 0\n", 0);
-    let t = text(t, b"a 1 0\n", 0);
-    let t = text(t, b"\n", 0);
-    let t = text(t, b"1 0 \n", 0);
-    text(t, b"--1 0\n", 0)
+    let t = text(t, b"d d 1 0\n", 0);
+    let t = text(t, b"1 d 2 0\n", 0);
+    let t = text(t, b"\x00", 0);
+    let t = text(t, b"1 0 \x00", 4);
+    let t = text(t, b"\xff", 0);
+    text(t, b"1\xff0", 0)
 }
 
 fn text_sizes(t: Score) -> Score {
@@ -165,19 +167,20 @@ fn text_sizes(t: Score) -> Score {
     text(t, b"4294967297 0\n", 0)
 }
 
-// Inputs that are cut, the place being that of the last step.
+// Inputs that are cut, the place being that of the last step's first token.
 fn text_cuts(t: Score) -> Score {
-    let t = text(t, b"1 0\n2 0", 4);
     let t = text(t, b"1 0\n2 ", 4);
     let t = text(t, b"1 0\n2", 4);
+    let t = text(t, b"1 0 2", 4);
     let t = text(t, b"1 0\n-", 4);
     let t = text(t, b"1 0\nd", 4);
     let t = text(t, b"1 0\nd ", 4);
-    let t = text(t, b"1 0\nd 0", 4);
-    let t = text(t, b"1 23", 0);
+    let t = text(t, b"1 0 \n\n 2\n3", 7);
+    let t = text(t, b"\n 1 23", 2);
+    let t = text(t, b"1 2\n", 0);
     let t = text(t, b"d", 0);
     let t = text(t, b"1 0\nd 2 0\n-3 0\n4 0\r\n", 15);
-    text(t, b"1 0\n\n2 0\n", 4)
+    text(t, b"1 0\n\n2 x\n", 5)
 }
 
 fn binary_codes(t: Score) -> Score {
@@ -230,6 +233,50 @@ fn text_whole(t: Score) -> Score {
     text_is(t, b"-3 0\n1000 0\n", w)
 }
 
+// Separators of either kind, one or more between tokens, any number before the first and after the last.
+fn text_broken(t: Score) -> Score {
+    let w = filled(0, 0, [7; 4], [7; 4], [7; 4]);
+    let t = text_is(t, b" \n\n ", w);
+    let w = filled(0, 1, [7; 4], [0, 7, 7, 7], [0, 7, 7, 7]);
+    let t = text_is(t, b"0", w);
+    let w = filled(2, 2, [0, 2, 7, 7], [1, 2, 7, 7], [0, 0, 7, 7]);
+    let t = text_is(t, b"1 0\n2 0", w);
+    let t = text_is(t, b"\n 1\n0 2  0\n\n", w);
+    let w = filled(3, 2, [0, 3, 4, 7], [2, 3, 7, 7], [0, 1, 7, 7]);
+    let t = text_is(t, b"1 -2 0\nd 3 0\n", w);
+    let t = text_is(t, b"1\n-2\n0\nd\n3\n0", w);
+    text_is(t, b"  1\n\n-2 0 \n \nd \n 3 0 ", w)
+}
+
+// A step after 10,000 separators, whole, then with its 0 cut off; and the first step of it alone.
+fn far(t: Score) -> Score {
+    let mut s = [10u8; 10005];
+    s[10000] = 100;
+    s[10001] = 32;
+    s[10002] = 49;
+    s[10004] = 48;
+    let w = filled(1, 1, [0, 7, 7, 7], [1, 7, 7, 7], [1, 7, 7, 7]);
+    let t = text_is(t, &s, w);
+    let t = part(t, Format::Text, &s, 10000, b"d 1\n0");
+    text(t, &s[..10004], 10000)
+}
+
+// A clause that is broken by 10,000 separators, and the same with another last token.
+fn wide(t: Score) -> Score {
+    let mut s = [32u8; 10005];
+    s[0] = 49;
+    s[10002] = 45;
+    s[10003] = 50;
+    let w = refused(Read::Broken(0));
+    let t = text_is(t, &s, w);
+    s[10001] = 48;
+    let t = text_is(t, &s, w);
+    s[10003] = 32;
+    s[10002] = 32;
+    let w = filled(1, 1, [0, 7, 7, 7], [1, 7, 7, 7], [0, 7, 7, 7]);
+    text_is(t, &s, w)
+}
+
 fn binary_whole(t: Score) -> Score {
     let w = filled(0, 0, [7; 4], [7; 4], [7; 4]);
     let t = binary_is(t, b"", w);
@@ -269,21 +316,30 @@ fn shorts(t: Score) -> Score {
     told(t, gives(Format::Binary, b"", 0, 0, 0, w))
 }
 
-// The first step alone: its part, which is empty where that step is not whole.
-fn part(t: Score, f: Format, bytes: &[u8], want: &[u8]) -> Score {
-    told(t, check::same(first_step(f, bytes), want))
+// The first step alone: the place of its first token, and its part, which is empty where that step is not whole.
+fn part(t: Score, f: Format, bytes: &[u8], place: usize, want: &[u8]) -> Score {
+    let here = first_token(f, bytes) == place;
+    told(t, here & check::same(first_step(f, bytes), want))
 }
 
-fn parts(t: Score) -> Score {
-    let t = part(t, Format::Text, b"", b"");
-    let t = part(t, Format::Text, b"1 0\n2 0", b"1 0\n");
-    let t = part(t, Format::Text, b"d 1 -2 0\n\n", b"d 1 -2 0\n");
-    let t = part(t, Format::Text, b"2 0", b"");
-    let t = part(t, Format::Text, b"01 0\n2 0\n", b"");
-    let t = part(t, Format::Binary, b"", b"");
-    let t = part(t, Format::Binary, b"a\x02\x00\x01", b"a\x02\x00");
-    let t = part(t, Format::Binary, b"d\x00a\x00", b"d\x00");
-    part(t, Format::Binary, b"a\x02", b"")
+fn text_parts(t: Score) -> Score {
+    let t = part(t, Format::Text, b"", 0, b"");
+    let t = part(t, Format::Text, b" \n", 0, b"");
+    let t = part(t, Format::Text, b"1 0\n2 0", 0, b"1 0");
+    let t = part(t, Format::Text, b"\n d\n1 -2 0\n\n", 2, b"d\n1 -2 0");
+    let t = part(t, Format::Text, b"2 0", 0, b"2 0");
+    let t = part(t, Format::Text, b" 0 01", 1, b"0");
+    let t = part(t, Format::Text, b"01 0\n2 0\n", 0, b"");
+    let t = part(t, Format::Text, b"\n2 0x", 1, b"");
+    part(t, Format::Text, b"\n\n2 ", 2, b"")
+}
+
+fn binary_parts(t: Score) -> Score {
+    let t = part(t, Format::Binary, b"", 0, b"");
+    let t = part(t, Format::Binary, b"a\x02\x00\x01", 0, b"a\x02\x00");
+    let t = part(t, Format::Binary, b"d\x00a\x00", 0, b"d\x00");
+    let t = part(t, Format::Binary, b"\na\x00", 0, b"");
+    part(t, Format::Binary, b"a\x02", 0, b"")
 }
 
 fn none() -> Score {
@@ -293,10 +349,11 @@ fn none() -> Score {
 fn main() {
     summary(
         b"text faults",
-        text_cuts(text_sizes(text_blanks(text_words(none())))),
+        text_cuts(text_sizes(text_tokens(text_words(none())))),
     );
     summary(b"binary faults", binary_steps(binary_codes(none())));
     summary(b"whole", binary_whole(text_whole(none())));
+    summary(b"broken lines", wide(far(text_broken(none()))));
     summary(b"short", shorts(none()));
-    summary(b"first step", parts(none()));
+    summary(b"first step", binary_parts(text_parts(none())));
 }

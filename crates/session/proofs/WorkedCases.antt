@@ -3,7 +3,7 @@ use mathlib.Core.Path.{refl}
 use Rattle.base.specs.Bounded.{allBelow, least, count, everyOf, anyOf, keepOf}
 use Rattle.drat.specs.Numeral.{spell, further, bytesOf}
 use Rattle.drat.specs.Grammar.{number, numbers, encodeStep, encode}
-use Rattle.drat.specs.Reading.{digitsFrom, signedFrom, thenBlank, lebFrom, endFrom, lineFrom, token, blankFrom, opening, consPart, body, asStep, oneStep}
+use Rattle.drat.specs.Reading.{digitsFrom, signedFrom, seps, thenGap, lebFrom, closeFrom, token, gapFrom, opening, consPart, body, asStep, oneStep}
 use Rattle.drat.specs.Reading.{consStep, stepsFrom, readProof}
 use Rattle.drat.specs.Filled.{answerOf, codesOf, endsFrom, kindsOf}
 use Rattle.scope.specs.Table.{word, isShown, giveUser, takeUser, giveSolver, takeSolver, putRecord, putValue, dropGlobal, leastFree, undeleted, nextSolver}
@@ -25,8 +25,8 @@ _and_ : {A B : Type 0} → A → B → A × B
 x and y = (x, y)
 
 pub worked : CasesAgree cases
-unfolding allBelow least count everyOf anyOf keepOf spell further bytesOf number numbers encodeStep encode digitsFrom signedFrom thenBlank lebFrom endFrom
-    lineFrom token blankFrom opening consPart body asStep oneStep consStep stepsFrom readProof answerOf codesOf endsFrom kindsOf word isShown giveUser
+unfolding allBelow least count everyOf anyOf keepOf spell further bytesOf number numbers encodeStep encode digitsFrom signedFrom seps thenGap lebFrom
+    closeFrom token gapFrom opening consPart body asStep oneStep consStep stepsFrom readProof answerOf codesOf endsFrom kindsOf word isShown giveUser
     takeUser giveSolver takeSolver putRecord dropGlobal putValue soundb listsb storedb sizesb marksb atMostb tailb backb namedb deletedb tailsb pairsb choose
     each unless emptyTable openOf leastFree globalFor mapOne fillGap mapUser nextUser newUser undeleted toMap unsampled mapRefusal mapOf newUserRefusal
     newUserOf nextSolver grantOne grant grantRefusal grantOf isUnused deleteIfUnused show hide change setMode setModeRefusal setModeOf isHidden observeOne

@@ -116,7 +116,7 @@ cases =
     ∷ case 9 (answer (openOf (lists 4096 4096) .answer)) (answer (accepted []))
     ∷ case 10 (answer (mapOf full 2 false 3 .answer)) (answer (refused 3 []))
     ∷ case 10 (answer (newUserOf full 3 .answer)) (answer (refused 5 []))
-    ∷ case 11 (answer (readOf Text (49 ∷ 32 ∷ 48 ∷ 10 ∷ 50 ∷ 32 ∷ 48 ∷ []) 9 9 9 .answer)) (answer (refused 13 (4 ∷ [])))
+    ∷ case 11 (answer (readOf Text (49 ∷ 32 ∷ 48 ∷ 10 ∷ 50 ∷ 32 ∷ 48 ∷ []) 9 9 9 .answer)) (answer (accepted (2 ∷ 2 ∷ [])))
     ∷ case 11 (answer (readOf Text (48 ∷ 49 ∷ 32 ∷ 48 ∷ 10 ∷ []) 9 9 9 .answer)) (answer (refused 13 (0 ∷ [])))
     ∷ case 12 (answer (setModeOf granted2 2 Sample 0 .answer)) (answer (accepted (0 ∷ [])))
     ∷ case 12 (answer (setModeOf assumed2 2 Sample 0 .answer)) (answer (refused 7 []))

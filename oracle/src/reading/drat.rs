@@ -1,4 +1,6 @@
 //! DRAT: the bytes of a step, and the reader.
+use std::ops::Range;
+
 use crate::call::Format;
 
 /// An add or a delete with its literal codes.
@@ -45,35 +47,43 @@ fn binary(out: &mut Vec<u8>, step: &Clause) {
 
 // ---- the reader
 
-/// One step from the front of the bytes, and how many bytes it takes. None where it is not whole.
-pub fn first_step(format: Format, bytes: &[u8]) -> Option<(Clause, usize)> {
+/// The first step alone, and from where to where it stands. Else the place of the first token, 0 without any.
+pub fn first_step(format: Format, bytes: &[u8]) -> Result<(Clause, Range<usize>), usize> {
     match format {
-        Format::Text => text_step(bytes),
-        Format::Binary => binary_step(bytes),
+        Format::Text => {
+            let tokens = tokens(bytes);
+            let start = tokens.first().map_or(0, |token| token.0);
+            let (step, used) = text_step(&tokens).ok_or(start)?;
+            Ok((step, start..tokens[used - 1].0 + 1))
+        }
+        Format::Binary => binary_step(bytes).map(|(step, length)| (step, 0..length)).ok_or(0),
     }
 }
 
-/// One step is one line: an optional `d` and blank, then numbers each followed by one blank, then `0` and a line feed.
-fn text_step(bytes: &[u8]) -> Option<(Clause, usize)> {
-    let end = bytes.iter().position(|&byte| byte == b'\n')?;
-    let line = &bytes[..end];
-    let (delete, line) = match line.strip_prefix(b"d ") {
-        Some(rest) => (true, rest),
-        None => (false, line),
-    };
-    let numbers = match line {
-        b"0" => &line[..0],
-        _ => line.strip_suffix(b" 0")?,
-    };
-    let mut lits = vec![];
-    if !numbers.is_empty() {
-        for word in numbers.split(|&byte| byte == b' ') {
-            lits.push(text_number(word)?);
+/// The tokens of a text, each with its place: what blanks and line feeds leave.
+fn tokens(bytes: &[u8]) -> Vec<(usize, &[u8])> {
+    let mut at = 0;
+    let mut tokens = vec![];
+    for word in bytes.split(|byte| b" \n".contains(byte)) {
+        if !word.is_empty() {
+            tokens.push((at, word));
         }
-    } else if line != b"0" {
-        return None;
+        at += word.len() + 1;
     }
-    Some((Clause { delete, lits }, end + 1))
+    tokens
+}
+
+/// One step from the front of the tokens, and how many it takes: a `d` or none, numbers, `0`.
+fn text_step(tokens: &[(usize, &[u8])]) -> Option<(Clause, usize)> {
+    let delete = tokens.first()?.1 == b"d";
+    let mut lits = vec![];
+    for (i, &(_, word)) in tokens.iter().enumerate().skip(delete as usize) {
+        if word == b"0" {
+            return Some((Clause { delete, lits }, i + 1));
+        }
+        lits.push(text_number(word)?);
+    }
+    None
 }
 
 /// An optional minus, a digit 1 to 9, more digits, magnitude at most 4,096.
@@ -119,12 +129,31 @@ fn leb128(bytes: &[u8]) -> Option<(u64, usize)> {
     Some((value, length))
 }
 
-/// All steps, or the start of the first that is not whole.
+/// All steps, or the place of the first token of the first that is not whole.
 pub fn read(format: Format, bytes: &[u8]) -> Result<Vec<Clause>, usize> {
+    match format {
+        Format::Text => read_text(bytes),
+        Format::Binary => read_binary(bytes),
+    }
+}
+
+fn read_text(bytes: &[u8]) -> Result<Vec<Clause>, usize> {
+    let tokens = tokens(bytes);
+    let mut rest = &tokens[..];
+    let mut steps = vec![];
+    while let Some(first) = rest.first() {
+        let (step, used) = text_step(rest).ok_or(first.0)?;
+        steps.push(step);
+        rest = &rest[used..];
+    }
+    Ok(steps)
+}
+
+fn read_binary(bytes: &[u8]) -> Result<Vec<Clause>, usize> {
     let mut steps = vec![];
     let mut at = 0;
     while at < bytes.len() {
-        let (step, length) = first_step(format, &bytes[at..]).ok_or(at)?;
+        let (step, length) = binary_step(&bytes[at..]).ok_or(at)?;
         steps.push(step);
         at += length;
     }
@@ -136,7 +165,7 @@ pub fn read(format: Format, bytes: &[u8]) -> Result<Vec<Clause>, usize> {
 pub struct Filled {
     /// 13, 2, or 0.
     pub refusal: u32,
-    /// With 13, the start of the first step not whole.
+    /// With 13, the place of the first token of the first step not whole.
     pub place: usize,
     pub codes: Vec<u32>,
     pub ends: Vec<u64>,

@@ -6,7 +6,6 @@ use lib.ListN.{drop}
 use native.Mathlib.Omega.{arith}
 use borrow.Author.Needs.{needs}
 use Rattle.base.specs.Choice.{pick}
-use Rattle.drat.proofs.Shapes.{one-le}
 use Rattle.drat_judge.proofs.RunsLaws.{tally-next}
 use Rattle.drat_judge.specs.Local.{tally}
 use Rattle.drat_judge.proofs.block.Statement.{statement}
@@ -31,9 +30,7 @@ one-requires : tie.Need-one-requires Inv-loop μ-loop
 one-requires c κs = search needs
 
 add-k : tie.Need-add-k Inv-loop μ-loop
-add-k c =
-    let h = one-le (c .before .in-range .result) in
-    omega (arith, c .one .ensures)
+add-k c = search needs
 
 add-i : tie.Need-add-i Inv-loop μ-loop
 add-i c = search needs
@@ -45,10 +42,9 @@ loop-again : tie.Need-loop-again Inv-loop μ-loop
 loop-again c =
     let a = c .before .before .before .before .before .before .args in
     let l = c .before .before .before .before .loop in
-    let h = one-le (c .before .in-range .result) in
     let e = tally-next (a .lo) (a .hi) (a .s .now) (l .i) (omega arith) in
-    let r = c .one .ensures ∙ ap (λ (t : Bool). pick t 1 0) (c .before .in-range .ensures) in
-    (omega arith, omega arith, omega (arith, c .one .ensures), omega (arith, r, l .inv .3))
+    let r = c .one .ensures .0 ∙ ap (λ (t : Bool). pick t 1 0) (c .before .in-range .ensures) in
+    (omega arith, omega arith, omega (arith, c .one .ensures .1), omega (arith, r, l .inv .3))
 
 returns : tie.Need-returns Inv-loop μ-loop
 returns c =

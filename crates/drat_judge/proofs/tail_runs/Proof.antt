@@ -1,9 +1,8 @@
 -- The invariant: what is said of the bytes ahead is what is said from the fifth byte on.
-use Prim.Native.Nat.{ℕ, _+_, _-_, _≤_}
-use mathlib.Core.Bool.{_&&_}
+use Prim.Native.Nat.{_+_, _-_, _≤_}
+use mathlib.Core.Bool.{Bool, _&&_}
 use mathlib.Core.Path.{_≡_, ap, _∙_}
-use lib.Dec.{eqb}
-use lib.ListN.{length, getD}
+use lib.ListN.{length}
 use native.Mathlib.Omega.{arith}
 use borrow.Author.Needs.{needs}
 use Rattle.drat_judge.proofs.RunsLaws.{runs-out, part-holds, part-fails}
@@ -54,22 +53,41 @@ loop-again c =
 part-runs-requires-2 : tie.Need-part-runs-requires-2 Inv-loop μ-loop
 part-runs-requires-2 c κs = search needs
 
-sub-result : tie.Need-sub-result Inv-loop μ-loop
-sub-result c = search needs
+sub-is-end : tie.Need-sub-is-end Inv-loop μ-loop
+sub-is-end c = search needs
 
-shared-slice-read-result : tie.Need-shared-slice-read-result Inv-loop μ-loop
-shared-slice-read-result c = search needs
+shared-slice-read-is-end : tie.Need-shared-slice-read-is-end Inv-loop μ-loop
+shared-slice-read-is-end c = search needs
 
-end-byte-requires : tie.Need-end-byte-requires Inv-loop μ-loop
-end-byte-requires c κs = search needs
+sub-is-end-2 : tie.Need-sub-is-end-2 Inv-loop μ-loop
+sub-is-end-2 c = search needs
+
+shared-slice-read-is-end-2 : tie.Need-shared-slice-read-is-end-2 Inv-loop μ-loop
+shared-slice-read-is-end-2 c = search needs
+
+sub-is-end-3 : tie.Need-sub-is-end-3 Inv-loop μ-loop
+sub-is-end-3 c = search needs
+
+shared-slice-read-is-end-3 : tie.Need-shared-slice-read-is-end-3 Inv-loop μ-loop
+shared-slice-read-is-end-3 c = search needs
+
+sub-is-end-4 : tie.Need-sub-is-end-4 Inv-loop μ-loop
+sub-is-end-4 c = search needs
+
+shared-slice-read-is-end-4 : tie.Need-shared-slice-read-is-end-4 Inv-loop μ-loop
+shared-slice-read-is-end-4 c = search needs
+
+is-end-requires : tie.Need-is-end-requires Inv-loop μ-loop
+is-end-requires c κs = search needs
 
 returns-2 : tie.Need-returns-2 Inv-loop μ-loop
 returns-2 c =
-    let a = c .before .before .before .before .before .before .args in
+    let run = c .before .before .before .before .before in
+    let a = run .before .before .before .before .args in
     let s = a .s .now in
-    let l = c .before .before .before .before .loop in
-    let p = c .before .before .part-runs2 in
-    ap (λ (m : ℕ). p .result && eqb (getD s (length s - 1) 0) m) (c .end-byte .ensures)
+    let l = run .before .before .loop in
+    let p = run .part-runs2 in
+    ap (λ (t : Bool). p .result && t) (c .is-end .ensures)
     ∙ runs-out (a .f) s (runsAt (a .f) s 4) (length s) (omega arith) (omega arith) (p .result) (p .ensures ∙ l .inv .2)
 
 pub tail-runs-spec : {M : Type 1} → statement M
@@ -87,7 +105,13 @@ tail-runs-spec =
     loop-less
     loop-again
     part-runs-requires-2
-    sub-result
-    shared-slice-read-result
-    end-byte-requires
+    sub-is-end
+    shared-slice-read-is-end
+    sub-is-end-2
+    shared-slice-read-is-end-2
+    sub-is-end-3
+    shared-slice-read-is-end-3
+    sub-is-end-4
+    shared-slice-read-is-end-4
+    is-end-requires
     returns-2)

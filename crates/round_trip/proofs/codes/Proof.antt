@@ -4,10 +4,10 @@ use Rattle.round_trip.proofs.codes.Statement.{statement}
 use Rattle.round_trip.proofs.codes.Tie as tie
 
 abbrev Inv-loop : tie.InvT-loop
-Inv-loop f k n₀ c₀ n c = (n ≤ c) × (c ≤ 8192)
+Inv-loop f k broken n₀ c₀ n c = (n ≤ c) × (c ≤ 8192)
 
 abbrev μ-loop : tie.MeasureT-loop
-μ-loop f k n₀ c₀ n c = 8192 - c
+μ-loop f k broken n₀ c₀ n c = 8192 - c
 
 loop-holds : tie.Need-loop-holds Inv-loop μ-loop
 loop-holds c = search needs

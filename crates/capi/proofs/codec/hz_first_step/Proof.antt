@@ -1,8 +1,10 @@
-use mathlib.Core.Path.{refl, sym, ap, _∙_}
+use Prim.Native.Nat.{ℕ}
+use mathlib.Core.Path.{refl, sym, ap, ap₂, _∙_}
 use Rattle.base.specs.Answer.{Answer}
+use Rattle.drat.specs.Filled.{first}
 use Rattle.numbers.specs.Meant.{meantFormat}
-use Rattle.numbers.specs.Surface.{located, partOf, measured}
-use Rattle.capi.proofs.CodecLaws.{first-is, no-first-format, first-taken, same-numbers}
+use Rattle.numbers.specs.Surface.{placed, partOf}
+use Rattle.capi.proofs.CodecLaws.{first-is, place-is, no-first-format, no-place-format, first-taken}
 use borrow.Author.Needs.{needs}
 use Rattle.capi.proofs.codec.hz_first_step.Statement.{statement}
 use Rattle.capi.proofs.codec.hz_first_step.Tie as tie
@@ -18,8 +20,12 @@ enum-told c = search needs
 
 returns : tie.Need-returns
 returns c =
-    let e = no-first-format _ _ (sym (c .before .before .format-in .ensures) ∙ ap meantFormat (c .enum-told .given .1)) in
-    (same-numbers (λ (w : Answer). located 1 (measured w)) e refl, sym (ap partOf e))
+    let q = sym (c .before .before .format-in .ensures) ∙ ap meantFormat (c .enum-told .given .1) in
+    let e = no-first-format _ _ q in
+    (sym (ap₂ (λ (i : ℕ) (w : Answer). placed i w) (no-place-format _ _ q) e), sym (ap partOf e))
+
+first-token-requires : tie.Need-first-token-requires
+first-token-requires c κs = search needs
 
 first-step-requires : tie.Need-first-step-requires
 first-step-requires c κs = search needs
@@ -30,9 +36,12 @@ first-out-requires c κs = search needs
 returns-2 : tie.Need-returns-2
 returns-2 c =
     let p = c .before .first-step in
-    let e = first-is _ _ (sym (c .before .before .before .before .before .format-in .ensures) ∙ ap meantFormat (c .before .before .before .f .given .1)) in (
-      same-numbers (λ (w : Answer). located 1 (measured w)) (e ∙ sym (p .ensures)) (c .first-out .ensures),
-      first-taken _ (p .result .now) _ (p .ensures) (c .first-out .ensures) ∙ sym (ap partOf e),
+    let t = c .before .before .first-token in
+    let q = sym (c .before .before .before .before .before .before .format-in .ensures) ∙ ap meantFormat (c .before .before .before .before .f .given .1) in
+    let e = first-is _ _ q in
+    let g = c .first-out .ensures ∙ ap (λ (i : ℕ). placed i (first i (p .result .now))) (t .ensures) in (
+      g ∙ ap (placed _) (p .ensures) ∙ sym (ap₂ (λ (i : ℕ) (w : Answer). placed i w) (place-is _ _ q) e),
+      first-taken _ _ q (p .result .now) (p .ensures) g,
     )
 
 pub hz-first-step-spec : {M : Type 1} → statement M
@@ -43,6 +52,7 @@ hz-first-step-spec =
     enum-known-f
     enum-told
     returns
+    first-token-requires
     first-step-requires
     first-out-requires
     returns-2)

@@ -99,15 +99,31 @@ add-n c =
           (t .1) (t .0) (zero .taken),
     )
 
+add-at : tie.Need-add-at Inv-loop2 μ-loop2 Inv-loop μ-loop
+add-at c =
+    let back = c .before .before in
+    let a = back .before .before .before .before .before .before .before .before .args in
+    let fit = back .before .before .before .before .before .before .before .before .pre in
+    let l = back .before .before .before .before .loop in
+    let k = back .before .before .loop2 in
+    let test = back .before .before .before .loop-test in
+    let zero = back .if1 in
+    let w = c .before .literal-at in
+    let t = k .inv .1 (a .codes .now) (a .ends .now) fit (l .inv .0) (l .inv .1) (test .taken) in
+    let d = lit-step (a .s .now) (a .v) (a .from) (a .codes .now) (a .ends .now) fit (k .codes) (l .ends) (l .inv .0) (k .at) (k .n) (l .m) (t .1)
+    (t .0) (zero .taken) (w .result .code) (w .result .next) (w .ensures) in
+    omega (arith, d .2)
+
 loop2-less : tie.Need-loop2-less Inv-loop2 μ-loop2 Inv-loop μ-loop
 loop2-less c =
-    let a = c .before .before .before .before .before .before .before .before .before .args in
-    let fit = c .before .before .before .before .before .before .before .before .before .pre in
-    let l = c .before .before .before .before .before .loop in
-    let k = c .before .before .before .loop2 in
-    let test = c .before .before .before .before .loop-test in
-    let zero = c .before .if1 in
-    let w = c .literal-at in
+    let back = c .before .before in
+    let a = back .before .before .before .before .before .before .before .before .args in
+    let fit = back .before .before .before .before .before .before .before .before .pre in
+    let l = back .before .before .before .before .loop in
+    let k = back .before .before .loop2 in
+    let test = back .before .before .before .loop-test in
+    let zero = back .if1 in
+    let w = c .before .literal-at in
     let t = k .inv .1 (a .codes .now) (a .ends .now) fit (l .inv .0) (l .inv .1) (test .taken) in
     let d = lit-step (a .s .now) (a .v) (a .from) (a .codes .now) (a .ends .now) fit (k .codes) (l .ends) (l .inv .0) (k .at) (k .n) (l .m) (t .1)
     (t .0) (zero .taken) (w .result .code) (w .result .next) (w .ensures) in
@@ -115,13 +131,14 @@ loop2-less c =
 
 loop2-again : tie.Need-loop2-again Inv-loop2 μ-loop2 Inv-loop μ-loop
 loop2-again c =
-    let a = c .before .before .before .before .before .before .before .before .before .args in
-    let fit = c .before .before .before .before .before .before .before .before .before .pre in
-    let l = c .before .before .before .before .before .loop in
-    let k = c .before .before .before .loop2 in
-    let test = c .before .before .before .before .loop-test in
-    let zero = c .before .if1 in
-    let w = c .literal-at in
+    let back = c .before .before in
+    let a = back .before .before .before .before .before .before .before .before .args in
+    let fit = back .before .before .before .before .before .before .before .before .pre in
+    let l = back .before .before .before .before .loop in
+    let k = back .before .before .loop2 in
+    let test = back .before .before .before .loop-test in
+    let zero = back .if1 in
+    let w = c .before .literal-at in
     let t = k .inv .1 (a .codes .now) (a .ends .now) fit (l .inv .0) (l .inv .1) (test .taken) in
     let d = lit-step (a .s .now) (a .v) (a .from) (a .codes .now) (a .ends .now) fit (k .codes) (l .ends) (l .inv .0) (k .at) (k .n) (l .m) (t .1)
     (t .0) (zero .taken) (w .result .code) (w .result .next) (w .ensures) in (
@@ -175,8 +192,8 @@ add-m c =
           (t .1) (t .0) (zero .left),
     )
 
-add-at : tie.Need-add-at Inv-loop2 μ-loop2 Inv-loop μ-loop
-add-at c =
+add-at-2 : tie.Need-add-at-2 Inv-loop2 μ-loop2 Inv-loop μ-loop
+add-at-2 c =
     let a = c .before .before .before .before .before .before .before .before .args in
     let fit = c .before .before .before .before .before .before .before .before .pre in
     let l = c .before .before .before .before .loop in
@@ -252,12 +269,13 @@ fill-spec =
     mul-codes
     slice-write-codes
     add-n
+    add-at
     loop2-less
     loop2-again
     mul-ends
     slice-write-ends
     add-m
-    add-at
+    add-at-2
     loop-less
     loop-again
     same-length

@@ -3,7 +3,6 @@ use Prim.Native.Nat.{_-_}
 use mathlib.Core.Path.{sym, ap, _∙_}
 use lib.ListN.{drop}
 use borrow.Author.Needs.{needs}
-use Rattle.drat.proofs.Complete.{text-line}
 use Rattle.drat.specs.Reading.{token}
 use Rattle.drat.specs.declared.Format.{Format}
 use Rattle.drat_read.proofs.scan.token_alone.Statement.{statement}
@@ -12,8 +11,8 @@ use Rattle.drat_read.proofs.scan.token_alone.Tie as tie
 enum-told : tie.Need-enum-told
 enum-told c = search needs
 
-line-at-requires : tie.Need-line-at-requires
-line-at-requires c κs = search needs
+text-token-requires : tie.Need-text-token-requires
+text-token-requires c κs = search needs
 
 enum-told-2 : tie.Need-enum-told-2
 enum-told-2 c = search needs
@@ -24,8 +23,7 @@ binary-token-requires c κs = search needs
 returns : tie.Need-returns
 returns c =
     let a = c .before .before .before .before .args in
-    c .line-at .ensures ∙ sym (text-line (a .at) (drop (a .at) (a .s .now)))
-    ∙ sym (ap (λ (f : Format). token f (a .at) (drop (a .at) (a .s .now))) (c .before .enum-told .given .1))
+    c .text-token .ensures ∙ sym (ap (λ (f : Format). token f (a .at) (drop (a .at) (a .s .now))) (c .before .enum-told .given .1))
 
 returns-2 : tie.Need-returns-2
 returns-2 c =
@@ -37,7 +35,7 @@ token-alone-spec =
     tie.close
     (tie.spec
     enum-told
-    line-at-requires
+    text-token-requires
     enum-told-2
     binary-token-requires
     returns
