@@ -15,7 +15,7 @@ use Rattle.drat.specs.declared.Token.{Token}
 use Rattle.drat.specs.declared.Token.the-variants.{Lit, Stop, Bad}
 use Rattle.drat.proofs.Steps.{next}
 use Rattle.drat.proofs.Complete.{signed-first, signed-read}
-use Rattle.drat.proofs.Sound.{lit-bad, stop-bad, lit-stop, lit-parts, first-is, signed-sound}
+use Rattle.drat.proofs.Sound.{lit-bad, stop-bad, lit-stop, lit-parts, stop-part, first-is, signed-sound}
 use Rattle.dimacs.specs.Reading.{thenBlank, endFrom, lineFrom}
 
 -- ---- what the grammar has is read
@@ -105,9 +105,6 @@ pub record EndRead (i : ℕ) (l : List ℕ) (j : ℕ) : Type 0 where
   pub rest : List ℕ
   pub split : l ≡ 48 ∷ 10 ∷ rest
   pub place : j ≡ i + 2
-
-stop-part : (i j : ℕ) → Stop i ≡ Stop j → i ≡ j
-stop-part i j e = cc
 
 end-sound : (i : ℕ) (l : List ℕ) (j : ℕ) → endFrom i l ≡ Stop j → (m : List ℕ) × (l ≡ 10 ∷ m) × (j ≡ i + 1)
 unfolding endFrom

@@ -7,9 +7,9 @@ use native.Mathlib.Omega.{arith}
 use Rattle.drat.specs.Grammar.{Signed, plus, minus}
 use Rattle.drat.specs.Numeral.{decimal, Numeral}
 use Rattle.dimacs.specs.Cnf.{magnitude, Line, closed, lit, Lines, none, line}
-use Rattle.drat_judge.specs.declared.Limit.{Limit}
-use Rattle.drat_judge.specs.Local.{LimitOf}
-use Rattle.drat_judge.proofs.LimitLaws.{digit-one, digit-more, NumberHere, with-digit, with-rest}
+use Rattle.dimacs_judge.specs.declared.limit.Limit.{Limit}
+use Rattle.dimacs_judge.specs.Limits.{LimitOf}
+use Rattle.drat_judge.proofs.NumberLaws.{digit-one, digit-more, NumberHere, with-digit, with-rest}
 use Rattle.dimacs_judge.specs.Local.{mayFollow, runs}
 use Rattle.dimacs_judge.proofs.NextLaws.{runs-cons, runs-end, First, closes, negative, begins, After, blank, further}
 use Rattle.dimacs_judge.proofs.NextLaws.{after-start, after-minus, after-zero, after-first, after-second, after-third, after-fourth}

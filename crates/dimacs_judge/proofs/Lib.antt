@@ -1,3 +1,4 @@
+pub mod LimitLaws
 pub mod RunsLaws
 pub mod NextLaws
 pub mod JudgedLaws

@@ -10,9 +10,10 @@ use Rattle.base.proofs.BelowLaws.{and-left, and-right}
 use Rattle.base.specs.Choice.{pick}
 use Rattle.drat.proofs.Numerals.{in-range-is, is-in-range, below-range}
 use Rattle.drat.specs.Numeral.{inRange, digit}
-use Rattle.drat_judge.specs.declared.Limit.{Limit}
-use Rattle.drat_judge.specs.Local.{near, LimitOf, above, closing}
-use Rattle.drat_judge.proofs.LimitLaws.{within-one, within-two, within-three, within-four, no-fifth}
+use Rattle.dimacs_judge.specs.declared.limit.Limit.{Limit}
+use Rattle.drat_judge.specs.Local.{near, closing}
+use Rattle.dimacs_judge.specs.Limits.{LimitOf, above}
+use Rattle.dimacs_judge.proofs.LimitLaws.{within-one, within-two, within-three, within-four, no-fifth}
 use Rattle.dimacs_judge.specs.Local.{known, lineNext, mayFollow, runs}
 
 pub runs-cons : (t : Limit) (a b c p x : ℕ) (l : List ℕ) → runs t a b c p (x ∷ l) ≡ true → (mayFollow t a b c p x ≡ true) × (runs t b c p x l ≡ true)

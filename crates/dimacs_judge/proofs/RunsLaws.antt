@@ -7,7 +7,7 @@ use lib.Dec.{eqb}
 use lib.ListN.{length, getD, drop, drop-of-length-le}
 use native.Mathlib.Omega.{arith}
 use Rattle.drat.proofs.Steps.{next}
-use Rattle.drat_judge.specs.declared.Limit.{Limit}
+use Rattle.dimacs_judge.specs.declared.limit.Limit.{Limit}
 use Rattle.dimacs_judge.specs.Local.{mayFollow, runs, runsAt}
 
 less : (i j k : ℕ) → j ≡ k + 1 → i + 1 - j ≡ i - k

@@ -12,8 +12,9 @@ use Rattle.dimacs.specs.Cnf.{Line, closed, lit, Lines, none, line}
 use Rattle.dimacs.specs.Reading.{clausesAt}
 use Rattle.dimacs.specs.Calls.{adds, allCodes, tallied}
 use Rattle.dimacs.proofs.LineLaws.{lines-read}
-use Rattle.drat_judge.specs.declared.Limit.{Limit}
-use Rattle.drat_judge.specs.Local.{LimitOf, tally}
+use Rattle.dimacs_judge.specs.declared.limit.Limit.{Limit}
+use Rattle.drat_judge.specs.Local.{tally}
+use Rattle.dimacs_judge.specs.Limits.{LimitOf}
 use Rattle.drat_judge.proofs.TallyLaws.{tally-append, signed-none}
 use Rattle.dimacs_judge.specs.declared.Judged.the-variants.{Counts, Unsure}
 use Rattle.dimacs_judge.specs.Local.{runs, runsAt}

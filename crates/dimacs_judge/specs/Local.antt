@@ -7,8 +7,9 @@ use lib.Dec.{eqb}
 use lib.ListN.{getD, drop}
 use Rattle.base.specs.Choice.{pick}
 use Rattle.drat.specs.Numeral.{inRange, digit}
-use Rattle.drat_judge.specs.declared.Limit.{Limit}
-use Rattle.drat_judge.specs.Local.{near, closing, above}
+use Rattle.drat_judge.specs.Local.{near, closing}
+use Rattle.dimacs_judge.specs.declared.limit.Limit.{Limit}
+use Rattle.dimacs_judge.specs.Limits.{above}
 
 -- x is the byte in question and a b c p are the four before it.
 -- A digit, a line feed, after a digit a blank and after another byte a minus.

@@ -1,13 +1,13 @@
 // Judging by neighbours: whether the bytes from a place on are clause lines, and how many literals and clauses they then are.
 // No state goes from byte to byte, so that the loops take many bytes at once.
-use drat_judge::Limit;
 use drat_judge::choose;
 use drat_judge::in_range;
-use drat_judge::is_above;
 use drat_judge::is_closing;
 use drat_judge::is_near;
-use drat_judge::limit_of;
 use drat_judge::tally_of;
+use limit::Limit;
+use limit::is_above;
+use limit::limit_of;
 ghost use mathlib.Core.Path.{_≡_};
 ghost use mathlib.Core.Bool.{_&&_};
 ghost use Prim.Native.Nat.{ℕ, _≤_};
@@ -18,6 +18,8 @@ ghost use Rattle.dimacs.specs.Reading.{clausesAt};
 ghost use Rattle.dimacs.specs.Calls.{tallied};
 ghost use Rattle.dimacs_judge.specs.Local.{lineNext, mayFollow, runsAt};
 ghost use Rattle.dimacs_judge.specs.declared.Judged.the-variants.{Counts};
+
+mod limit;
 
 // Judged clause lines, with the numbers of literals and of clauses; or not.
 pub enum Judged {

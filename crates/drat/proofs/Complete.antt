@@ -95,10 +95,10 @@ signed-first (plus h n) = let f = decimal-first n in (f .0, f .1, f .2, omega ar
 signed-first (minus {bs = bs} h n) = (45, bs, refl, omega arith, λ e. omega arith, omega arith)
 
 -- a literal is read as one, with its separators where it has some
-gap-after : {bs gs : List ℕ} {c : ℕ} → Signed bs c → Gap gs → (i : ℕ) (l : List ℕ) → Clear Text l
+gap-follows : {bs gs : List ℕ} {c : ℕ} → Signed bs c → Gap gs → (i : ℕ) (l : List ℕ) → Clear Text l
     → token Text i (bs ++ (gs ++ l)) ≡ Lit c (i + length bs + length gs)
 unfolding token thenGap
-gap-after {bs} {gs} {c} n g i l h =
+gap-follows {bs} {gs} {c} n g i l h =
     let f = signed-first n in
     let m = bs ++ (gs ++ l) in
     let k : i + length bs - i ≡ length bs + 0 = omega arith in
@@ -111,7 +111,7 @@ gap-after {bs} {gs} {c} n g i l h =
 
 pub token-number : {f : Format} {bs : List ℕ} {c : ℕ} → Number f bs c → (i : ℕ) (l : List ℕ) → Clear f l → token f i (bs ++ l) ≡ Lit c (i + length bs)
 token-number (spaced {bs = bs} {gs = gs} {c = c} n g) i l h =
-    ap (token Text i) (append-assoc bs gs l) ∙ gap-after n g i l h ∙ ap (Lit c) (simp length-append (omega arith))
+    ap (token Text i) (append-assoc bs gs l) ∙ gap-follows n g i l h ∙ ap (Lit c) (simp length-append (omega arith))
 token-number (code {bs = bs} {c = c} h n) i l _ =
     leb-token n i l ∙ leb-read n 0 1 i l (omega arith) (omega arith) (omega arith) ∙ ap (λ (y : ℕ). Lit y (i + length bs)) (omega arith)
 

@@ -56,7 +56,7 @@ unfolding stepAt
 step-is f s i = refl
 
 -- what a scan's answer says of the bytes
-scan-whole : (p : Proof) (n m : ℕ) → Whole n m ≡ counted p → (ss : List Step) × (p ≡ steps ss) × (n ≡ length (codesOf ss)) × (m ≡ length ss)
+pub scan-whole : (p : Proof) (n m : ℕ) → Whole n m ≡ counted p → (ss : List Step) × (p ≡ steps ss) × (n ≡ length (codesOf ss)) × (m ≡ length ss)
 unfolding counted
 scan-whole (steps ss) n m e = (ss, refl, cc, cc)
 scan-whole (faultAt i) n m e = let z : _≡_ {A = ℕ} 0 1 = cc in absurd (omega arith)
@@ -66,11 +66,21 @@ unfolding counted
 scan-fault (steps ss) i e = let z : _≡_ {A = ℕ} 0 1 = cc in absurd (omega arith)
 scan-fault (faultAt j) i e = cc
 
+module _ (f : Format) (s : List ℕ) (a b c : ℕ) where
+  pub answer-fault : (i : ℕ) → Fault i ≡ counted (readProof f s) → readOf f s a b c ≡ refusing 13 (i ∷ [])
+  unfolding answerOf
+  answer-fault i e = ap (λ (p : Proof). answerOf p a b c) (scan-fault (readProof f s) i e)
+
+  pub answer-steps : (ss : List Step) → readProof f s ≡ steps ss
+      → readOf f s a b c ≡ pick (ltb a (length (codesOf ss)) || ltb b (length ss) || ltb c (length ss)) (refusing 2 []) (filling ss)
+  unfolding answerOf
+  answer-steps ss e = ap (λ (p : Proof). answerOf p a b c) e
+
 module _ (f : Format) (s codes ends kinds : List ℕ) where
   -- a call that refuses fills nothing
-  refuses : (r : Read) (n : ℕ) (vs : List ℕ) → read r ≡ refused n vs → readOf f s (length codes) (length ends) (length kinds) ≡ refusing n vs
+  pub call-refused : (r : Read) (n : ℕ) (vs : List ℕ) → read r ≡ refused n vs → readOf f s (length codes) (length ends) (length kinds) ≡ refusing n vs
       → ReadCall f s codes ends kinds codes ends kinds r
-  refuses r n vs e h =
+  call-refused r n vs e h =
       record {
         answer = e ∙ sym (ap (λ (x : Filling). x .answer) h);
         codes-after = sym (ap (λ (x : Filling). sets codes 0 (x .codes)) h);
@@ -78,59 +88,28 @@ module _ (f : Format) (s codes ends kinds : List ℕ) where
         kinds-after = sym (ap (λ (x : Filling). sets kinds 0 (x .kinds)) h);
       }
 
-  pub call-broken : (i : ℕ) → Fault i ≡ counted (readProof f s) → ReadCall f s codes ends kinds codes ends kinds (Broken i)
-  unfolding answerOf
-  call-broken i e = refuses (Broken i) 13 (i ∷ []) refl (ap (λ (p : Proof). answerOf p (length codes) (length ends) (length kinds))
-      (scan-fault (readProof f s) i e))
-
-  answer-is : (ss : List Step) → readProof f s ≡ steps ss → readOf f s (length codes) (length ends) (length kinds) ≡
-      pick (ltb (length codes) (length (codesOf ss)) || ltb (length ends) (length ss) || ltb (length kinds) (length ss)) (refusing 2 []) (filling ss)
-  unfolding answerOf
-  answer-is ss e = ap (λ (p : Proof). answerOf p (length codes) (length ends) (length kinds)) e
-
-  module _ (n m : ℕ) (e : Whole n m ≡ counted (readProof f s)) where
-    -- one slice is too short
-    short : (ss : List Step) → readProof f s ≡ steps ss → ltb (length codes) (length (codesOf ss)) || ltb (length ends) (length ss) || ltb (length kinds)
-        (length ss) ≡ true → ReadCall f s codes ends kinds codes ends kinds Short
-    short ss h t = refuses Short 2 [] refl (answer-is ss h ∙ ap (λ (b : Bool). pick b (refusing 2 []) (filling ss)) t)
-
-    pub call-short₁ : length codes < n → ReadCall f s codes ends kinds codes ends kinds Short
-    call-short₁ h =
-        let w = scan-whole (readProof f s) n m e in
-        short (w .0) (w .1) (simp (lt-ltb (length codes) (length (codesOf (w .0))) (omega arith)))
-
-    pub call-short₂ : n ≤ length codes → length ends < m → ReadCall f s codes ends kinds codes ends kinds Short
-    call-short₂ g h =
-        let w = scan-whole (readProof f s) n m e in
-        short (w .0) (w .1) (simp (le-ltb (length codes) (length (codesOf (w .0))) (omega arith), lt-ltb (length ends) (length (w .0)) (omega arith)))
-
-    pub call-short₃ : n ≤ length codes → m ≤ length ends → length kinds < m → ReadCall f s codes ends kinds codes ends kinds Short
-    call-short₃ g h k =
-        let w = scan-whole (readProof f s) n m e in
-        short (w .0) (w .1) (simp (
-          le-ltb (length codes) (length (codesOf (w .0))) (omega arith),
-          le-ltb (length ends) (length (w .0)) (omega arith),
-          lt-ltb
-              (length kinds) (length (w .0)) (omega arith),
-        ))
-
-    pub call-filled : n ≤ length codes → m ≤ length ends → m ≤ length kinds → (codes′ ends′ kinds′ : List ℕ) (r : Scanned)
-        → Scan f s codes ends kinds codes′ ends′ kinds′ r → ReadCall f s codes ends kinds codes′ ends′ kinds′ (Filled n m)
-    call-filled g h k codes′ ends′ kinds′ r q =
-        let w = scan-whole (readProof f s) n m e in
-        let l = q .filled (w .0) (w .1) in
-        let a : readOf f s (length codes) (length ends) (length kinds) ≡ filling (w .0) =
-        answer-is (w .0) (w .1) ∙ simp (
-          le-ltb (length codes) (length (codesOf (w .0))) (omega arith),
-          le-ltb (length ends) (length (w .0)) (omega arith),
-          le-ltb (length kinds) (length (w .0)) (omega arith),
-        ) in
-        record {
-          answer = ap₂ (λ (x y : ℕ). accepted (x ∷ y ∷ [])) (w .2) (w .3) ∙ sym (ap (λ (x : Filling). x .answer) a);
-          codes-after = l .0 ∙ sym (ap (λ (x : Filling). sets codes 0 (x .codes)) a);
-          ends-after = l .1 ∙ sym (ap (λ (x : Filling). sets ends 0 (x .ends)) a);
-          kinds-after = l .2 ∙ sym (ap (λ (x : Filling). sets kinds 0 (x .kinds)) a);
-        }
+  -- a call that fills all steps
+  pub call-filled : (ss : List Step) → readProof f s ≡ steps ss → length (codesOf ss) ≤ length codes → length ss ≤ length ends → length ss ≤ length kinds
+      → (codes′ ends′ kinds′ : List ℕ) (n m : ℕ) → Scan f s codes ends kinds codes′ ends′ kinds′ (Whole n m)
+      → ReadCall f s codes ends kinds codes′ ends′ kinds′ (Filled n m)
+  unfolding counted
+  call-filled ss h ha hb hc codes′ ends′ kinds′ n m q =
+      let e = q .answer ∙ ap counted h in
+      let qn : n ≡ length (codesOf ss) = cc in
+      let qm : m ≡ length ss = cc in
+      let l = q .filled ss h in
+      let a : readOf f s (length codes) (length ends) (length kinds) ≡ filling ss =
+      answer-steps f s (length codes) (length ends) (length kinds) ss h ∙ simp (
+        le-ltb (length codes) (length (codesOf ss)) ha,
+        le-ltb (length ends) (length ss) hb,
+        le-ltb (length kinds) (length ss) hc,
+      ) in
+      record {
+        answer = ap₂ (λ (x y : ℕ). accepted (x ∷ y ∷ [])) qn qm ∙ sym (ap (λ (x : Filling). x .answer) a);
+        codes-after = l .0 ∙ sym (ap (λ (x : Filling). sets codes 0 (x .codes)) a);
+        ends-after = l .1 ∙ sym (ap (λ (x : Filling). sets ends 0 (x .ends)) a);
+        kinds-after = l .2 ∙ sym (ap (λ (x : Filling). sets kinds 0 (x .kinds)) a);
+      }
 
 -- the answer's reading loses nothing
 pub read-one : (x y : Read) → read x ≡ read y → x ≡ y

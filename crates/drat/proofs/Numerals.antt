@@ -2,12 +2,12 @@
 use Prim.Native.Nat.{ℕ, zero, suc, _+_, _*_, _/_, _%_, _≤_, _<_}
 use mathlib.Core.Path.{_≡_, refl, sym, ap, _∙_, subst}
 use mathlib.Core.List.{List}
-use mathlib.Core.Bool.{Bool, true, false}
+use mathlib.Core.Bool.{Bool, true, false, true≢false}
 use native.Mathlib.Omega.{arith}
 use native.Mathlib.Nat.{mod-add-div, mod-lt, mod-eq-of-lt, div-lt-self, div-eq-of-lt, le-div-iff-mul-le, pos-of-div-pos, add-mul-div-left}
 use native.Mathlib.Nat.{add-mul-mod-self-left}
 use lib.Dec.{leb, ltb}
-use borrow.Author.Tests.{leb-true, le-leb, lt-leb, ltb-true, ltb-false}
+use borrow.Author.Tests.{leb-true, leb-false, le-leb, lt-leb, ltb-true, ltb-false}
 use Rattle.base.proofs.BelowLaws.{and-left, and-right, and-both, and-not-left, and-not-right}
 use Rattle.base.specs.Choice.{pick}
 use Rattle.drat.specs.Numeral.{inRange, Radix, Numeral, one, more, Digits, spell, further, bytesOf}
@@ -24,6 +24,13 @@ below-range lo hi x h = and-not-left (leb lo x) (leb x hi) (lt-leb lo x h)
 
 pub above-range : (lo hi x : ℕ) → hi < x → inRange lo hi x ≡ false
 above-range lo hi x h = and-not-right (leb lo x) (leb x hi) (lt-leb x hi h)
+
+pub out-of-range : (lo hi x : ℕ) → inRange lo hi x ≡ false → x ≤ hi → x < lo
+out-of-range lo hi x e h = go (leb lo x) refl
+  where
+    go : (t : Bool) → leb lo x ≡ t → x < lo
+    go true f = absurd (true≢false (sym (is-in-range lo hi x (leb-true lo x f) h) ∙ e))
+    go false f = leb-false lo x f
 
 -- what is spelled by length is spelled by the grammar
 pub spell-numeral : (r : Radix) → 1 < r .base → (k n : ℕ) → Digits (r .base) k n → Numeral r (spell r k n) n

@@ -315,7 +315,7 @@ pub record EndRead (f : Format) (i : ℕ) (l : List ℕ) (j : ℕ) : Type 0 wher
   pub free : Free f rest
   pub place : j ≡ i + length (stop f)
 
-stop-part : (i j : ℕ) → Stop i ≡ Stop j → i ≡ j
+pub stop-part : (i j : ℕ) → Stop i ≡ Stop j → i ≡ j
 stop-part i j e = cc
 
 close-sound : (i : ℕ) (l : List ℕ) (j : ℕ) → closeFrom i l ≡ Stop j → Free Text l × (j ≡ i)

@@ -16,12 +16,10 @@ use Rattle.drat.specs.declared.Format.the-variants.{Text, Binary}
 use Rattle.drat.specs.declared.Format.{Format}
 use Rattle.drat.specs.declared.Kind.the-variants.{Add, Delete}
 use Rattle.drat.specs.declared.Kind.{Kind}
-use Rattle.drat_judge.specs.declared.Limit.{Limit}
-use Rattle.drat_judge.specs.Local.{near, limitAt, mayFollow, runs, judged}
-use Rattle.drat_judge.proofs.LimitLaws.{limit-at, within-four, no-fifth, digit-one, digit-more}
-use Rattle.drat_judge.proofs.LimitLaws.{NumberHere, with-digit, with-rest}
+use Rattle.drat_judge.specs.Local.{near, mayFollow, runs, judged}
+use Rattle.drat_judge.proofs.NumberLaws.{within-four, no-fifth, digit-one, digit-more, NumberHere, with-digit, with-rest}
 use Rattle.drat_judge.proofs.NextLaws.{runs-cons, text-end, binary-end, sep-low, Digit, Next, digits, seps, signs, dees, next-is, closing-is}
-use Rattle.drat_judge.proofs.NextLaws.{Closed, once, not-near, not-closing, not-closed, start-next, inside-next, second-next}
+use Rattle.drat_judge.proofs.NextLaws.{Low, Closed, once, not-near, not-closing, not-closed, start-next, inside-next, second-next}
 
 -- l spells steps
 pub record StepsHere (f : Format) (l : List ℕ) : Type 0 where
@@ -132,9 +130,6 @@ negated l n =
     (with-signed (45 ∷ n .digits) (n .rest) (2 * n .index + 1) (minus (n .small) (n .spelled)) (n .then))
 
 -- ---- text: what l must be where the bytes before it end so
-abbrev limit : Limit
-limit = limitAt 4096
-
 -- the rest of a number after its digits ds, and then a step's rest and steps
 abbrev Digits : List ℕ → List ℕ → Type 0
 Digits ds l = NumberHere 4096 GapHere ds l
@@ -154,8 +149,8 @@ record TextHere (l : List ℕ) : Type 0 where
       → Numeral decimal ds n → n ≤ 4096 → Digits ds l
 
 -- the bytes end
-not-end : (a b c p : ℕ) → (p ≡ 48 → near c ≡ false → ⊥) → (p < 45 → Closed a b c → ⊥) → runs Text a b c p [] ≡ true → ⊥
-not-end a b c p h k e = ⊎-elim (not-closing c p h) (λ (z : (p < 45) × Closed a b c). k (z .0) (z .1)) (text-end a b c p e)
+not-end : (a b c p : ℕ) → (p ≡ 48 → near c ≡ false → ⊥) → (Low p → Closed a b c → ⊥) → runs Text a b c p [] ≡ true → ⊥
+not-end a b c p h k e = ⊎-elim (not-closing c p h) (λ (z : Low p × Closed a b c). k (z .0) (z .1)) (text-end a b c p e)
 
 text-none : TextHere []
 text-none =
@@ -163,12 +158,12 @@ text-none =
       start = λ a b c p h e. ended;
       item = λ a b c p h k e. absurd (not-end a b c p (λ z y. omega arith) (λ z y. k y) e);
       zero = λ a b c p h k e. (at-end, ended);
-      sign = λ a b c p h e. absurd (not-end a b c p (λ z y. omega arith) (λ z y. omega arith) e);
-      deletes = λ a b c p h e. absurd (not-end a b c p (λ z y. omega arith) (λ z y. omega arith) e);
-      first = λ a b c p h k i e ds n. absurd (not-end a b c p (λ z y. omega arith) (λ z y. omega arith) e);
-      second = λ a b c p h k i j o e ds n. absurd (not-end a b c p (λ z y. not-near c k (omega arith) y) (λ z y. omega arith) e);
-      third = λ a b c p h k i j o q e ds n. absurd (not-end a b c p (λ z y. not-near c i (omega arith) y) (λ z y. omega arith) e);
-      fourth = λ a b c p h k i j o q r s e ds n d m. absurd (not-end a b c p (λ z y. not-near c o (omega arith) y) (λ z y. omega arith) e);
+      sign = λ a b c p h e. absurd (not-end a b c p (λ z y. omega arith) (λ z y. z (omega arith) (omega arith)) e);
+      deletes = λ a b c p h e. absurd (not-end a b c p (λ z y. omega arith) (λ z y. z (omega arith) (omega arith)) e);
+      first = λ a b c p h k i e ds n. absurd (not-end a b c p (λ z y. omega arith) (λ z y. z (omega arith) (omega arith)) e);
+      second = λ a b c p h k i j o e ds n. absurd (not-end a b c p (λ z y. not-near c k (omega arith) y) (λ z y. z (omega arith) (omega arith)) e);
+      third = λ a b c p h k i j o q e ds n. absurd (not-end a b c p (λ z y. not-near c i (omega arith) y) (λ z y. z (omega arith) (omega arith)) e);
+      fourth = λ a b c p h k i j o q r s e ds n d m. absurd (not-end a b c p (λ z y. not-near c o (omega arith) y) (λ z y. z (omega arith) (omega arith)) e);
     }
   where
     ended : StepsHere Text []
@@ -198,78 +193,78 @@ module _ (x : ℕ) (l : List ℕ) (h : TextHere l) where
   gap-here b c p s i j o e = gap-sep x l s (h .item b c p x (sep-low s) (not-closed b c p (not-closing c p o) (λ u w. not-near p i j u)) e)
 
   text-start : (a b c p : ℕ) → p < 45 → runs Text a b c p (x ∷ l) ≡ true → StepsHere Text (x ∷ l)
-  text-start a b c p k e = go (next-is limit a b c p x (r .0))
+  text-start a b c p k e = go (next-is a b c p x (r .0))
     where
       r : (mayFollow Text a b c p x ≡ true) × (runs Text b c p x l ≡ true)
       r = runs-cons Text a b c p x l e
 
-      go : Next limit a b c p x → StepsHere Text (x ∷ l)
+      go : Next a b c p x → StepsHere Text (x ∷ l)
       go (digits d) = with-kind Text Add [] (x ∷ l) bare (begun b c p k (d .low) (d .high) (r .1))
       go (seps s n) = with-sep x l s (h .start b c p x (sep-low s) (r .1))
       go (signs i z) = with-kind Text Add [] (x ∷ l) bare (signed-here b c p z (r .1))
       go (dees i z u) = subst (λ (y : ℕ). StepsHere Text (y ∷ l)) (sym z) (with-dee l (h .deletes b c p x z (r .1)))
 
   text-item : (a b c p : ℕ) → p < 45 → (Closed a b c → ⊥) → runs Text a b c p (x ∷ l) ≡ true → ItemHere (x ∷ l)
-  text-item a b c p k o e = go (next-is limit a b c p x (r .0))
+  text-item a b c p k o e = go (next-is a b c p x (r .0))
     where
       r : (mayFollow Text a b c p x ≡ true) × (runs Text b c p x l ≡ true)
       r = runs-cons Text a b c p x l e
 
-      go : Next limit a b c p x → ItemHere (x ∷ l)
+      go : Next a b c p x → ItemHere (x ∷ l)
       go (digits d) = item-body (x ∷ l) (begun b c p k (d .low) (d .high) (r .1))
       go (seps s n) = item-sep x l s (h .item b c p x (sep-low s) (not-closed b c p (not-closing c p (λ u w. omega arith)) (λ u w. o (once w))) (r .1))
       go (signs i z) = item-body (x ∷ l) (signed-here b c p z (r .1))
       go (dees i z u) = absurd (o u)
 
   text-zero : (a b c p : ℕ) → p ≡ 48 → c < 45 → runs Text a b c p (x ∷ l) ≡ true → Free Text (x ∷ l) × StepsHere Text (x ∷ l)
-  text-zero a b c p z k e = go (next-is limit a b c p x (r .0))
+  text-zero a b c p z k e = go (next-is a b c p x (r .0))
     where
       r : (mayFollow Text a b c p x ≡ true) × (runs Text b c p x l ≡ true)
       r = runs-cons Text a b c p x l e
 
-      go : Next limit a b c p x → Free Text (x ∷ l) × StepsHere Text (x ∷ l)
+      go : Next a b c p x → Free Text (x ∷ l) × StepsHere Text (x ∷ l)
       go (digits d) = absurd (true≢false (sym (closing-is c p z (omega arith)) ∙ d .inside))
       go (seps s n) = (at-sep s, with-sep x l s (h .start b c p x (sep-low s) (r .1)))
-      go (signs i y) = absurd (omega arith)
-      go (dees i y u) = absurd (omega arith)
+      go (signs i y) = absurd (i (omega arith) (omega arith))
+      go (dees i y u) = absurd (i (omega arith) (omega arith))
 
   text-sign : (a b c p : ℕ) → p ≡ 45 → runs Text a b c p (x ∷ l) ≡ true → Digits [] (x ∷ l)
-  text-sign a b c p z e = go (next-is limit a b c p x (r .0))
+  text-sign a b c p z e = go (next-is a b c p x (r .0))
     where
       r : (mayFollow Text a b c p x ≡ true) × (runs Text b c p x l ≡ true)
       r = runs-cons Text a b c p x l e
 
-      go : Next limit a b c p x → Digits [] (x ∷ l)
+      go : Next a b c p x → Digits [] (x ∷ l)
       go (digits d) = numbered b c p (omega arith) (d .proper z) (d .high) (r .1)
       go (seps s n) = absurd (n z)
-      go (signs i y) = absurd (omega arith)
-      go (dees i y u) = absurd (omega arith)
+      go (signs i y) = absurd (i (omega arith) (omega arith))
+      go (dees i y u) = absurd (i (omega arith) (omega arith))
 
   text-deletes : (a b c p : ℕ) → p ≡ 100 → runs Text a b c p (x ∷ l) ≡ true → GapHere (x ∷ l)
-  text-deletes a b c p z e = go (next-is limit a b c p x (r .0))
+  text-deletes a b c p z e = go (next-is a b c p x (r .0))
     where
       r : (mayFollow Text a b c p x ≡ true) × (runs Text b c p x l ≡ true)
       r = runs-cons Text a b c p x l e
 
-      go : Next limit a b c p x → GapHere (x ∷ l)
+      go : Next a b c p x → GapHere (x ∷ l)
       go (digits d) = absurd (d .no-dee z)
       go (seps s n) = gap-here b c p s (omega arith) (omega arith) (λ u w. omega arith) (r .1)
-      go (signs i y) = absurd (omega arith)
-      go (dees i y u) = absurd (omega arith)
+      go (signs i y) = absurd (i (omega arith) (omega arith))
+      go (dees i y u) = absurd (i (omega arith) (omega arith))
 
   -- after a digit: a separator, or another digit
   after-digit : (a b c p n : ℕ) (ds : List ℕ) → 48 ≤ p → p ≤ 57 → (p ≡ 48 → near c ≡ false → ⊥) → runs Text a b c p (x ∷ l) ≡ true
-      → Numeral decimal ds n → n ≤ 4096 → (Digit limit a b c p x → runs Text b c p x l ≡ true → Digits (ds ++ x ∷ []) l) → Digits ds (x ∷ l)
-  after-digit a b c p n ds k q o e d m f = go (next-is limit a b c p x (r .0))
+      → Numeral decimal ds n → n ≤ 4096 → (Digit a b c p x → runs Text b c p x l ≡ true → Digits (ds ++ x ∷ []) l) → Digits ds (x ∷ l)
+  after-digit a b c p n ds k q o e d m f = go (next-is a b c p x (r .0))
     where
       r : (mayFollow Text a b c p x ≡ true) × (runs Text b c p x l ≡ true)
       r = runs-cons Text a b c p x l e
 
-      go : Next limit a b c p x → Digits ds (x ∷ l)
+      go : Next a b c p x → Digits ds (x ∷ l)
       go (digits y) = with-digit ds x l (f y (r .1))
       go (seps s y) = with-rest ds (x ∷ l) n d m (gap-here b c p s k (omega arith) o (r .1))
-      go (signs i y) = absurd (omega arith)
-      go (dees i y u) = absurd (omega arith)
+      go (signs i y) = absurd (i (omega arith) (omega arith))
+      go (dees i y u) = absurd (i (omega arith) (omega arith))
 
   text-first : (a b c p : ℕ) → c < 48 → 49 ≤ p → p ≤ 57 → runs Text a b c p (x ∷ l) ≡ true → (ds : List ℕ) → Numeral decimal ds (p - 48) → Digits ds (x ∷ l)
   text-first a b c p k i j e ds d = after-digit a b c p (p - 48) ds (omega arith) j (λ u w. omega arith) e d (omega arith)
@@ -289,12 +284,12 @@ module _ (x : ℕ) (l : List ℕ) (h : TextHere l) where
       after-digit a b c p n ds kp lp (λ u w. not-near c kc (omega arith) w) e d (omega arith)
       (λ y r.
       h .fourth b c p x kb lb kc lc kp lp (y .low) (y .high) r (ds ++ x ∷ []) (10 * n + (x - 48)) (digit-more ds n x (y .low) (y .high) d)
-      (within-four 4096 limit (omega arith) (limit-at 4096) a b c p x (y .within) (y .low) (y .high) kp lp kc lc kb lb))
+      (within-four a b c p x (y .within) (y .low) (y .high) kp lp kc lc kb lb))
 
   text-fourth : (a b c p : ℕ) → 48 ≤ a → a ≤ 57 → 48 ≤ b → b ≤ 57 → 48 ≤ c → c ≤ 57 → 48 ≤ p → p ≤ 57 → runs Text a b c p (x ∷ l) ≡ true → (ds : List ℕ)
       (n : ℕ) → Numeral decimal ds n → n ≤ 4096 → Digits ds (x ∷ l)
   text-fourth a b c p ka la kb lb kc lc kp lp e ds n d m = after-digit a b c p n ds kp lp (λ u w. not-near c kc (omega arith) w) e d m
-      (λ y r. absurd (no-fifth 4096 limit (omega arith) (limit-at 4096) a b c p x (y .within) (y .low) (y .high) kp lp kc lc kb lb ka la))
+      (λ y r. absurd (no-fifth a b c p x (y .within) (y .low) (y .high) kp lp kc lc kb lb ka la))
 
 text-judged : (l : List ℕ) → TextHere l
 text-judged [] = text-none

@@ -1,4 +1,4 @@
-pub mod LimitLaws
+pub mod NumberLaws
 pub mod RunsLaws
 pub mod NextLaws
 pub mod JudgedLaws

@@ -14,8 +14,7 @@ use Rattle.drat.specs.Numeral.{inRange, digit}
 use Rattle.drat.specs.Reading.{sep}
 use Rattle.drat.specs.declared.Format.the-variants.{Text, Binary}
 use Rattle.drat.specs.declared.Format.{Format}
-use Rattle.drat_judge.specs.declared.Limit.{Limit}
-use Rattle.drat_judge.specs.Local.{near, above, closing, closed, digitNext, markNext, textNext, binaryNext, mayFollow, ended, runs}
+use Rattle.drat_judge.specs.Local.{near, small, closing, low, closed, digitNext, markNext, textNext, binaryNext, mayFollow, ended, runs}
 
 pub runs-cons : (f : Format) (a b c p x : ℕ) (l : List ℕ) → runs f a b c p (x ∷ l) ≡ true → (mayFollow f a b c p x ≡ true) × (runs f b c p x l ≡ true)
 unfolding runs
@@ -45,21 +44,26 @@ pub not-closed : (a b c : ℕ) → (closing b c ≡ true → ⊥) → (near c �
 not-closed a b c h k (once e) = h e
 not-closed a b c h k (twice n e) = k n e
 
-closed-is : (a b c p : ℕ) → closed a b c p ≡ true → (p < 45) × Closed a b c
-closed-is a b c p h =
-    let rest = closing b c || (not (near c) && closing a b) in
-    (ltb-true p 45 (and-left (ltb p 45) rest h), go (either (closing b c) (not (near c) && closing a b) (and-right (ltb p 45) rest h)))
+closed-is : (a b c : ℕ) → closed a b c ≡ true → Closed a b c
+closed-is a b c h = go (either (closing b c) (not (near c) && closing a b) h)
   where
     go : (closing b c ≡ true) ⊎ (not (near c) && closing a b ≡ true) → Closed a b c
     go (inl e) = once e
     go (inr e) = twice (not-true (near c) (and-left (not (near c)) (closing a b) e)) (and-right (not (near c)) (closing a b) e)
 
-pub text-end : (a b c p : ℕ) → runs Text a b c p [] ≡ true → (closing c p ≡ true) ⊎ ((p < 45) × Closed a b c)
-text-end a b c p e = go (either (closing c p) (closed a b c p) (runs-end Text a b c p e))
+-- p is below 45, or no byte of text
+abbrev pub Low : ℕ → Type 0
+Low p = 45 ≤ p → p ≤ 127 → ⊥
+
+low-is : (p : ℕ) → low p ≡ true → Low p
+low-is p h i j = true≢false (sym (is-in-range 45 127 p i j) ∙ not-true (inRange 45 127 p) h)
+
+pub text-end : (a b c p : ℕ) → runs Text a b c p [] ≡ true → (closing c p ≡ true) ⊎ (Low p × Closed a b c)
+text-end a b c p e = go (either (closing c p) (low p && closed a b c) (runs-end Text a b c p e))
   where
-    go : (closing c p ≡ true) ⊎ (closed a b c p ≡ true) → (closing c p ≡ true) ⊎ ((p < 45) × Closed a b c)
+    go : (closing c p ≡ true) ⊎ (low p && closed a b c ≡ true) → (closing c p ≡ true) ⊎ (Low p × Closed a b c)
     go (inl h) = inl h
-    go (inr h) = inr (closed-is a b c p h)
+    go (inr h) = inr (low-is p (and-left (low p) (closed a b c) h), closed-is a b c (and-right (low p) (closed a b c) h))
 
 pub binary-end : (a b c p : ℕ) → runs Binary a b c p [] ≡ true → p ≡ 0
 binary-end a b c p e = eqb-true p 0 (runs-end Binary a b c p e)
@@ -76,62 +80,76 @@ pub sep-low : {x : ℕ} → Sep x → x < 45
 sep-low blank = omega arith
 sep-low feed = omega arith
 
-pub record Digit (t : Limit) (a b c p x : ℕ) : Type 0 where
+pub record Digit (a b c p x : ℕ) : Type 0 where
   pub low : 48 ≤ x
   pub high : x ≤ 57
   pub no-dee : p ≡ 100 → ⊥
   pub inside : closing c p ≡ false
   pub proper : p ≡ 45 → 49 ≤ x
-  pub within : above t a b c p x ≡ false
+  pub within : small a b c p x ≡ true
 
-pub data Next (t : Limit) (a b c p x : ℕ) : Type 0 where
-  digits : Digit t a b c p x → Next t a b c p x
-  seps : Sep x → (p ≡ 45 → ⊥) → Next t a b c p x
-  signs : p < 45 → x ≡ 45 → Next t a b c p x
-  dees : p < 45 → x ≡ 100 → Closed a b c → Next t a b c p x
+pub data Next (a b c p x : ℕ) : Type 0 where
+  digits : Digit a b c p x → Next a b c p x
+  seps : Sep x → (p ≡ 45 → ⊥) → Next a b c p x
+  signs : Low p → x ≡ 45 → Next a b c p x
+  dees : Low p → x ≡ 100 → Closed a b c → Next a b c p x
 
-not-both : (a b : Bool) → not (a && b) ≡ true → a ≡ true → b ≡ false
-not-both true b h e = not-true b h
-not-both false b h e = absurd (true≢false (sym e))
+after-minus : (p x : ℕ) → not (eqb p 45) || inRange 49 127 x ≡ true → p ≡ 45 → 49 ≤ x
+after-minus p x h e = in-range-is 49 127 x (go (eqb p 45) (eq-eqb p 45 e) h) .0
+  where
+    go : (u : Bool) → u ≡ true → not u || inRange 49 127 x ≡ true → inRange 49 127 x ≡ true
+    go true e h = h
+    go false e h = absurd (true≢false (sym e))
 
-digit-is : (t : Limit) (a b c p x : ℕ) → digitNext t a b c p x ≡ true → Digit t a b c p x
-digit-is t a b c p x h =
-    let token = not (eqb p 100) && not (closing c p) in
-    let number = not (eqb p 45 && ltb x 49) && not (above t a b c p x) in
-    let d = in-range-is 48 57 x (and-left (digit x) (token && number) h) in
-    let r = and-right (digit x) (token && number) h in
-    let l = and-left token number r in
-    let m = and-right token number r in
+neither : (a b : Bool) → not (a || b) ≡ true → (a ≡ false) × (b ≡ false)
+neither true b h = absurd (true≢false (sym h))
+neither false b h = (refl, not-true b h)
+
+digit-is : (a b c p x : ℕ) → digitNext a b c p x ≡ true → (p ≡ 45 → 49 ≤ x) → Digit a b c p x
+digit-is a b c p x h m =
+    let token = not (eqb p 100 || closing c p) in
+    let d = in-range-is 48 57 x (and-left (digit x) (small a b c p x && token) h) in
+    let r = and-right (digit x) (small a b c p x && token) h in
+    let n = neither (eqb p 100) (closing c p) (and-right (small a b c p x) token r) in
     record {
       low = d .0;
       high = d .1;
-      no-dee = eqb-false p 100 (not-true (eqb p 100) (and-left (not (eqb p 100)) (not (closing c p)) l));
-      inside = not-true (closing c p) (and-right (not (eqb p 100)) (not (closing c p)) l);
-      proper = λ e. ltb-false x 49 (not-both (eqb p 45) (ltb x 49) (and-left (not (eqb p 45 && ltb x 49)) (not (above t a b c p x)) m) (eq-eqb p 45 e));
-      within = not-true (above t a b c p x) (and-right (not (eqb p 45 && ltb x 49)) (not (above t a b c p x)) m);
+      no-dee = eqb-false p 100 (n .0);
+      inside = n .1;
+      proper = m;
+      within = and-left (small a b c p x) token r;
     }
 
-mark-is : (t : Limit) (a b c p x : ℕ) → markNext a b c p x ≡ true → Next t a b c p x
-mark-is t a b c p x h = go (either (eqb x 45 && ltb p 45) (eqb x 100 && closed a b c p) h)
+mark-is : (a b c p x : ℕ) → markNext a b c p x ≡ true → Next a b c p x
+mark-is a b c p x h = go (either (eqb x 45) (eqb x 100 && closed a b c) (and-right (low p) (eqb x 45 || (eqb x 100 && closed a b c)) h))
   where
-    go : (eqb x 45 && ltb p 45 ≡ true) ⊎ (eqb x 100 && closed a b c p ≡ true) → Next t a b c p x
-    go (inl e) = signs (ltb-true p 45 (and-right (eqb x 45) (ltb p 45) e)) (eqb-true x 45 (and-left (eqb x 45) (ltb p 45) e))
-    go (inr e) =
-        let m = closed-is a b c p (and-right (eqb x 100) (closed a b c p) e) in
-        dees (m .0) (eqb-true x 100 (and-left (eqb x 100) (closed a b c p) e)) (m .1)
+    lows : Low p
+    lows = low-is p (and-left (low p) (eqb x 45 || (eqb x 100 && closed a b c)) h)
 
-pub next-is : (t : Limit) (a b c p x : ℕ) → textNext t a b c p x ≡ true → Next t a b c p x
+    go : (eqb x 45 ≡ true) ⊎ (eqb x 100 && closed a b c ≡ true) → Next a b c p x
+    go (inl e) = signs lows (eqb-true x 45 e)
+    go (inr e) = dees lows (eqb-true x 100 (and-left (eqb x 100) (closed a b c) e)) (closed-is a b c (and-right (eqb x 100) (closed a b c) e))
+
+pub next-is : (a b c p x : ℕ) → textNext a b c p x ≡ true → Next a b c p x
 unfolding textNext
-next-is t a b c p x h = go (either (digitNext t a b c p x) ((sep x && not (eqb p 45)) || markNext a b c p x) h)
+next-is a b c p x h = go (either (digitNext a b c p x) (sep x || markNext a b c p x) (and-left kinds minus h))
   where
-    spaced : (sep x && not (eqb p 45) ≡ true) ⊎ (markNext a b c p x ≡ true) → Next t a b c p x
-    spaced (inl e) = seps (sep-is x (and-left (sep x) (not (eqb p 45)) e))
-        (eqb-false p 45 (not-true (eqb p 45) (and-right (sep x) (not (eqb p 45)) e)))
-    spaced (inr e) = mark-is t a b c p x e
+    kinds : Bool
+    kinds = digitNext a b c p x || (sep x || markNext a b c p x)
 
-    go : (digitNext t a b c p x ≡ true) ⊎ ((sep x && not (eqb p 45)) || markNext a b c p x ≡ true) → Next t a b c p x
-    go (inl e) = digits (digit-is t a b c p x e)
-    go (inr e) = spaced (either (sep x && not (eqb p 45)) (markNext a b c p x) e)
+    minus : Bool
+    minus = not (eqb p 45) || inRange 49 127 x
+
+    proper : p ≡ 45 → 49 ≤ x
+    proper = after-minus p x (and-right kinds minus h)
+
+    spaced : (sep x ≡ true) ⊎ (markNext a b c p x ≡ true) → Next a b c p x
+    spaced (inl e) = let s = sep-is x e in seps s (λ z. omega (arith, proper z, sep-low s))
+    spaced (inr e) = mark-is a b c p x e
+
+    go : (digitNext a b c p x ≡ true) ⊎ (sep x || markNext a b c p x ≡ true) → Next a b c p x
+    go (inl e) = digits (digit-is a b c p x e proper)
+    go (inr e) = spaced (either (sep x) (markNext a b c p x) e)
 
 -- a closing 0
 pub closing-is : (c p : ℕ) → p ≡ 48 → c < 48 → closing c p ≡ true

@@ -14,8 +14,7 @@ use Rattle.drat.specs.declared.Format.the-variants.{Text, Binary}
 use Rattle.drat.specs.declared.Format.{Format}
 use Rattle.drat.proofs.Shapes.{one-le}
 use Rattle.drat.specs.Numeral.{inRange}
-use Rattle.drat_judge.specs.declared.Limit.{Limit}
-use Rattle.drat_judge.specs.Local.{limitAt, textNext, binaryNext, mayFollow, ended, before, runs, byteBack, runsAt, tally, starts, startsAt}
+use Rattle.drat_judge.specs.Local.{textNext, binaryNext, mayFollow, ended, before, runs, byteBack, runsAt, tally, starts, startsAt}
 
 back-suc : (f : Format) (s : List ℕ) (i k : ℕ) → byteBack f s (i + 1) (k + 1) ≡ byteBack f s i k
 back-suc f s i k =
@@ -74,15 +73,10 @@ head-turn f s j i a b c p h ok r e ea eb ec ep q =
     ∙ runs-turn f s j i h ok e
 
 -- the same where the bytes before stand in the input
-pub text-turn : (s : List ℕ) (j : Bool) (i : ℕ) (t : Limit) → t ≡ limitAt 4096 → i < length s → 4 ≤ i → (ok r : Bool) → ok && runsAt Text s i ≡ j
-    → r ≡ textNext t (getD s (i - 4) 0) (getD s (i - 3) 0) (getD s (i - 2) 0) (getD s (i - 1) 0) (getD s i 0) → (ok && r) && runsAt Text s (i + 1) ≡ j
-text-turn s j i t et h k ok r e q =
-    ap (λ (u : Bool). (ok && u) && runsAt Text s (i + 1)) (q ∙ limited ∙ sym (here (getD s i 0))) ∙ runs-turn Text s j i h ok e
+pub text-turn : (s : List ℕ) (j : Bool) (i : ℕ) → i < length s → 4 ≤ i → (ok r : Bool) → ok && runsAt Text s i ≡ j
+    → r ≡ textNext (getD s (i - 4) 0) (getD s (i - 3) 0) (getD s (i - 2) 0) (getD s (i - 1) 0) (getD s i 0) → (ok && r) && runsAt Text s (i + 1) ≡ j
+text-turn s j i h k ok r e q = ap (λ (u : Bool). (ok && u) && runsAt Text s (i + 1)) (q ∙ sym (here (getD s i 0))) ∙ runs-turn Text s j i h ok e
   where
-    limited : textNext t (getD s (i - 4) 0) (getD s (i - 3) 0) (getD s (i - 2) 0) (getD s (i - 1) 0) (getD s i 0)
-        ≡ mayFollow Text (getD s (i - 4) 0) (getD s (i - 3) 0) (getD s (i - 2) 0) (getD s (i - 1) 0) (getD s i 0)
-    limited = ap (λ (o : Limit). textNext o (getD s (i - 4) 0) (getD s (i - 3) 0) (getD s (i - 2) 0) (getD s (i - 1) 0) (getD s i 0)) et
-
     here : (x : ℕ) → mayFollow Text (byteBack Text s i 4) (byteBack Text s i 3) (byteBack Text s i 2) (byteBack Text s i 1) x ≡ mayFollow Text
         (getD s (i - 4) 0) (getD s (i - 3) 0) (getD s (i - 2) 0) (getD s (i - 1) 0) x
     here x =

@@ -1,7 +1,6 @@
 -- Judging by neighbours: bytes are whole steps where each byte may stand after the four before it and the last ones end a step.
 -- And how many literals and steps they are, by counting bytes.
-use Prim.Native.Nat.{ℕ, _+_, _-_, _*_, _/_, _%_}
-use mathlib.Core.Path.{_≡_}
+use Prim.Native.Nat.{ℕ, _+_, _-_, _*_}
 use mathlib.Core.Bool.{Bool, _&&_, _||_, not}
 use mathlib.Core.List.{List, [], _∷_}
 use lib.Dec.{eqb, leb, ltb}
@@ -11,7 +10,6 @@ use Rattle.drat.specs.Numeral.{inRange, digit}
 use Rattle.drat.specs.Reading.{sep}
 use Rattle.drat.specs.declared.Format.{Format}
 use Rattle.drat.specs.declared.Format.the-variants.{Text, Binary}
-use Rattle.drat_judge.specs.declared.Limit.{Limit}
 
 -- ---- numbers: x is the byte in question and a b c p are the four before it
 
@@ -19,55 +17,39 @@ use Rattle.drat_judge.specs.declared.Limit.{Limit}
 abbrev pub near : ℕ → Bool
 near x = inRange 48 127 x
 
--- The limit v: its last digit as a byte, and of the three digits before it the byte below.
-abbrev pub limitAt : ℕ → Limit
-limitAt v = record { ones = 48 + v % 10; tens = 47 + v / 10 % 10; hundreds = 47 + v / 100 % 10; thousands = 47 + v / 1000 }
-
-pub record LimitOf (v : ℕ) (t : Limit) : Type 0 where
-  pub ones-is : t .ones ≡ 48 + v % 10
-  pub tens-is : t .tens ≡ 47 + v / 10 % 10
-  pub hundreds-is : t .hundreds ≡ 47 + v / 100 % 10
-  pub thousands-is : t .thousands ≡ 47 + v / 1000
-
--- What is below the digits counts as the digit 0.
-abbrev pub raised : ℕ → ℕ
-raised b = pick (ltb b 48) 48 b
-
--- The number of the digits b c p x is within the limit: from the last digit on, each is at most the limit's, and less where those after it are more.
-abbrev pub fitsDigits : Limit → ℕ → ℕ → ℕ → ℕ → Bool
-fitsDigits t b c p x =
-    leb b (t .thousands + pick (leb c (t .hundreds + pick (leb p (t .tens + pick (leb x (t .ones)) 1 0)) 1 0)) 1 0)
-
--- Digits count if those after them are digits too.
-unfoldable pub fits : Limit → ℕ → ℕ → ℕ → ℕ → Bool
-fits t b c p x = fitsDigits t (raised (pick (near p && near c) b 0)) (raised (pick (near p) c 0)) (raised p) x
-
--- The digit x makes a number above the limit, or is a fifth digit.
-unfoldable pub above : Limit → ℕ → ℕ → ℕ → ℕ → ℕ → Bool
-above t a b c p x = digit x && ((near a && (near b && (near c && near p))) || not (fits t b c p x))
+-- The digit x makes no number above 4096: it is the fourth digit or an earlier one, and of four the first is at most 4, and at most 3
+-- where the other three are above 096.
+unfoldable pub small : ℕ → ℕ → ℕ → ℕ → ℕ → Bool
+small a b c p x =
+    (not (near b) || (not (near c) || not (near p)))
+    || (not (near a) && leb b (52 - pick (inRange 49 127 c || (eqb p 57 && inRange 55 127 x)) 1 0))
 
 -- p is a closing 0: no digit is before it.
 abbrev pub closing : ℕ → ℕ → Bool
 closing c p = eqb p 48 && not (near c)
 
--- ---- text. A byte below 45 is a separator there, since every byte is a digit, a minus, a `d` or a separator.
+-- ---- text. Every byte is a digit, a minus, a `d` or a separator there.
 
--- a b c p end with a closing 0 and one or two separators; c is one of them if it is no digit, since p stands after no minus.
-abbrev pub closed : ℕ → ℕ → ℕ → ℕ → Bool
-closed a b c p = ltb p 45 && (closing b c || (not (near c) && closing a b))
+-- A separator, in text that was judged up to there.
+abbrev pub low : ℕ → Bool
+low p = not (inRange 45 127 p)
 
--- A digit stands after no `d` and no closing 0, after a minus it is no 0, and it makes no number above the limit.
-abbrev pub digitNext : Limit → ℕ → ℕ → ℕ → ℕ → ℕ → Bool
-digitNext t a b c p x =
-    digit x && ((not (eqb p 100) && not (closing c p)) && (not (eqb p 45 && ltb x 49) && not (above t a b c p x)))
+-- a b c and a separator end with a closing 0 and one or two separators; c is one of them if it is no digit, since a separator stands
+-- after no minus.
+abbrev pub closed : ℕ → ℕ → ℕ → Bool
+closed a b c = closing b c || (not (near c) && closing a b)
+
+-- A digit makes no number above 4096 and stands after no `d` and no closing 0.
+abbrev pub digitNext : ℕ → ℕ → ℕ → ℕ → ℕ → Bool
+digitNext a b c p x = digit x && (small a b c p x && not (eqb p 100 || closing c p))
 
 -- A minus stands after a separator, a `d` after a closing 0 and one or two of them.
 abbrev pub markNext : ℕ → ℕ → ℕ → ℕ → ℕ → Bool
-markNext a b c p x = (eqb x 45 && ltb p 45) || (eqb x 100 && closed a b c p)
+markNext a b c p x = low p && (eqb x 45 || (eqb x 100 && closed a b c))
 
--- A separator stands after no minus.
-unfoldable pub textNext : Limit → ℕ → ℕ → ℕ → ℕ → ℕ → Bool
-textNext t a b c p x = digitNext t a b c p x || ((sep x && not (eqb p 45)) || markNext a b c p x)
+-- A separator stands anywhere, but after a minus stands a digit that is not 0.
+unfoldable pub textNext : ℕ → ℕ → ℕ → ℕ → ℕ → Bool
+textNext a b c p x = (digitNext a b c p x || (sep x || markNext a b c p x)) && (not (eqb p 45) || inRange 49 127 x)
 
 -- ---- both formats
 
@@ -79,12 +61,12 @@ binaryNext p x =
     (inRange 1 64 x && (ltb x 64 || leb p 129))
 
 abbrev pub mayFollow : Format → ℕ → ℕ → ℕ → ℕ → ℕ → Bool
-mayFollow Text a b c p x = textNext (limitAt 4096) a b c p x
+mayFollow Text a b c p x = textNext a b c p x
 mayFollow Binary a b c p x = binaryNext p x
 
 -- a b c p end a step: a closing 0, or one and one or two separators; byte 0.
 abbrev pub ended : Format → ℕ → ℕ → ℕ → ℕ → Bool
-ended Text a b c p = closing c p || closed a b c p
+ended Text a b c p = closing c p || (low p && closed a b c)
 ended Binary a b c p = eqb p 0
 
 -- Each byte of l may follow the four before it, which for the first are a b c p, and the last ones end a step.

@@ -8,7 +8,7 @@ ghost use lib.ListN.{length, drop};
 ghost use Rattle.base.specs.Choice.{pick};
 ghost use Rattle.base.specs.Lent.{old};
 ghost use Rattle.drat.specs.Numeral.{inRange};
-ghost use Rattle.drat_judge.specs.Local.{near, LimitOf, raised, fits, above, closing, closed, textNext, binaryNext, mayFollow, ended, before, judged};
+ghost use Rattle.drat_judge.specs.Local.{near, low, closing, closed, small, textNext, binaryNext, mayFollow, ended, before, judged};
 ghost use Rattle.drat_judge.specs.Local.{byteBack, runsAt, tally, starts, startsAt, stepsBy, litsBy};
 ghost use Rattle.drat.specs.declared.Format.the-variants.{Text, Binary};
 
@@ -16,26 +16,6 @@ ghost use Rattle.drat.specs.declared.Format.the-variants.{Text, Binary};
 pub struct Counts {
     pub lits: usize,
     pub steps: usize,
-}
-
-// The largest number allowed: its last digit as a byte, and of the three digits before it the byte below.
-pub struct Limit {
-    pub ones: u8,
-    pub tens: u8,
-    pub hundreds: u8,
-    pub thousands: u8,
-}
-
-pub fn limit_of(v: u32) -> Limit
-    requires { ⌜ v ≤ 4096 ⌝ }
-    ensures { λ r. ⌜ LimitOf v r ⌝ }
-{
-    Limit {
-        ones: (48 + v % 10) as u8,
-        tens: (47 + v / 10 % 10) as u8,
-        hundreds: (47 + v / 100 % 10) as u8,
-        thousands: (47 + v / 1000) as u8,
-    }
 }
 
 pub fn in_range(x: u8, lo: u8, hi: u8) -> bool
@@ -57,44 +37,10 @@ pub fn is_near(x: u8) -> bool
     in_range(x, 48, 127)
 }
 
-fn one(t: bool) -> u8
+pub fn one(t: bool) -> u8
     ensures { λ r. ⌜ (r ≡ pick t 1 0) × (r ≤ 1) ⌝ }
 {
     if t { 1 } else { 0 }
-}
-
-fn byte_if(t: bool, b: u8) -> u8
-    ensures { λ r. ⌜ r ≡ pick t b 0 ⌝ }
-{
-    if t { b } else { 0 }
-}
-
-fn raise(b: u8) -> u8
-    ensures { λ r. ⌜ r ≡ raised b ⌝ }
-{
-    if b < 48 { 48 } else { b }
-}
-
-// Whether the number that the digits among b c p x end with is within the limit.
-fn number_fits(t: Limit, b: u8, c: u8, p: u8, x: u8) -> bool
-    requires { ⌜ (t .tens ≤ 56) × (t .hundreds ≤ 56) × (t .thousands ≤ 56) ⌝ }
-    ensures { λ r. ⌜ r ≡ fits t b c p x ⌝ }
-{
-    let two = is_near(p);
-    let three = two & is_near(c);
-    let k = x <= t.ones;
-    let l = raise(p) <= t.tens + one(k);
-    let m = raise(byte_if(two, c)) <= t.hundreds + one(l);
-    raise(byte_if(three, b)) <= t.thousands + one(m)
-}
-
-// Whether the digit x makes a number above the limit, or is a fifth digit.
-pub fn is_above(t: Limit, a: u8, b: u8, c: u8, p: u8, x: u8) -> bool
-    requires { ⌜ (t .tens ≤ 56) × (t .hundreds ≤ 56) × (t .thousands ≤ 56) ⌝ }
-    ensures { λ r. ⌜ r ≡ above t a b c p x ⌝ }
-{
-    let fifth = is_near(a) & (is_near(b) & (is_near(c) & is_near(p)));
-    in_range(x, 48, 57) & (fifth | !number_fits(t, b, c, p, x))
 }
 
 // Whether p is a closing 0.
@@ -104,23 +50,36 @@ pub fn is_closing(c: u8, p: u8) -> bool
     (p == 48) & !is_near(c)
 }
 
-// Whether a b c p end with a closing 0 and one or two separators.
-fn is_closed(a: u8, b: u8, c: u8, p: u8) -> bool
-    ensures { λ r. ⌜ r ≡ closed a b c p ⌝ }
+// Whether p is a separator, in text that was judged up to there.
+fn is_low(p: u8) -> bool
+    ensures { λ r. ⌜ r ≡ low p ⌝ }
 {
-    (p < 45) & (is_closing(b, c) | (!is_near(c) & is_closing(a, b)))
+    !in_range(p, 45, 127)
+}
+
+// Whether a b c, and a separator after them, end with a closing 0 and one or two separators.
+fn is_closed(a: u8, b: u8, c: u8) -> bool
+    ensures { λ r. ⌜ r ≡ closed a b c ⌝ }
+{
+    is_closing(b, c) | (!is_near(c) & is_closing(a, b))
+}
+
+// Whether the digit x, after a b c p, makes no number above 4096.
+fn is_small(a: u8, b: u8, c: u8, p: u8, x: u8) -> bool
+    ensures { λ r. ⌜ r ≡ small a b c p x ⌝ }
+{
+    let above = in_range(c, 49, 127) | ((p == 57) & in_range(x, 55, 127));
+    let few = !is_near(b) | (!is_near(c) | !is_near(p));
+    few | (!is_near(a) & (b <= 52 - one(above)))
 }
 
 // Whether x may stand after a b c p.
-fn text_next(t: Limit, a: u8, b: u8, c: u8, p: u8, x: u8) -> bool
-    requires { ⌜ (t .tens ≤ 56) × (t .hundreds ≤ 56) × (t .thousands ≤ 56) ⌝ }
-    ensures { λ r. ⌜ r ≡ textNext t a b c p x ⌝ }
+fn text_next(a: u8, b: u8, c: u8, p: u8, x: u8) -> bool
+    ensures { λ r. ⌜ r ≡ textNext a b c p x ⌝ }
 {
-    let token = !(p == 100) & !is_closing(c, p);
-    let number = !((p == 45) & (x < 49)) & !is_above(t, a, b, c, p, x);
-    let digit = in_range(x, 48, 57) & (token & number);
-    let mark = ((x == 45) & (p < 45)) | ((x == 100) & is_closed(a, b, c, p));
-    digit | ((((x == 32) | (x == 10)) & !(p == 45)) | mark)
+    let digit = in_range(x, 48, 57) & (is_small(a, b, c, p, x) & !((p == 100) | is_closing(c, p)));
+    let mark = is_low(p) & ((x == 45) | ((x == 100) & is_closed(a, b, c)));
+    (digit | (((x == 32) | (x == 10)) | mark)) & (!(p == 45) | in_range(x, 49, 127))
 }
 
 // Whether x may stand after p.
@@ -135,7 +94,7 @@ fn next(f: Format, a: u8, b: u8, c: u8, p: u8, x: u8) -> bool
     ensures { λ r. ⌜ r ≡ mayFollow f a b c p x ⌝ }
 {
     match f {
-        Format::Text => text_next(limit_of(4096), a, b, c, p, x),
+        Format::Text => text_next(a, b, c, p, x),
         Format::Binary => binary_next(p, x),
     }
 }
@@ -155,7 +114,7 @@ fn is_end(f: Format, a: u8, b: u8, c: u8, p: u8) -> bool
     ensures { λ r. ⌜ r ≡ ended f a b c p ⌝ }
 {
     match f {
-        Format::Text => is_closing(c, p) | is_closed(a, b, c, p),
+        Format::Text => is_closing(c, p) | (is_low(p) & is_closed(a, b, c)),
         Format::Binary => p == 0,
     }
 }
@@ -198,11 +157,10 @@ fn text_part(s: &[u8], from: usize, to: usize) -> bool
     requires { ⌜ to ≤ length (now s) ⌝ }
     ensures { λ r. ⌜ r && runsAt Text (old s) to ≡ runsAt Text (old s) from ⌝ }
 {
-    let t = limit_of(4096);
     let mut ok = true;
     let mut i = from;
     while i < to {
-        ok = ok & text_next(t, s[i - 4], s[i - 3], s[i - 2], s[i - 1], s[i]);
+        ok = ok & text_next(s[i - 4], s[i - 3], s[i - 2], s[i - 1], s[i]);
         i += 1;
     }
     ok

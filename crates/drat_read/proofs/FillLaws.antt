@@ -1,17 +1,20 @@
 -- The fill from step to step: all steps are whole, so that each turn fills one more.
 use Prim.Native.Nat.{ℕ, _+_, _-_, _≤_, _<_}
-use mathlib.Core.Bool.{true}
+use mathlib.Core.Bool.{Bool, true, false, _||_, true≢false}
 use mathlib.Core.List.{List, [], _∷_, _++_}
-use mathlib.Core.Path.{_≡_, refl, sym, ap, _∙_, subst, subst₂}
+use mathlib.Core.Path.{_≡_, refl, sym, ap, ap₂, _∙_, subst, subst₂}
+use lib.Dec.{ltb}
 use lib.ListN.{length, drop, set, length-append}
 use lib.Seq.{sets}
 use native.Mathlib.Numerals.{add-one}
 use native.Mathlib.Omega.{arith}
-use Rattle.drat.proofs.Ends.{step-is, call-filled}
+use borrow.Author.Tests.{ltb-false}
+use Rattle.base.specs.Choice.{pick}
+use Rattle.drat.proofs.Ends.{step-is, scan-whole, answer-steps, call-filled}
 use Rattle.drat.proofs.Places.{bodyAt, stepAt, proofAt, opens-at, stop-at, got-at, fault-at, tokenAt}
 use Rattle.drat.proofs.Scanning.{prependSteps, codes-of-append, Inner, Outer, inner-start, inner-more, outer-more, outer-end}
 use Rattle.drat.proofs.Sound.{Bytes, as-step, cons-step, steps-fault}
-use Rattle.drat.specs.Filled.{kindNumber, codesOf, counted, Scan, ReadCall}
+use Rattle.drat.specs.Filled.{kindNumber, codesOf, counted, refusing, filling, Scan, ReadCall}
 use Rattle.drat.specs.Grammar.{Step}
 use Rattle.drat.specs.Reading.{token, opening, whole, One, got, fault, oneStep, Proof, steps, faultAt, readProof}
 use Rattle.drat.specs.declared.Format.{Format}
@@ -22,7 +25,8 @@ use Rattle.drat.specs.declared.Scanned.the-variants.{Whole}
 use Rattle.drat.specs.declared.Token.the-variants.{Lit, Stop}
 use Rattle.drat_judge.proofs.CountsLaws.{judged-size}
 use Rattle.drat_judge.specs.Local.{judged}
-use Rattle.drat_read.specs.Known.{StepsFit, BodyFits, BodyFilled, IsStep}
+use Rattle.drat_read.specs.declared.Room.the-variants.{Fits, Short}
+use Rattle.drat_read.specs.Known.{StepsFit, Found, roomFor, BodyFits, BodyFilled, IsStep}
 use Rattle.drat_read.proofs.BodyLaws.{body-is, NextToken, stops, goes, next-token}
 
 -- ---- what a whole is made of
@@ -127,16 +131,30 @@ module _ (f : Format) (s codes₀ ends₀ kinds₀ codes ends kinds : List ℕ) 
     fill-end h = outer-end f s codes₀ ends₀ kinds₀ codes ends kinds at n m hb o h
 
 -- the numbers of literals and of steps say whether slices hold them
-pub whole-fits : (f : Format) (s : List ℕ) (n m a b c : ℕ) → Whole n m ≡ counted (readProof f s) → n ≤ a → m ≤ b → m ≤ c → StepsFit f s a b c
-unfolding counted
-whole-fits f s n m a b c e ha hb hc = go (readProof f s) refl e
+none-of : (t u v : Bool) → t || u || v ≡ false → (t ≡ false) × (u ≡ false) × (v ≡ false)
+none-of true u v h = absurd (true≢false h)
+none-of false true v h = absurd (true≢false h)
+none-of false false v h = (refl, refl, h)
+
+pub whole-found : (f : Format) (s : List ℕ) (n m a b c : ℕ) → Whole n m ≡ counted (readProof f s) → Found f s a b c (roomFor n m a b c)
+whole-found f s n m a b c e = go (ltb a n || ltb b m || ltb c m) refl
   where
-    go : (p : Proof) → readProof f s ≡ p → Whole n m ≡ counted p → StepsFit f s a b c
-    go (steps ss) q e =
-        let qn : n ≡ length (codesOf ss) = cc in
-        let qm : m ≡ length ss = cc in
-        record { ss = ss; reads = q; codes-fit = omega arith; ends-fit = omega arith; kinds-fit = omega arith }
-    go (faultAt i) q e = let z : _≡_ {A = ℕ} 0 1 = cc in absurd (omega arith)
+    w : (ss : List Step) × (readProof f s ≡ steps ss) × (n ≡ length (codesOf ss)) × (m ≡ length ss)
+    w = scan-whole (readProof f s) n m e
+
+    go : (t : Bool) → ltb a n || ltb b m || ltb c m ≡ t → Found f s a b c (pick t Short Fits)
+    go true h = answer-steps f s a b c (w .0) (w .1)
+        ∙ ap₂ (λ (x y : ℕ). pick (ltb a x || ltb b y || ltb c y) (refusing 2 []) (filling (w .0))) (sym (w .2)) (sym (w .3))
+        ∙ ap (λ (t : Bool). pick t (refusing 2 []) (filling (w .0))) h
+    go false h =
+        let z = none-of (ltb a n) (ltb b m) (ltb c m) h in
+        record {
+          ss = w .0;
+          reads = w .1;
+          codes-fit = omega (arith, ltb-false a n (z .0), w .2);
+          ends-fit = omega (arith, ltb-false b m (z .1), w .3);
+          kinds-fit = omega (arith, ltb-false c m (z .2), w .3);
+        }
 
 -- slices with a word for each byte hold what is judged whole
 pub ample-fits : (f : Format) (s : List ℕ) (a b c : ℕ) → Bytes s → judged f s ≡ true → length s ≤ a → length s ≤ b → length s ≤ c → StepsFit f s a b c
@@ -151,14 +169,7 @@ ample-fits f s a b c hb h ha hc hk =
     }
 
 -- what was filled is what the call answers
-pub ample-call : (f : Format) (s codes ends kinds codes′ ends′ kinds′ : List ℕ) (n m : ℕ) → Bytes s → judged f s ≡ true → length s ≤ length codes
-    → length s ≤ length ends → length s ≤ length kinds → Scan f s codes ends kinds codes′ ends′ kinds′ (Whole n m)
-    → ReadCall f s codes ends kinds codes′ ends′ kinds′ (Filled n m)
-unfolding counted
-ample-call f s codes ends kinds codes′ ends′ kinds′ n m hb h ha hc hk q =
-    let j = judged-size f s hb h in
-    let e = q .answer ∙ ap counted (j .1) in
-    let qn : n ≡ length (codesOf (j .0)) = cc in
-    let qm : m ≡ length (j .0) = cc in
-    call-filled f s codes ends kinds n m (q .answer) (omega (arith, j .2, qn, ha)) (omega (arith, j .2, qm, hc)) (omega (arith, j .2, qm, hk))
-    codes′ ends′ kinds′ (Whole n m) q
+pub fits-call : (f : Format) (s codes ends kinds codes′ ends′ kinds′ : List ℕ) (n m : ℕ) → StepsFit f s (length codes) (length ends) (length kinds)
+    → Scan f s codes ends kinds codes′ ends′ kinds′ (Whole n m) → ReadCall f s codes ends kinds codes′ ends′ kinds′ (Filled n m)
+fits-call f s codes ends kinds codes′ ends′ kinds′ n m h q =
+    call-filled f s codes ends kinds (h .ss) (h .reads) (h .codes-fit) (h .ends-fit) (h .kinds-fit) codes′ ends′ kinds′ n m q

@@ -1,14 +1,15 @@
 -- What the fill is told of bytes that were judged whole, and what it says of a step's literals.
 use Prim.Native.Nat.{ℕ, _+_, _-_, _*_, _≤_, _<_}
 use mathlib.Core.Path.{_≡_}
-use mathlib.Core.List.{List}
-use lib.Dec.{eqb}
+use mathlib.Core.Bool.{_||_}
+use mathlib.Core.List.{List, [], _∷_}
+use lib.Dec.{eqb, ltb}
 use lib.ListN.{length, getD, drop}
 use lib.Seq.{sets}
 use Rattle.base.specs.Choice.{pick}
 use Rattle.drat.specs.Grammar.{Step}
 use Rattle.drat.specs.Reading.{seps, Part, whole, body, One, got, steps, readProof}
-use Rattle.drat.specs.Filled.{kindNumber, codesOf}
+use Rattle.drat.specs.Filled.{kindNumber, codesOf, refusing, readOf}
 use Rattle.drat.specs.declared.Format.{Format}
 use Rattle.drat.specs.declared.Format.the-variants.{Text, Binary}
 use Rattle.drat.specs.declared.Kind.{Kind}
@@ -16,6 +17,8 @@ use Rattle.drat.specs.declared.Opening.{Opening}
 use Rattle.drat.specs.declared.Opening.the-variants.{Opens}
 use Rattle.drat.specs.declared.Token.{Token}
 use Rattle.drat.specs.declared.Token.the-variants.{Lit}
+use Rattle.drat_read.specs.declared.Room.{Room}
+use Rattle.drat_read.specs.declared.Room.the-variants.{Fits, Short, Broken}
 
 -- All steps are whole, and slices of a, b and c words hold them.
 pub record StepsFit (f : Format) (s : List ℕ) (a b c : ℕ) : Type 0 where
@@ -24,6 +27,16 @@ pub record StepsFit (f : Format) (s : List ℕ) (a b c : ℕ) : Type 0 where
   pub codes-fit : length (codesOf ss) ≤ a
   pub ends-fit : length ss ≤ b
   pub kinds-fit : length ss ≤ c
+
+-- What is found before anything is filled: that all steps are whole and held, or the refusal.
+abbrev pub Found : Format → List ℕ → ℕ → ℕ → ℕ → Room → Type 0
+Found f s a b c Fits = StepsFit f s a b c
+Found f s a b c Short = readOf f s a b c ≡ refusing 2 []
+Found f s a b c (Broken p) = readOf f s a b c ≡ refusing 13 (p ∷ [])
+
+-- Whether n literals and m steps are held.
+abbrev pub roomFor : ℕ → ℕ → ℕ → ℕ → ℕ → Room
+roomFor n m a b c = pick (ltb a n || ltb b m || ltb c m) Short Fits
 
 -- The literals and the end of a step from place i on.
 abbrev pub bodyFrom : Format → List ℕ → ℕ → Part

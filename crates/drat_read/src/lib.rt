@@ -12,16 +12,22 @@ ghost use mathlib.Core.Path.{_≡_};
 ghost use mathlib.Core.Bool.{true};
 ghost use Prim.Native.Nat.{_≤_};
 ghost use lib.ListN.{length};
-ghost use Rattle.base.specs.Lent.{old, new, Fills};
-ghost use Rattle.drat.specs.Filled.{readOf, read, ReadCall, firstToken, firstOf, first, counted};
-ghost use Rattle.drat.specs.Reading.{readProof};
-ghost use Rattle.drat.specs.declared.Scanned.the-variants.{Whole};
+ghost use Rattle.base.specs.Lent.{old, Fills};
+ghost use Rattle.drat.specs.Filled.{readOf, read, firstToken, firstOf, first};
 ghost use Rattle.drat_judge.specs.Local.{judged};
+ghost use Rattle.drat_read.specs.Known.{Found, roomFor};
 
 mod fill;
 pub mod literal;
 pub mod place;
 mod scan;
+
+// What is found before anything is filled: that all is whole and the slices hold it; 2; 13 with the place.
+enum Room {
+    Fits,
+    Short,
+    Broken(usize),
+}
 
 // Whether the bytes are judged whole. For fewer than 64 bytes judging costs more than it saves.
 fn is_known(f: Format, bytes: &[u8]) -> bool
@@ -46,52 +52,40 @@ fn is_ample(n: usize, a: usize, b: usize, c: usize) -> bool
     n <= c
 }
 
-// Steps that were counted: n literals and m steps.
-fn read_counted(
-    f: Format,
-    bytes: &[u8],
-    codes: &mut [u32],
-    ends: &mut [u64],
-    kinds: &mut [u8],
-    n: usize,
-    m: usize,
-) -> Read
-    requires { ⌜ Whole n m ≡ counted (readProof f (now bytes)) ⌝ }
-    ensures { λ r. ⌜ ReadCall f (old bytes) (old codes) (old ends) (old kinds) (new codes) (new ends) (new kinds) r ⌝ }
+// Whether slices of a, b and c words hold n literals and m steps.
+fn room_for(n: usize, m: usize, a: usize, b: usize, c: usize) -> Room
+    ensures { λ r. ⌜ r ≡ roomFor n m a b c ⌝ }
 {
-    if codes.len() < n {
-        return Read::Short;
+    if a < n {
+        return Room::Short;
     }
-    if ends.len() < m {
-        return Read::Short;
+    if b < m {
+        return Room::Short;
     }
-    if kinds.len() < m {
-        return Read::Short;
+    if c < m {
+        return Room::Short;
     }
-    fill(f, bytes, codes, ends, kinds);
-    Read::Filled(n, m)
+    Room::Fits
 }
 
-// Steps that are judged whole. They are counted beforehand only where they might not fit.
-fn read_judged(
-    f: Format,
-    bytes: &[u8],
-    codes: &mut [u32],
-    ends: &mut [u64],
-    kinds: &mut [u8],
-) -> Read
-    requires { ⌜ judged f (now bytes) ≡ true ⌝ }
-    ensures { λ r. ⌜ ReadCall f (old bytes) (old codes) (old ends) (old kinds) (new codes) (new ends) (new kinds) r ⌝ }
+// Steps that are judged whole are counted only where they might not fit. Only a fault is looked for step by step.
+fn find(f: Format, bytes: &[u8], a: usize, b: usize, c: usize) -> Room
+    ensures { λ r. ⌜ Found f (old bytes) a b c r ⌝ }
 {
-    if is_ample(bytes.len(), codes.len(), ends.len(), kinds.len()) {
-        let w = fill(f, bytes, codes, ends, kinds);
-        return Read::Filled(w.lits, w.steps);
+    if is_known(f, bytes) {
+        if is_ample(bytes.len(), a, b, c) {
+            return Room::Fits;
+        }
+        let w = counts_of(f, bytes);
+        return room_for(w.lits, w.steps, a, b, c);
     }
-    let w = counts_of(f, bytes);
-    read_counted(f, bytes, codes, ends, kinds, w.lits, w.steps)
+    match scan(f, bytes) {
+        Scanned::Fault(p) => Room::Broken(p),
+        Scanned::Whole(n, m) => room_for(n, m, a, b, c),
+    }
 }
 
-// Read: 13, with the place of the first token of the first broken step; then 2. Only a fault is looked for step by step.
+// Read: 13, with the place of the first token of the first broken step; then 2.
 // drat/specs/Filled.antt: readOf, and read for the answer.
 pub fn read_proof(
     f: Format,
@@ -106,12 +100,13 @@ pub fn read_proof(
         ∗ ⌜ Fills ends 0 (w .ends) ⌝
         ∗ ⌜ Fills kinds 0 (w .kinds) ⌝ }
 {
-    if is_known(f, bytes) {
-        return read_judged(f, bytes, codes, ends, kinds);
-    }
-    match scan(f, bytes) {
-        Scanned::Fault(p) => Read::Broken(p),
-        Scanned::Whole(n, m) => read_counted(f, bytes, codes, ends, kinds, n, m),
+    match find(f, bytes, codes.len(), ends.len(), kinds.len()) {
+        Room::Fits => {
+            let w = fill(f, bytes, codes, ends, kinds);
+            Read::Filled(w.lits, w.steps)
+        }
+        Room::Short => Read::Short,
+        Room::Broken(p) => Read::Broken(p),
     }
 }
 

@@ -2,17 +2,12 @@
 use mathlib.Core.Path.{sym, ap, _∙_}
 use borrow.Author.Needs.{needs}
 use Rattle.drat.specs.declared.Format.{Format}
-use Rattle.drat_judge.proofs.LimitLaws.{limit-is}
-use Rattle.drat_judge.specs.declared.Limit.{Limit}
-use Rattle.drat_judge.specs.Local.{textNext, mayFollow}
+use Rattle.drat_judge.specs.Local.{mayFollow}
 use Rattle.drat_judge.proofs.next.Statement.{statement}
 use Rattle.drat_judge.proofs.next.Tie as tie
 
 enum-told : tie.Need-enum-told
 enum-told c = search needs
-
-limit-of-requires : tie.Need-limit-of-requires
-limit-of-requires c κs = search needs
 
 text-next-requires : tie.Need-text-next-requires
 text-next-requires c κs = search needs
@@ -25,10 +20,8 @@ binary-next-requires c κs = search needs
 
 returns : tie.Need-returns
 returns c =
-    let a = c .before .before .before .before .args in
-    let t = c .before .limit-of in
-    c .text-next .ensures ∙ ap (λ (o : Limit). textNext o (a .a) (a .b) (a .c) (a .p) (a .x)) (limit-is 4096 (t .result) (t .ensures))
-    ∙ sym (ap (λ (f : Format). mayFollow f (a .a) (a .b) (a .c) (a .p) (a .x)) (c .before .before .enum-told .given .1))
+    let a = c .before .before .before .args in
+    c .text-next .ensures ∙ sym (ap (λ (f : Format). mayFollow f (a .a) (a .b) (a .c) (a .p) (a .x)) (c .before .enum-told .given .1))
 
 returns-2 : tie.Need-returns-2
 returns-2 c =
@@ -38,4 +31,4 @@ returns-2 c =
 pub next-spec : {M : Type 1} → statement M
 next-spec =
     tie.close
-    (tie.spec enum-told limit-of-requires text-next-requires enum-told-2 binary-next-requires returns returns-2)
+    (tie.spec enum-told text-next-requires enum-told-2 binary-next-requires returns returns-2)

@@ -5,20 +5,16 @@ use mathlib.Core.Path.{_≡_, subst}
 use native.Mathlib.Omega.{arith}
 use borrow.Author.Needs.{needs}
 use Rattle.drat.specs.declared.Format.the-variants.{Text}
-use Rattle.drat_judge.proofs.LimitLaws.{limit-is}
 use Rattle.drat_judge.proofs.RunsLaws.{text-turn}
 use Rattle.drat_judge.specs.Local.{runsAt}
 use Rattle.drat_judge.proofs.text_part.Statement.{statement}
 use Rattle.drat_judge.proofs.text_part.Tie as tie
 
 abbrev Inv-loop : tie.InvT-loop
-Inv-loop s from to t ok₀ i₀ ok i = (from ≤ i) × (i ≤ to) × (ok && runsAt Text s i ≡ runsAt Text s from)
+Inv-loop s from to ok₀ i₀ ok i = (from ≤ i) × (i ≤ to) × (ok && runsAt Text s i ≡ runsAt Text s from)
 
 abbrev μ-loop : tie.MeasureT-loop
-μ-loop s from to t ok₀ i₀ ok i = to - i
-
-limit-of-requires : tie.Need-limit-of-requires Inv-loop μ-loop
-limit-of-requires c κs = search needs
+μ-loop s from to ok₀ i₀ ok i = to - i
 
 loop-holds : tie.Need-loop-holds Inv-loop μ-loop
 loop-holds c = search needs
@@ -61,19 +57,18 @@ loop-less c = search needs
 
 loop-again : tie.Need-loop-again Inv-loop μ-loop
 loop-again c =
-    let a = c .before .before .before .before .before .before .before .before .before .before .args in
+    let a = c .before .before .before .before .before .before .before .before .before .args in
     let s = a .s .now in
-    let l = c .before .before .before .before .before .before .before .loop in
-    let t = c .before .before .before .before .before .before .before .before .limit-of in (
+    let l = c .before .before .before .before .before .before .before .loop in (
       omega arith,
       omega arith,
-      text-turn s (runsAt Text s (a .from)) (l .i) (t .result) (limit-is 4096 (t .result) (t .ensures)) (omega arith) (omega arith) (l .ok)
+      text-turn s (runsAt Text s (a .from)) (l .i) (omega arith) (omega arith) (l .ok)
           (c .text-next .result) (l .inv .2) (c .text-next .ensures),
     )
 
 returns : tie.Need-returns Inv-loop μ-loop
 returns c =
-    let a = c .before .before .before .before .args in
+    let a = c .before .before .before .args in
     let l = c .before .loop in
     let e : l .i ≡ a .to = omega arith in
     subst (λ (k : ℕ). l .ok && runsAt Text (a .s .now) k ≡ runsAt Text (a .s .now) (a .from)) e (l .inv .2)
@@ -84,7 +79,6 @@ text-part-spec =
     (tie.spec
     Inv-loop
     μ-loop
-    limit-of-requires
     loop-holds
     sub-text-next
     shared-slice-read-text-next

@@ -1,8 +1,8 @@
 -- The tests are those of the definition.
 use borrow.Author.Needs.{needs}
-use Rattle.drat_judge.specs.Local.{above}
-use Rattle.drat_judge.proofs.is_above.Statement.{statement}
-use Rattle.drat_judge.proofs.is_above.Tie as tie
+use Rattle.dimacs_judge.specs.Limits.{above}
+use Rattle.dimacs_judge.proofs.limit.is_above.Statement.{statement}
+use Rattle.dimacs_judge.proofs.limit.is_above.Tie as tie
 
 is-near-requires : tie.Need-is-near-requires
 is-near-requires c κs = search needs

@@ -1,27 +1,16 @@
--- Where the digit x is not above the limit, the number that it ends is within it; and what a number's digits make.
+-- Where the digit x is not above the limit, the number that it ends is within it.
 use Prim.Native.Nat.{ℕ, _+_, _-_, _*_, _/_, _%_, _≤_, _<_}
 use mathlib.Core.Bool.{Bool, true, false, _&&_, _||_, not, true≢false}
-use mathlib.Core.List.{List, [], _∷_, _++_, append-assoc, append-nil}
-use mathlib.Core.Path.{_≡_, refl, sym, ap, ap₂, _∙_, subst, subst₂}
+use mathlib.Core.Path.{_≡_, refl, sym, ap, ap₂, _∙_}
 use lib.Dec.{leb}
 use native.Mathlib.Omega.{arith}
 use borrow.Author.Tests.{leb-true, leb-false, lt-ltb, le-ltb}
 use Rattle.base.specs.Choice.{pick}
-use Rattle.drat.proofs.Numerals.{is-in-range, below-range, numeral-pos}
-use Rattle.drat.specs.Numeral.{digit, decimal, Numeral, one, more}
-use Rattle.drat_judge.specs.declared.Limit.{Limit}
-use Rattle.drat_judge.specs.Local.{near, limitAt, LimitOf, raised, fitsDigits, fits, above}
-
--- a limit is what its number makes it
-pub limit-is : (v : ℕ) (t : Limit) → LimitOf v t → t ≡ limitAt v
-limit-is v t h = ap₂ (λ (x y : ℕ). by x y (t .hundreds) (t .thousands)) (h .ones-is) (h .tens-is)
-    ∙ ap₂ (by (48 + v % 10) (47 + v / 10 % 10)) (h .hundreds-is) (h .thousands-is)
-  where
-    by : ℕ → ℕ → ℕ → ℕ → Limit
-    by x y z w = record { ones = x; tens = y; hundreds = z; thousands = w }
-
-pub limit-at : (v : ℕ) → LimitOf v (limitAt v)
-limit-at v = record { ones-is = refl; tens-is = refl; hundreds-is = refl; thousands-is = refl }
+use Rattle.drat.proofs.Numerals.{is-in-range, below-range}
+use Rattle.drat.specs.Numeral.{digit}
+use Rattle.dimacs_judge.specs.declared.limit.Limit.{Limit}
+use Rattle.drat_judge.specs.Local.{near}
+use Rattle.dimacs_judge.specs.Limits.{LimitOf, raised, fitsDigits, fits, above}
 
 -- ---- the number that ends with x
 raised-low : (y : ℕ) → y < 48 → raised y ≡ 48
@@ -157,49 +146,3 @@ module _ (v : ℕ) (t : Limit) (hv : v ≤ 4096) (lim : LimitOf v t) (a b c p x 
         pub no-fifth : 48 ≤ a → a ≤ 57 → ⊥
         no-fifth q r = true≢false (sym (ap₂ (λ (u w : Bool). u && (w && (near c && near p))) (is-in-range 48 127 a q (omega arith))
             (is-in-range 48 127 b m (omega arith)) ∙ ap₂ (λ (u w : Bool). u && w) nc np) ∙ above-not t a b c p x h (is-in-range 48 57 x y z) .0)
-
--- ---- a number's digits
-pub digit-more : (ds : List ℕ) (n x : ℕ) → 48 ≤ x → x ≤ 57 → Numeral decimal ds n → Numeral decimal (ds ++ x ∷ []) (10 * n + (x - 48))
-digit-more ds n x h k d =
-    let e : 48 + (x - 48) ≡ x = omega arith in
-    subst₂ (λ (y w : ℕ). Numeral decimal (ds ++ y ∷ []) w) e (omega arith) (more {d = x - 48} (omega arith) d)
-
-pub digit-one : (x : ℕ) → 49 ≤ x → x ≤ 57 → Numeral decimal (x ∷ []) (x - 48)
-digit-one x h k =
-    let e : 48 + (x - 48) ≡ x = omega arith in
-    subst (λ (y : ℕ). Numeral decimal (y ∷ []) (x - 48)) e (one {d = x - 48} (omega arith) (omega arith))
-
--- after the digits ds, l is the rest of a number up to v, and then Rest
-pub record NumberHere (v : ℕ) (Rest : List ℕ → Type 0) (ds l : List ℕ) : Type 0 where
-  pub digits : List ℕ
-  pub rest : List ℕ
-  pub index : ℕ
-  pub split : l ≡ digits ++ rest
-  pub spelled : Numeral decimal (ds ++ digits) (index + 1)
-  pub small : index < v
-  pub then : Rest rest
-
-pub with-digit : {v : ℕ} {Rest : List ℕ → Type 0} (ds : List ℕ) (x : ℕ) (l : List ℕ) → NumberHere v Rest (ds ++ x ∷ []) l → NumberHere v Rest ds (x ∷ l)
-with-digit ds x l n =
-    record {
-      digits = x ∷ n .digits;
-      rest = n .rest;
-      index = n .index;
-      split = ap (λ (m : List ℕ). x ∷ m) (n .split);
-      spelled = subst (λ (m : List ℕ). Numeral decimal m (n .index + 1)) (append-assoc ds (x ∷ []) (n .digits)) (n .spelled);
-      small = n .small;
-      then = n .then;
-    }
-
-pub with-rest : {v : ℕ} {Rest : List ℕ → Type 0} (ds l : List ℕ) (n : ℕ) → Numeral decimal ds n → n ≤ v → Rest l → NumberHere v Rest ds l
-with-rest ds l n d h r =
-    let z = numeral-pos decimal d in
-    record {
-      digits = [];
-      rest = l;
-      index = n - 1;
-      split = refl;
-      spelled = subst₂ (λ (m : List ℕ) (w : ℕ). Numeral decimal m w) (sym (append-nil ds)) (omega arith) d;
-      small = omega arith;
-      then = r;
-    }

@@ -3,8 +3,8 @@ use mathlib.Core.Bool.{Bool}
 use mathlib.Core.Path.{sym, ap}
 use borrow.Author.Tests.{lt-ltb, le-ltb}
 use Rattle.base.specs.Choice.{pick}
-use Rattle.drat_judge.proofs.raise.Statement.{statement}
-use Rattle.drat_judge.proofs.raise.Tie as tie
+use Rattle.dimacs_judge.proofs.limit.raise.Statement.{statement}
+use Rattle.dimacs_judge.proofs.limit.raise.Tie as tie
 
 returns : tie.Need-returns
 returns c = sym (ap (λ (u : Bool). pick u 48 (c .before .args .b)) (lt-ltb (c .before .args .b) 48 (c .if1 .taken)))

@@ -1,8 +1,8 @@
 -- The tests are those of the definition.
 use borrow.Author.Needs.{needs}
-use Rattle.drat_judge.specs.Local.{fits}
-use Rattle.drat_judge.proofs.number_fits.Statement.{statement}
-use Rattle.drat_judge.proofs.number_fits.Tie as tie
+use Rattle.dimacs_judge.specs.Limits.{fits}
+use Rattle.dimacs_judge.proofs.limit.number_fits.Statement.{statement}
+use Rattle.dimacs_judge.proofs.limit.number_fits.Tie as tie
 
 is-near-requires : tie.Need-is-near-requires
 is-near-requires c κs = search needs
