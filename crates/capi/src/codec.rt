@@ -14,7 +14,7 @@ ghost use mathlib.Core.List.{[], _∷_};
 ghost use Prim.Native.Nat.{_+_};
 ghost use lib.ListN.{length};
 ghost use Rattle.drat.specs.Writing.{part};
-ghost use Rattle.base.specs.Lent.{old, new, Fills};
+ghost use Rattle.base.specs.Lent.{old, Fills};
 ghost use Rattle.numbers.specs.Surface.{plain, located, placed, partOf};
 ghost use Rattle.capi.specs.Codec.{writeClauseAt, writeProofAt, readAt, firstAt, firstPlaceAt};
 

@@ -8,7 +8,7 @@ use lib.Seq.{getD-drop, drop-drop}
 use native.Mathlib.Omega.{arith}
 use Rattle.base.specs.Choice.{pick}
 use Rattle.drat.specs.Numeral.{digit}
-use Rattle.drat.specs.Reading.{numbered, withDigit, digitsFrom, signedFrom, sep, seps, past, thenGap, lebFrom, closeFrom, token, gapFrom, opening}
+use Rattle.drat.specs.Reading.{numbered, withDigit, digitsFrom, signedFrom, sep, seps, thenGap, lebFrom, closeFrom, token, gapFrom, opening}
 use Rattle.drat.specs.declared.Kind.the-variants.{Add, Delete}
 use Rattle.drat.specs.declared.Format.{Format}
 use Rattle.drat.specs.declared.Format.the-variants.{Text, Binary}

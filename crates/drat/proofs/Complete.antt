@@ -10,7 +10,7 @@ use lib.Seq.{drop-at, drop-drop, getD-append-add}
 use borrow.Author.Tests.{ne-eqb, lt-ltb, le-ltb}
 use Rattle.drat.proofs.Numerals.{numeral-pos, is-in-range}
 use Rattle.drat.specs.Numeral.{digit, decimal, leb128, Numeral, one, more}
-use Rattle.drat.specs.Grammar.{Step, stepOf, Gap, Lead, Free, at-end, at-sep, any-byte, Begins, bare, dee, letter-a, letter-d, stop, Signed, plus, minus}
+use Rattle.drat.specs.Grammar.{Step, stepOf, Gap, Free, at-end, at-sep, any-byte, Begins, bare, dee, letter-a, letter-d, stop, Signed, plus, minus}
 use Rattle.drat.specs.Grammar.{Number, spaced, code, Body, last, lit, Spells, none, step, encodeStep, encode, Valid}
 use Rattle.drat.proofs.Separators.{sep-is, no-sep, Clear, gap-seps, seps-read, lead-read, lead-all, gap-first, gap-apart, gap-length}
 use Rattle.drat.proofs.Written.{encode-spells}

@@ -7,17 +7,16 @@ use native.Mathlib.Omega.{arith}
 use lib.Dec.{ltb}
 use lib.ListN.{length, drop, take}
 use lib.Seq.{sets}
-use borrow.Author.Tests.{lt-ltb, le-ltb}
+use borrow.Author.Tests.{le-ltb}
 use Rattle.base.specs.Choice.{pick}
 use Rattle.base.specs.Answer.{accepted, refused}
 use Rattle.drat.specs.Grammar.{Step}
 use Rattle.drat.specs.Reading.{lead, Part, whole, broken, consPart, One, got, fault, asStep, oneStep, Proof, steps, faultAt, readProof}
-use Rattle.drat.specs.Filled.{endOf, counted, codesOf, Scan, Filling, refusing, filling, answerOf, readOf, read, ReadCall, firstToken, firstBy, firstOf}
+use Rattle.drat.specs.Filled.{endOf, counted, codesOf, Scan, Filling, refusing, filling, answerOf, readOf, read, ReadCall, firstToken, firstBy}
 use Rattle.drat.specs.Filled.{first}
 use Rattle.drat.specs.Writing.{part}
 use Rattle.drat.specs.declared.Kind.{Kind}
 use Rattle.drat.specs.declared.Format.{Format}
-use Rattle.drat.specs.declared.Scanned.{Scanned}
 use Rattle.drat.specs.declared.Scanned.the-variants.{Whole, Fault}
 use Rattle.drat.specs.declared.Read.{Read}
 use Rattle.drat.specs.declared.Read.the-variants.{Filled, Broken, Short}

@@ -11,7 +11,6 @@ use Rattle.base.specs.Choice.{pick}
 use Rattle.base.specs.Answer.{accepted, refused}
 use lib.Seq.{drop-at, take-at}
 use Rattle.drat.specs.Grammar.{Lead, Free, Begins, Body}
-use Rattle.drat.specs.Grammar.{step}
 use Rattle.drat.specs.Reading.{lead, One, got, fault, oneStep}
 use Rattle.drat.specs.Filled.{firstToken, firstBy, firstOf}
 use Rattle.drat.specs.declared.Kind.{Kind}

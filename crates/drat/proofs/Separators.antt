@@ -5,13 +5,12 @@ use mathlib.Core.List.{List, [], _∷_, _++_, append-assoc, append-nil}
 use mathlib.Core.Bool.{Bool, true, false, _||_}
 use native.Mathlib.Omega.{arith}
 use lib.Dec.{eqb}
-use lib.ListN.{length, getD, drop, length-append, length-drop}
+use lib.ListN.{length, getD, drop}
 use lib.Seq.{drop-at}
 use borrow.Author.Tests.{eqb-true, ne-eqb}
 use Rattle.base.specs.Choice.{pick}
 use Rattle.drat.specs.Numeral.{digit}
-use Rattle.drat.specs.Grammar.{Step, stepOf, Sep, blank, feed, Seps, no-seps, sep-then, Gap, gap, Lead, text-lead, no-lead, Free, at-end, at-sep}
-use Rattle.drat.specs.Grammar.{any-byte}
+use Rattle.drat.specs.Grammar.{Step, stepOf, Sep, blank, feed, Seps, no-seps, sep-then, Gap, gap, Lead, text-lead, no-lead}
 use Rattle.drat.specs.Grammar.{Spells, none, step}
 use Rattle.drat.specs.Reading.{sep, seps, lead}
 use Rattle.drat.specs.declared.Format.{Format}

@@ -8,7 +8,7 @@ use lib.Dec.{eqb}
 use borrow.Author.Tests.{eqb-true, eqb-false}
 use Rattle.base.specs.Choice.{pick}
 use Rattle.drat.specs.Numeral.{decimal, leb128, Numeral, bytesOf}
-use Rattle.drat.specs.Grammar.{Step, stepOf, blank, feed, no-seps, sep-then, gap, Lead, text-lead, no-lead, Free, at-sep, any-byte, Begins, bare, dee}
+use Rattle.drat.specs.Grammar.{Step, blank, feed, no-seps, sep-then, gap, Lead, text-lead, no-lead, Free, at-sep, any-byte, Begins, bare, dee}
 use Rattle.drat.specs.Grammar.{letter-a, letter-d, stop, Signed, plus, minus, Number, spaced, code, Body, last, lit, Spells, none, step, opens, ends}
 use Rattle.drat.specs.Grammar.{signed, number, numbers, encodeStep, encode, Codes, Valid}
 use Rattle.drat.specs.declared.Kind.{Kind}

@@ -8,6 +8,7 @@ use lib.Dec.{eqb, leb, ltb}
 use native.Mathlib.Omega.{arith}
 use borrow.Author.Tests.{leb-true, ltb-true, ltb-false, eqb-true, eqb-false, lt-ltb, le-ltb, eq-eqb, ne-eqb, not-true}
 use Rattle.base.proofs.BelowLaws.{and-left, and-right}
+use Rattle.base.proofs.MemberLaws.{or-left, or-right}
 use Rattle.drat.proofs.Numerals.{in-range-is, is-in-range, below-range}
 use Rattle.drat.specs.Grammar.{Sep, blank, feed}
 use Rattle.drat.specs.Numeral.{inRange, digit}
@@ -101,21 +102,17 @@ after-minus p x h e = in-range-is 49 127 x (go (eqb p 45) (eq-eqb p 45 e) h) .0
     go true e h = h
     go false e h = absurd (true≢false (sym e))
 
-neither : (a b : Bool) → not (a || b) ≡ true → (a ≡ false) × (b ≡ false)
-neither true b h = absurd (true≢false (sym h))
-neither false b h = (refl, not-true b h)
-
 digit-is : (a b c p x : ℕ) → digitNext a b c p x ≡ true → (p ≡ 45 → 49 ≤ x) → Digit a b c p x
 digit-is a b c p x h m =
     let token = not (eqb p 100 || closing c p) in
     let d = in-range-is 48 57 x (and-left (digit x) (small a b c p x && token) h) in
     let r = and-right (digit x) (small a b c p x && token) h in
-    let n = neither (eqb p 100) (closing c p) (and-right (small a b c p x) token r) in
+    let n = not-true (eqb p 100 || closing c p) (and-right (small a b c p x) token r) in
     record {
       low = d .0;
       high = d .1;
-      no-dee = eqb-false p 100 (n .0);
-      inside = n .1;
+      no-dee = eqb-false p 100 (or-left (eqb p 100) (closing c p) n);
+      inside = or-right (eqb p 100) (closing c p) n;
       proper = m;
       within = and-left (small a b c p x) token r;
     }

@@ -1,6 +1,6 @@
 -- The fill from step to step: all steps are whole, so that each turn fills one more.
 use Prim.Native.Nat.{ℕ, _+_, _-_, _≤_, _<_}
-use mathlib.Core.Bool.{Bool, true, false, _||_, true≢false}
+use mathlib.Core.Bool.{Bool, true, false, _||_}
 use mathlib.Core.List.{List, [], _∷_, _++_}
 use mathlib.Core.Path.{_≡_, refl, sym, ap, ap₂, _∙_, subst, subst₂}
 use lib.Dec.{ltb}
@@ -9,6 +9,7 @@ use lib.Seq.{sets}
 use native.Mathlib.Numerals.{add-one}
 use native.Mathlib.Omega.{arith}
 use borrow.Author.Tests.{ltb-false}
+use Rattle.base.proofs.MemberLaws.{or-left, or-right}
 use Rattle.base.specs.Choice.{pick}
 use Rattle.drat.proofs.Ends.{step-is, scan-whole, answer-steps, call-filled}
 use Rattle.drat.proofs.Places.{bodyAt, stepAt, proofAt, opens-at, stop-at, got-at, fault-at, tokenAt}
@@ -131,11 +132,6 @@ module _ (f : Format) (s codes₀ ends₀ kinds₀ codes ends kinds : List ℕ) 
     fill-end h = outer-end f s codes₀ ends₀ kinds₀ codes ends kinds at n m hb o h
 
 -- the numbers of literals and of steps say whether slices hold them
-none-of : (t u v : Bool) → t || u || v ≡ false → (t ≡ false) × (u ≡ false) × (v ≡ false)
-none-of true u v h = absurd (true≢false h)
-none-of false true v h = absurd (true≢false h)
-none-of false false v h = (refl, refl, h)
-
 pub whole-found : (f : Format) (s : List ℕ) (n m a b c : ℕ) → Whole n m ≡ counted (readProof f s) → Found f s a b c (roomFor n m a b c)
 whole-found f s n m a b c e = go (ltb a n || ltb b m || ltb c m) refl
   where
@@ -147,13 +143,13 @@ whole-found f s n m a b c e = go (ltb a n || ltb b m || ltb c m) refl
         ∙ ap₂ (λ (x y : ℕ). pick (ltb a x || ltb b y || ltb c y) (refusing 2 []) (filling (w .0))) (sym (w .2)) (sym (w .3))
         ∙ ap (λ (t : Bool). pick t (refusing 2 []) (filling (w .0))) h
     go false h =
-        let z = none-of (ltb a n) (ltb b m) (ltb c m) h in
+        let r = or-left (ltb a n || ltb b m) (ltb c m) h in
         record {
           ss = w .0;
           reads = w .1;
-          codes-fit = omega (arith, ltb-false a n (z .0), w .2);
-          ends-fit = omega (arith, ltb-false b m (z .1), w .3);
-          kinds-fit = omega (arith, ltb-false c m (z .2), w .3);
+          codes-fit = omega (arith, ltb-false a n (or-left (ltb a n) (ltb b m) r), w .2);
+          ends-fit = omega (arith, ltb-false b m (or-right (ltb a n) (ltb b m) r), w .3);
+          kinds-fit = omega (arith, ltb-false c m (or-right (ltb a n || ltb b m) (ltb c m) h), w .3);
         }
 
 -- slices with a word for each byte hold what is judged whole

@@ -68,7 +68,7 @@ fn room_for(n: usize, m: usize, a: usize, b: usize, c: usize) -> Room
     Room::Fits
 }
 
-// Steps that are judged whole are counted only where they might not fit. Only a fault is looked for step by step.
+// What is judged whole is counted only where it might not fit. All else is scanned step by step.
 fn find(f: Format, bytes: &[u8], a: usize, b: usize, c: usize) -> Room
     ensures { λ r. ⌜ Found f (old bytes) a b c r ⌝ }
 {

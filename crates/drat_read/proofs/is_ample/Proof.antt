@@ -3,7 +3,6 @@ use mathlib.Core.Bool.{true≢false}
 use mathlib.Core.Path.{sym}
 use native.Mathlib.Omega.{arith}
 use borrow.Author.Tests.{leb-true}
-use borrow.Author.Needs.{needs}
 use Rattle.drat_read.proofs.is_ample.Statement.{statement}
 use Rattle.drat_read.proofs.is_ample.Tie as tie
 

@@ -1,5 +1,5 @@
 use Prim.Native.Nat.{ℕ}
-use mathlib.Core.Path.{refl, sym, ap, ap₂, _∙_}
+use mathlib.Core.Path.{sym, ap, ap₂, _∙_}
 use Rattle.base.specs.Answer.{Answer}
 use Rattle.drat.specs.Filled.{first}
 use Rattle.numbers.specs.Meant.{meantFormat}
