@@ -149,7 +149,7 @@ module _ (f : Format) (t : Table) (lists o b : List ℕ) where
     (u ∙ sym (ap (λ (k : Outcome). sets o 0 (k .words)) e), v ∙ sym (ap (λ (k : Outcome). sets b 0 (k .bytes)) e)),
   )
 
-  pub says-1 : soundb t ≡ false → CallSays (refused 1 []) o b
+  says-1 : soundb t ≡ false → CallSays (refused 1 []) o b
   says-1 s = parts (refusal 1 t) (refused 1 []) o b (comes-1 f t lists (length o) (length b) s) refl refl refl
 
   -- the code's lists are those of the table
@@ -232,3 +232,8 @@ unfolding notesWords
 meets f t lists outs room r e =
     let w = comes-still f t lists outs room in
     record { answer = e; table = thinned-same r t ∙ sym (w .0); noted = sym (ap (λ (ns : List Note). sets [] 0 (notesWords ns)) (w .1)) }
+
+pub thin-unsound : (f : Format) (t : Table) (lists o b : List ℕ) → soundb t ≡ false
+    → Does (outcome f t lists (length o) (length b)) (thinned (Refused 1) (t .counts)) t [] []
+    × ((o ≡ sets o 0 (outcome f t lists (length o) (length b) .words)) × (b ≡ sets b 0 (outcome f t lists (length o) (length b) .bytes)))
+thin-unsound f t lists o b s = let w = says-1 f t lists o b s in (meets f t lists (length o) (length b) (Refused 1) (w .0), w .1)

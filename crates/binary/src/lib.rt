@@ -19,7 +19,7 @@ ghost use lib.ListN.{length};
 ghost use Rattle.base.specs.Lent.{old, new, Fills};
 ghost use Rattle.scope.specs.Table.{Table};
 ghost use Rattle.scope.specs.Sound.{soundb};
-ghost use Rattle.scope.specs.Contract.{before, quiet, Meets};
+ghost use Rattle.scope.specs.Contract.{given, before, quiet, Meets};
 ghost use Rattle.scope.specs.Binary.{sectionsOf, binaryOf};
 ghost use Rattle.sections.specs.Places.{Placed};
 ghost use Rattle.binary.specs.Answers.{thinned, thinnedBy, fillsWords, fillsBytes};
@@ -119,5 +119,31 @@ pub fn simplify_binary(
     if !is_sound(c, gu, ug, sg, gs, assignment, records) {
         return Thinned::Refused(1);
     }
+    known_simplify_binary(c, gu, ug, sg, gs, assignment, records, f, lists, out, bytes)
+}
+
+// Binary clauses before the sweep, on a table known to be sound, which is not tested.
+// The same answer as `simplify_binary`.
+pub fn known_simplify_binary(
+    c: Counts,
+    gu: &[u32],
+    ug: &[u32],
+    sg: &[u32],
+    gs: &[u32],
+    assignment: &[u32],
+    records: &[u32],
+    f: Format,
+    lists: &[u32],
+    out: &mut [u32],
+    bytes: &mut [u8],
+) -> Thinned
+    requires { ⌜ soundb (given c gu ug sg gs assignment records) ≡ true ⌝ }
+    ensures { λ r. ⌜ Meets (λ t room. binaryOf f t (old lists) (length (old out)) (length (old bytes))) (thinned r c)
+        (quiet c gu ug sg gs assignment records) ⌝ }
+    ensures out { λ _. ⌜ Fills out 0
+        (binaryOf f (before c gu ug sg gs assignment records) (old lists) (length (old out)) (length (old bytes)) .words) ⌝ }
+    ensures bytes { λ _. ⌜ Fills bytes 0
+        (binaryOf f (before c gu ug sg gs assignment records) (old lists) (length (old out)) (length (old bytes)) .bytes) ⌝ }
+{
     thin_lists(c.solver, gs, assignment, f, lists, out, bytes)
 }

@@ -4,7 +4,6 @@ use mathlib.Core.Path.{_≡_, refl, sym, ap, ap₂, _∙_}
 use mathlib.Core.List.{List, [], _∷_}
 use native.Mathlib.Omega.{arith}
 use lib.ListN.{length, take, drop, getD}
-use lib.Seq.{sets}
 use Rattle.base.specs.Answer.{Answer, refused}
 use Rattle.drat.specs.declared.Format.{Format}
 use Rattle.drat.specs.declared.Kind.{Kind}
@@ -16,10 +15,6 @@ use Rattle.numbers.specs.Numbers.{known, unknown, formatFor, kindFor}
 use Rattle.numbers.specs.Surface.{placed, partOf}
 use Rattle.capi.specs.Codec.{noWriting, writeClauseAt, writeProofAt, readAt, firstAt, firstPlaceAt}
 use Rattle.numbers.proofs.NumberLaws.{known-is, unknown-is}
-
--- what is filled, by another name
-pub filled-same : (before : List ℕ) (at : ℕ) {xs ys after : List ℕ} → ys ≡ xs → after ≡ sets before at xs → after ≡ sets before at ys
-filled-same before at e h = h ∙ ap (sets before at) (sym e)
 
 -- the same answer in numbers
 pub same-numbers : (layout : Answer → List ℕ) {a a' : Answer} {ns : List ℕ} → a' ≡ a → ns ≡ layout a → ns ≡ layout a'

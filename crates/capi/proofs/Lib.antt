@@ -1,2 +1,1 @@
 pub mod CodecLaws
-pub mod LineLaws

@@ -13,7 +13,7 @@ ghost use Rattle.base.specs.Lent.{old, new, Fills};
 ghost use Rattle.scope.specs.Contract.{before, quiet};
 ghost use Rattle.scope.specs.Steps.{flag};
 ghost use Rattle.numbers.specs.Surface.{plain, Gives};
-ghost use Rattle.capi.specs.Lines.{simplifyAt, binaryAt};
+ghost use Rattle.numbers.specs.Lines.{simplifyAt, binaryAt};
 
 // Simplify (1, 3, 8, 12, 2): `simplifyOf`.
 #[no_mangle]

@@ -15,7 +15,7 @@ ghost use lib.ListN.{length};
 ghost use Rattle.base.specs.Lent.{old, new, Fills};
 ghost use Rattle.scope.specs.Contract.{before, quiet};
 ghost use Rattle.numbers.specs.Surface.{plain, stepped, Gives};
-ghost use Rattle.capi.specs.Lines.{stepGiven, wordsAt, renameAt, writeAt};
+ghost use Rattle.numbers.specs.Lines.{stepGiven, wordsAt, renameAt, writeAt};
 
 // Rename (1, 14, 3, 8, 2): `renameOf`.
 #[no_mangle]

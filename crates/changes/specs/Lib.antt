@@ -1,3 +1,4 @@
+pub mod AtOnce
 pub mod Leaves
 pub mod Live
 pub mod Solvers

@@ -1,28 +1,35 @@
 -- Laws of Grant.
 use Prim.Native.Nat.{ℕ, zero, suc, _+_, _*_, _/_, _^_, _≤_, _<_}
 use mathlib.Core.Path.{_≡_, refl, sym, ap, _∙_, subst}
-use mathlib.Core.Bool.{true, false, _&&_, not}
+use mathlib.Core.Bool.{Bool, true, false, _&&_, not}
 use mathlib.Core.List.{List, [], _∷_}
 use native.Mathlib.Omega.{arith}
 use lib.Dec.{eqb, ltb, leb}
 use lib.ListN.{length, getD, set}
 use lib.Seq.{sets}
-use borrow.Author.Tests.{le-ltb, le-leb, lt-leb, ne-eqb, leb-false, ltb-false, not-false}
+use borrow.Author.Tests.{le-ltb, le-leb, lt-leb, ne-eqb, leb-true, leb-false, ltb-false, not-false}
 use Rattle.base.specs.Answer.{numberOf, valuesOf}
 use Rattle.base.proofs.MemberLaws.{getD-default}
 use Rattle.scope.specs.declared.Counts.{Counts}
 use Rattle.scope.specs.declared.Solver.{Solver}
 use Rattle.scope.specs.Table.{Table, tableOf, word, unitOf, recordOf, isDeleted, grantCounts, giveSolver, leastFree, nextSolver}
-use Rattle.scope.specs.Sound.{soundb}
+use Rattle.scope.specs.Sound.{soundb, Sound}
 use Rattle.scope.specs.Notes.{notesWords}
 use Rattle.scope.specs.Outcome.{short}
 use Rattle.scope.specs.Grant.{grantOne, grant, grantRefusal, grantOf}
 use Rattle.scope.specs.Contract.{Said, Does}
 use Rattle.scope.proofs.SoundLaws.{sound-of}
+use Rattle.scope.proofs.PairLaws.{below-mark, pair-flip}
 use Rattle.scope.proofs.GrantLaws.{next-solver-below, grant-free, grant-has, toGrant, grant-count}
-use Rattle.scope.proofs.ResultLaws.{past}
+use Rattle.scope.proofs.ResultLaws.{past, word-none}
+use Rattle.table.specs.declared.FoundSolver.{FoundSolver}
+use Rattle.table.specs.declared.FoundSolver.the-variants as S
+use Rattle.table.specs.Found.{foundSolver}
+use Rattle.table.proofs.FoundLaws.{solverWord, solver-word}
+use Rattle.changes.specs.AtOnce.{solverFound, AtOnce}
 use Rattle.changes.specs.Leaves.{Leaves}
 use Rattle.changes.proofs.LeavesLaws.{leaves-stay}
+use Rattle.changes.proofs.AtOnceLaws.{at-once-found, at-once-noted}
 use Rattle.changes.proofs.CallLaws.{call-refused, call-accepted, call-noted}
 use Rattle.granting.specs.declared.Granted.{Granted}
 use Rattle.granting.specs.declared.Granted.the-variants.{Done, Refused}
@@ -128,7 +135,7 @@ grant-short t g room = ap (λ (n : ℕ). ltb room (3 * n)) (grant-count t g) ∙
     go (suc s) = rw (ne-eqb (suc s) 0 (λ z. omega arith), le-ltb room 0 (omega arith))
 
 module _ (t : Table) (g room : ℕ) where
-  pub grant-1 : soundb t ≡ false → 1 ≡ grantRefusal t g room
+  grant-1 : soundb t ≡ false → 1 ≡ grantRefusal t g room
   unfolding grantRefusal
   grant-1 n = rw n
 
@@ -191,6 +198,10 @@ pub grant-refused : (t : Table) (g n : ℕ) (words : List ℕ) → n ≡ grantRe
 unfolding grantOf
 grant-refused t g n words q e = call-refused (grantRefusal t g (length words)) n t _ words q e
 
+pub grant-unsound : (t : Table) (g : ℕ) (words : List ℕ) → soundb t ≡ false
+    → Does (grantOf t g (length words)) (granted (Refused 1) (t .counts)) t words words
+grant-unsound t g words n = grant-refused t g 1 words (grant-1 t g (length words) n) (λ z. omega arith)
+
 pub grant-done : (t : Table) (g n at : ℕ) (s : Solver) (left : Table) (words words' : List ℕ) → n ≡ grantRefusal t g (length words) → n ≡ 0
     → s .0 ≡ grant g t .value → Leaves (grant g t) 0 at left words words'
     → Does (grantOf t g (length words)) (granted (Done s (left .counts) (at / 3)) (t .counts)) left words words'
@@ -207,3 +218,38 @@ granted-one (Done s d n) (Done s' d' n') c e =
 granted-one (Done s d n) (Refused m) c e = let z = ap (λ (k : Said). length (valuesOf (k .answer))) e in absurd (omega arith)
 granted-one (Refused n) (Done s d m) c e = let z = ap (λ (k : Said). length (valuesOf (k .answer))) e in absurd (omega arith)
 granted-one (Refused n) (Refused m) c e = λ i. Refused (numberOf (e i .answer))
+
+-- ---- a solver index held already
+
+-- the holder is below the watermark and not deleted
+held-below : (t : Table) (g s : ℕ) → Sound t → getD (t .solverFromGlobal) g 0 ≡ s + 1 → g < t .counts .global
+held-below t g s p h = below-mark g s (pair-flip (p .solver)) h
+
+held-alive : (t : Table) (g s : ℕ) → Sound t → getD (t .solverFromGlobal) g 0 ≡ s + 1 → recordOf t g < 36
+held-alive t g s p h = go (leb 36 (recordOf t g)) refl
+  where
+    go : (b : Bool) → leb 36 (recordOf t g) ≡ b → recordOf t g < 36
+    go true e = let z = p .rows .row g .gone (leb-true 36 (recordOf t g) e) .2 in absurd (omega arith)
+    go false e = leb-false 36 (recordOf t g) e
+
+module _ (t : Table) (g : ℕ) (k : soundb t ≡ true) where
+  held-found : (s : ℕ) → getD (t .solverFromGlobal) g 0 ≡ s + 1 → AtOnce (λ room. grantOf t g room) t (s ∷ [])
+  unfolding grantOf
+  held-found s h =
+      let p = sound-of t k in
+      let l = held-below t g s p h in
+      let d : getD (t .records) g 0 < 36 = let a = held-alive t g s p h in let e = getD-default (t .records) g 0 47 (below-records t g 0 k l) in omega arith in
+      at-once-found (grantRefusal t g) t (grant g t) s
+      (λ room. sym (grant-0 t g room k l d (rw (ne-eqb (getD (t .solverFromGlobal) g 0) 0 (λ z. omega arith))))) (grant-has t g s h)
+
+  free-nothing : getD (t .solverFromGlobal) g 0 ≡ 0 → AtOnce (λ room. grantOf t g room) t []
+  unfolding grantOf toGrant
+  free-nothing h = at-once-noted (grantRefusal t g) t (grant g t) 0 (grant-count t g ∙ word-none 1 (λ s. 0) _ h)
+
+pub grant-at-once : (g : ℕ) (sg : List ℕ) (f : FoundSolver) → f ≡ foundSolver (getD sg g 0) → (t : Table) → soundb t ≡ true → t .solverFromGlobal ≡ sg
+    → AtOnce (λ room. grantOf t g room) t (solverFound f)
+grant-at-once g sg f e t k p = go f (ap (λ (l : List ℕ). getD l g 0) p ∙ solver-word (getD sg g 0) f e)
+  where
+    go : (f : FoundSolver) → getD (t .solverFromGlobal) g 0 ≡ solverWord f → AtOnce (λ room. grantOf t g room) t (solverFound f)
+    go (S.At s) h = held-found t g k (s .0) h
+    go S.Nothing h = free-nothing t g k h

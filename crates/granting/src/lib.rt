@@ -8,13 +8,16 @@ use table::is_sound;
 use table::put_note;
 use table::solver_of;
 ghost use mathlib.Core.Path.{_≡_};
+ghost use mathlib.Core.Bool.{true};
 ghost use mathlib.Core.List.{List, _∷_, []};
 ghost use Prim.Native.Nat.{ℕ, _+_, _≤_, _<_};
 ghost use lib.ListN.{length, set};
 ghost use Rattle.base.specs.Lent.{old, new, Fills};
-ghost use Rattle.scope.specs.Contract.{before, lent, Meets};
-ghost use Rattle.scope.specs.Table.{tableOf, leastFree, grantCounts};
+ghost use Rattle.scope.specs.Contract.{given, before, lent, Meets};
+ghost use Rattle.scope.specs.Sound.{soundb};
+ghost use Rattle.scope.specs.Table.{Table, tableOf, leastFree, grantCounts};
 ghost use Rattle.scope.specs.Grant.{grant, grantRefusal, grantOf};
+ghost use Rattle.changes.specs.AtOnce.{solverFound, AtOnce};
 ghost use Rattle.changes.specs.Leaves.{Leaves};
 ghost use Rattle.granting.specs.Answers.{granted};
 ghost use Rattle.granting.specs.Asks.{IndexAsks};
@@ -100,7 +103,7 @@ pub fn grant_index(
     }
 }
 
-// The first refusal of Grant that applies, 0 for none.
+// The first refusal of Grant that applies to a sound table, 0 for none.
 fn grant_refusal(
     c: Counts,
     gu: &[u32],
@@ -112,11 +115,9 @@ fn grant_refusal(
     global: Global,
     room: usize,
 ) -> u32
+    requires { ⌜ soundb (given c gu ug sg gs assignment records) ≡ true ⌝ }
     ensures { λ r. ⌜ r ≡ grantRefusal (before c gu ug sg gs assignment records) (global .0) room ⌝ }
 {
-    if !is_sound(c, gu, ug, sg, gs, assignment, records) {
-        return 1;
-    }
     if c.global <= global.0 {
         return 3;
     }
@@ -146,6 +147,29 @@ pub fn solver_from_global(
     ensures { λ r. ⌜ Meets (λ t room. grantOf t (global .0) room) (granted r c)
         (lent c gu ug sg gs assignment records notes) ⌝ }
 {
+    if !is_sound(c, gu, ug, sg, gs, assignment, records) {
+        return Granted::Refused(1);
+    }
+    known_solver_from_global(c, gu, ug, sg, gs, assignment, records, global, notes)
+}
+
+// Grant on a table known to be sound, which is not tested.
+// The same definition and answer.
+pub fn known_solver_from_global(
+    c: Counts,
+    gu: &[u32],
+    ug: &[u32],
+    sg: &mut [u32],
+    gs: &mut [u32],
+    assignment: &mut [u32],
+    records: &[u32],
+    global: Global,
+    notes: &mut [u32],
+) -> Granted
+    requires { ⌜ soundb (given c gu ug sg gs assignment records) ≡ true ⌝ }
+    ensures { λ r. ⌜ Meets (λ t room. grantOf t (global .0) room) (granted r c)
+        (lent c gu ug sg gs assignment records notes) ⌝ }
+{
     let n = grant_refusal(c, gu, ug, sg, gs, assignment, records, global, notes.len());
     if n != 0 {
         return Granted::Refused(n);
@@ -154,4 +178,13 @@ pub fn solver_from_global(
     let solver = h.solver;
     let counts = h.counts;
     Granted::Done(solver, counts, (h.at / 3) as u32)
+}
+
+// Held already: the solver index that Grant answers with no note on every sound table that has the list, which is not tested; else Nothing.
+// Definition: crates/changes/specs/AtOnce.antt, `AtOnce`, of `grantOf`. Any words may be lent.
+pub fn grant_in(sg: &[u32], global: Global) -> FoundSolver
+    ensures { λ r. ⌜ ((t : Table) → soundb t ≡ true → t .solverFromGlobal ≡ old sg
+        → AtOnce (λ room. grantOf t (global .0) room) t (solverFound r)) ⌝ }
+{
+    solver_of(sg, global)
 }

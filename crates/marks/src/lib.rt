@@ -1,6 +1,5 @@
 // Marks and Assign (document 01; `var_data_solver_mut`, `assign_lit`). How the contracts read: crates/scope/specs/Contract.antt.
 use scope::Counts;
-use scope::Global;
 use scope::Mark;
 use scope::Solver;
 use table::FoundGlobal;
@@ -8,12 +7,15 @@ use table::held_refusal;
 use table::holder;
 use table::is_sound;
 ghost use mathlib.Core.Path.{_≡_};
-ghost use Prim.Native.Nat.{_≤_, _<_};
-ghost use lib.ListN.{length, getD, set};
+ghost use mathlib.Core.Bool.{true};
+ghost use mathlib.Core.List.{[]};
+ghost use Prim.Native.Nat.{_≤_};
 ghost use Rattle.base.specs.Lent.{old, new};
-ghost use Rattle.scope.specs.Contract.{quiet, Meets};
+ghost use Rattle.scope.specs.Table.{Table};
+ghost use Rattle.scope.specs.Sound.{soundb};
+ghost use Rattle.scope.specs.Contract.{quiet, Does, Meets};
 ghost use Rattle.scope.specs.Marks.{marked, markOf, assignOf};
-ghost use Rattle.marks.specs.Answers.{changed};
+ghost use Rattle.marks.specs.Answers.{changed, withRecords, withValues};
 
 // A change of the table alone is made, or refused.
 pub enum Changed {
@@ -31,16 +33,6 @@ fn marked_record(mark: Mark, w: u32) -> u32
         Mark::Assumed => w / 36 * 36 + 18 + w % 18,
         Mark::Released => w / 36 * 36 + w % 18,
     }
-}
-
-fn put_mark(records: &mut [u32], mark: Mark, global: Global)
-    requires { ⌜ global .0 < length (now records) ⌝ }
-    requires { ⌜ getD (now records) (global .0) 0 ≤ 71 ⌝ }
-    ensures { λ _. ⌜ new records ≡ set (old records) (global .0) (marked mark (getD (old records) (global .0) 0)) ⌝ }
-{
-    let g = global.0 as usize;
-    let w = records[g];
-    records[g] = marked_record(mark, w);
 }
 
 // Marks (01, "Marks"; refusals 1, 8).
@@ -62,10 +54,27 @@ pub fn mark(
     if !is_sound(c, gu, ug, sg, gs, assignment, records) {
         return Changed::Refused(1);
     }
+    mark_in(gs, records, mark, solver)
+}
+
+// Marks in the two lists that they touch, of a table known to be sound, which is not tested: any words may be lent.
+// The same definition and answer, of every sound table that has these lists.
+pub fn mark_in(gs: &[u32], records: &mut [u32], mark: Mark, solver: Solver) -> Changed
+    ensures { λ r. ⌜ ((t : Table) → soundb t ≡ true → t .globalFromSolver ≡ old gs → t .records ≡ old records
+        → Does (markOf t mark (solver .0)) (changed r (t .counts)) (withRecords t (new records)) [] []) ⌝ }
+{
     let FoundGlobal::At(global) = holder(gs, solver) else {
         return Changed::Refused(held_refusal(gs, solver));
     };
-    put_mark(records, mark, global);
+    let g = global.0 as usize;
+    if records.len() <= g {
+        return Changed::Refused(1);
+    }
+    let w = records[g];
+    if 71 < w {
+        return Changed::Refused(1);
+    }
+    records[g] = marked_record(mark, w);
     Changed::Done
 }
 
@@ -87,10 +96,22 @@ pub fn assign_lit(
     if !is_sound(c, gu, ug, sg, gs, assignment, records) {
         return Changed::Refused(1);
     }
+    assign_in(gs, assignment, lit)
+}
+
+// Assign in the two lists that it touches, of a table known to be sound, which is not tested: any words may be lent.
+// The same definition and answer, of every sound table that has these lists.
+pub fn assign_in(gs: &[u32], assignment: &mut [u32], lit: u32) -> Changed
+    ensures { λ r. ⌜ ((t : Table) → soundb t ≡ true → t .globalFromSolver ≡ old gs → t .assignment ≡ old assignment
+        → Does (assignOf t lit) (changed r (t .counts)) (withValues t (new assignment)) [] []) ⌝ }
+{
     let FoundGlobal::At(_) = holder(gs, Solver(lit / 2)) else {
         return Changed::Refused(held_refusal(gs, Solver(lit / 2)));
     };
     let s = (lit / 2) as usize;
+    if assignment.len() <= s {
+        return Changed::Refused(1);
+    }
     if assignment[s] != 0 {
         return Changed::Refused(9);
     }

@@ -34,7 +34,7 @@ modelled-one (Refused n) (Refused m) t h = let p : n ≡ m = cc in cc
 
 -- ---- refusals
 
-pub refusal-1 : (t : Table) (a b : ℕ) → soundb t ≡ false → 1 ≡ modelRefusal t a b
+refusal-1 : (t : Table) (a b : ℕ) → soundb t ≡ false → 1 ≡ modelRefusal t a b
 unfolding modelRefusal
 refusal-1 t a b h = rw h
 
@@ -132,6 +132,9 @@ model-told-by t a b o e z said left x y p q r s =
 pub model-told-refused : (t : Table) (a b : List ℕ) (n : ℕ) → n ≡ modelRefusal t (length a) (length b) → (n ≡ 0 → ⊥)
     → ModelTold t a b (modelled (Refused n) (t .counts)) t a b
 model-told-refused t a b n e h = model-told-by t a b (refusal n t) (model-refused t (length a) (length b) n e h) refl _ _ _ _ refl refl refl refl
+
+pub model-told-unsound : (t : Table) (a b : List ℕ) → soundb t ≡ false → ModelTold t a b (modelled (Refused 1) (t .counts)) t a b
+model-told-unsound t a b h = model-told-refused t a b 1 (refusal-1 t (length a) (length b) h) (λ z. omega arith)
 
 pub model-told-done : (t : Table) (a b : List ℕ) (n k : ℕ) (x y : List ℕ) → n ≡ modelRefusal t (length a) (length b) → n ≡ 0
     → x ≡ sets a 0 (globalModel (readTable (t .counts) [] (t .solverFromGlobal) (t .assignment) (t .records)))

@@ -4,11 +4,13 @@ use scope::Global;
 use scope::User;
 use table::is_sound;
 ghost use mathlib.Core.Path.{_≡_};
+ghost use mathlib.Core.Bool.{true};
 ghost use mathlib.Core.List.{[]};
 ghost use Prim.Native.Nat.{ℕ, _+_, _≤_, _<_};
 ghost use lib.ListN.{length, getD};
 ghost use Rattle.base.specs.Lent.{old, new, Fills};
-ghost use Rattle.scope.specs.Contract.{before, quiet, Meets};
+ghost use Rattle.scope.specs.Sound.{soundb};
+ghost use Rattle.scope.specs.Contract.{given, before, quiet, Meets};
 ghost use Rattle.scope.specs.Models.{globalModel, userModel, modelRefusal, modelOf};
 ghost use Rattle.model.specs.Values.{valueOf, userValue, Readable, readTable, OfSound};
 ghost use Rattle.model.specs.Answers.{modelled};
@@ -110,7 +112,7 @@ fn fill_users(
     k
 }
 
-// The first refusal that applies, 0 for none: 1, 2.
+// The first refusal that applies to a sound table, 0 for none: 2.
 fn model_refusal(
     c: Counts,
     gu: &[u32],
@@ -122,11 +124,9 @@ fn model_refusal(
     globals: usize,
     users: usize,
 ) -> u32
+    requires { ⌜ soundb (given c gu ug sg gs assignment records) ≡ true ⌝ }
     ensures { λ r. ⌜ r ≡ modelRefusal (before c gu ug sg gs assignment records) globals users ⌝ }
 {
-    if !is_sound(c, gu, ug, sg, gs, assignment, records) {
-        return 1;
-    }
     if globals < c.global as usize {
         return 2;
     }
@@ -156,6 +156,33 @@ pub fn model(
     globals: &mut [u32],
     users: &mut [u32],
 ) -> Modelled
+    ensures { λ r. ⌜ Meets (λ t room. modelOf t (length (old globals)) (length (old users))) (modelled r c)
+        (quiet c gu ug sg gs assignment records) ⌝ }
+    ensures globals { λ _. ⌜ Fills globals 0
+        (modelOf (before c gu ug sg gs assignment records) (length (old globals)) (length (old users)) .words) ⌝ }
+    ensures users { λ _. ⌜ Fills users 0
+        (modelOf (before c gu ug sg gs assignment records) (length (old globals)) (length (old users)) .more) ⌝ }
+{
+    if !is_sound(c, gu, ug, sg, gs, assignment, records) {
+        return Modelled::Refused(1);
+    }
+    known_model(c, gu, ug, sg, gs, assignment, records, globals, users)
+}
+
+// Model on a table known to be sound, which is not tested.
+// The same answer as `model`.
+pub fn known_model(
+    c: Counts,
+    gu: &[u32],
+    ug: &[u32],
+    sg: &[u32],
+    gs: &[u32],
+    assignment: &[u32],
+    records: &[u32],
+    globals: &mut [u32],
+    users: &mut [u32],
+) -> Modelled
+    requires { ⌜ soundb (given c gu ug sg gs assignment records) ≡ true ⌝ }
     ensures { λ r. ⌜ Meets (λ t room. modelOf t (length (old globals)) (length (old users))) (modelled r c)
         (quiet c gu ug sg gs assignment records) ⌝ }
     ensures globals { λ _. ⌜ Fills globals 0

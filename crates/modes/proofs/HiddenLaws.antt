@@ -1,5 +1,5 @@
 -- Hidden globals, one by one and counted, by the tests that the code makes.
-use Prim.Native.Nat.{ℕ, _+_, _/_, _%_, _≤_, _<_, _^_}
+use Prim.Native.Nat.{ℕ, zero, suc, _+_, _/_, _%_, _≤_, _<_, _^_}
 use mathlib.Core.Path.{_≡_, refl, sym, ap, _∙_}
 use mathlib.Core.Bool.{Bool, true, false, _&&_, not}
 use mathlib.Core.List.{List}
@@ -8,6 +8,7 @@ use lib.Dec.{eqb, ltb}
 use lib.ListN.{length, getD}
 use Rattle.base.specs.Choice.{pick}
 use Rattle.base.specs.Bounded.{allBelow, count}
+use Rattle.base.proofs.BelowLaws.{and-both}
 use Rattle.base.proofs.CountLaws.{count-none, count-yes, count-no, count-most}
 use Rattle.base.proofs.MemberLaws.{getD-default}
 use Rattle.scope.specs.Table.{assumedOf}
@@ -77,3 +78,21 @@ hidden-fits records g mark n k l m e q =
     most : (b : Bool) → oneIf b ≤ 1
     most true = omega arith
     most false = omega arith
+
+-- where none is counted, the last is not hidden, and none before it
+pub none-last : (n : ℕ) (p : ℕ → Bool) → count (suc n) p ≡ 0 → (count n p ≡ 0) × (p n ≡ false)
+unfolding count
+none-last n p e = go (p n) refl e
+  where
+    go : (b : Bool) → p n ≡ b → pick b (suc (count n p)) (count n p) ≡ 0 → (count n p ≡ 0) × (p n ≡ false)
+    go true q z = absurd (omega arith)
+    go false q z = (z, q)
+
+-- so none is assumed
+pub none-fine : (records : List ℕ) (n : ℕ) → count n (hiddenAt records) ≡ 0 → allBelow n (fine records) ≡ true
+unfolding allBelow
+none-fine records zero e = refl
+none-fine records (suc n) e =
+    let h = none-last n (hiddenAt records) e in
+    let q : isHidden (getD records n 47) ≡ false = h .1 in
+    and-both (none-fine records n (h .0)) (rw q)

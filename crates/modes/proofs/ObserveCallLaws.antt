@@ -1,13 +1,13 @@
 -- Observe: the refusals, by the tests that the code makes, the loop, and the call.
 use Prim.Native.Nat.{ℕ, _+_, _*_, _/_, _≤_, _<_, _^_}
-use mathlib.Core.Path.{_≡_, sym, ap, _∙_, subst}
+use mathlib.Core.Path.{_≡_, refl, sym, ap, _∙_, subst}
 use mathlib.Core.Bool.{Bool, true, false, _||_, not}
 use mathlib.Core.List.{List, [], _∷_}
 use native.Mathlib.Omega.{arith}
 use lib.Dec.{ltb}
 use lib.ListN.{length}
 use lib.Seq.{sets, length-sets}
-use borrow.Author.Tests.{ltb-false, not-false}
+use borrow.Author.Tests.{le-ltb, ltb-false, not-false}
 use Rattle.base.specs.Bounded.{allBelow, count}
 use Rattle.base.specs.Answer.{accepted}
 use Rattle.base.proofs.CountLaws.{count-most}
@@ -15,7 +15,7 @@ use Rattle.base.proofs.MemberLaws.{or-left, or-right}
 use Rattle.scope.specs.declared.Counts.{Counts}
 use Rattle.scope.specs.Table.{Table}
 use Rattle.scope.specs.Sound.{soundb, Sizes, Sound}
-use Rattle.scope.specs.Outcome.{each}
+use Rattle.scope.specs.Outcome.{Result, stay, each}
 use Rattle.scope.specs.Modes.{observeOne, observe, observeRefusal, observeOf}
 use Rattle.scope.specs.Contract.{Does}
 use Rattle.scope.proofs.SoundLaws.{sound-of}
@@ -25,14 +25,14 @@ use Rattle.scope.specs.Cursor.{AllMapped}
 use Rattle.changes.specs.Leaves.{Leaves}
 use Rattle.changes.specs.Solvers.{solversOf}
 use Rattle.scope.proofs.CursorLaws.{cursor-start}
-use Rattle.changes.proofs.LeavesLaws.{leaves-length, notes-told, notes-fit, SameSizes, same-sizes}
+use Rattle.changes.proofs.LeavesLaws.{leaves-stay, leaves-length, notes-told, notes-fit, SameSizes, same-sizes}
 use Rattle.changes.proofs.TurnLaws.{turns-none, turns-more, turns-room}
 use Rattle.changes.proofs.CallLaws.{call-refused, call-accepted, refused-words, accepted-words}
 use Rattle.modes.specs.Asks.{UsersFilled, ObservesAll, ObserveAsks, ObserveAllAsks}
 use Rattle.modes.specs.declared.Observed.the-variants.{Done, Refused}
 use Rattle.modes.specs.Answers.{observed}
-use Rattle.modes.proofs.HiddenLaws.{fine, hiddenAt}
-use Rattle.modes.proofs.ObserveLaws.{observe-count, filled-none, filled-more, values-up, values-more}
+use Rattle.modes.proofs.HiddenLaws.{fine, hiddenAt, none-fine}
+use Rattle.modes.proofs.ObserveLaws.{observe-count, observe-stays, filled-none, filled-more, values-up, values-more}
 
 -- ---- refusals
 
@@ -41,7 +41,7 @@ pub mark-words : (t : Table) → soundb t ≡ true → t .counts .global ≤ len
 mark-words t y = let z = sound-of t y .sizes in omega arith
 
 module _ (t : Table) (outs room : ℕ) where
-  pub observe-1 : soundb t ≡ false → 1 ≡ observeRefusal t outs room
+  observe-1 : soundb t ≡ false → 1 ≡ observeRefusal t outs room
   unfolding observeRefusal
   observe-1 n = rw n
 
@@ -75,9 +75,9 @@ pub record Observing (t : Table) (g from n at : ℕ) (left : Table) (users users
   pub filled : UsersFilled (each g observeOne t) 0 n users users2
   pub mapped : AllMapped (left .globalFromUser) (left .counts .user) from
 
-pub observing-none : (t : Table) (users words : List ℕ) → Observing t 0 0 0 0 t users users words words
-observing-none t users words =
-    record { leaves = turns-none observeOne t words; filled = filled-none t users; mapped = cursor-start _ _ }
+pub observing-none : (t : Table) (from : ℕ) (users words : List ℕ) → AllMapped (t .globalFromUser) (t .counts .user) from
+    → Observing t 0 from 0 0 t users users words words
+observing-none t from users words h = record { leaves = turns-none observeOne t words; filled = filled-none t users; mapped = h }
 
 module _ (t : Table) (g from n at : ℕ) (left : Table) (users users2 words words2 : List ℕ) (h : Observing t g from n at left users users2 words words2) where
   pub observing-more : (from2 n2 at2 : ℕ) (left2 : Table) (users3 words3 : List ℕ)
@@ -93,7 +93,7 @@ module _ (t : Table) (g from n at : ℕ) (left : Table) (users users2 words word
   pub observing-users : length users2 ≡ length users
   observing-users = ap length (h .filled .values) ∙ length-sets users 0 (each g observeOne t .value)
 
-  module _ (outs room : ℕ) (a : ObservesAll t outs room) where
+  module _ (start outs room : ℕ) (a : ObservesAll t start outs room) where
     pub observing-asks : outs ≡ length users → room ≡ length words → g < t .counts .global
         → ObserveAsks (left .counts) (left .globalFromUser) (left .userFromGlobal) (left .records) g from n (length users2) at (length words2)
     unfolding observe
@@ -152,28 +152,36 @@ observe-refused t n users words e z = (
       (sym (refused-words (observeRefusal t (length users) (length words)) n t _ e z)),
 )
 
+pub observe-unsound : (t : Table) (users words : List ℕ) → soundb t ≡ false
+    → Does (observeOf t (length users) (length words)) (observed (Refused 1) (t .counts)) t words words
+    × (users ≡ sets users 0 (observeOf t (length users) (length words) .words))
+observe-unsound t users words n = observe-refused t 1 users words (observe-1 t (length users) (length words) n) (λ z. omega arith)
+
 module _ (t : Table) (outs room n : ℕ) (e : n ≡ observeRefusal t outs room) (z : n ≡ 0) where
-  passed : ObservesAll t outs room
+  -- what an accepted call knows, with a cursor
+  passed : (from : ℕ) → AllMapped (t .globalFromUser) (t .counts .user) from → ObservesAll t from outs room
   unfolding observeRefusal
-  passed =
+  passed from m =
       let a = past (not (soundb t)) 1 _ (omega arith) (sym e ∙ z) in
       let b = past (not (allBelow (t .counts .global) (fine (t .records)))) 7 _ (omega arith) (a .1) in
       let d = past (ltb outs (length (observe t .value)) || ltb room (3 * length (observe t .notes))) 2 0 (omega arith) (b .1) in
       record {
         sound = sound-of t (not-false (soundb t) (a .0));
+        mapped = m;
         users = ltb-false outs (length (observe t .value)) (or-left _ _ (d .0));
         words = ltb-false room (3 * length (observe t .notes)) (or-right (ltb outs (length (observe t .value))) _ (d .0));
       }
 
-  pub observe-asks : ObserveAllAsks (t .counts) (t .globalFromUser) (t .userFromGlobal) (t .records) outs room
-  observe-asks = record { solvers = solversOf t; observes = passed }
+  pub observe-asks : (from : ℕ) → AllMapped (t .globalFromUser) (t .counts .user) from
+      → ObserveAllAsks (t .counts) (t .globalFromUser) (t .userFromGlobal) (t .records) from outs room
+  observe-asks from m = record { solvers = solversOf t; observes = passed from m }
 
   -- both counts fit
   pub observe-fits : (k at : ℕ) (left : Table) (users users2 words words2 : List ℕ) → Leaves (observe t) 0 at left words words2
       × UsersFilled (observe t) 0 k users users2
       → (k < 2 ^ 32) × (at / 3 < 2 ^ 32)
   observe-fits k at left users users2 words words2 h =
-      let s = passed .sound in
+      let s = passed 0 (cursor-start _ _) .sound in
       let x = observe-count t s in
       let m = count-most (t .counts .global) (hiddenAt (t .records)) in
       let w = s .sizes in
@@ -192,3 +200,19 @@ module _ (t : Table) (outs room n : ℕ) (e : n ≡ observeRefusal t outs room) 
             (record { answer = λ i. accepted (p i ∷ q i ∷ []); table = h .0 .table; noted = h .0 .noted }),
         h .1 .values ∙ ap (sets users 0) (sym (accepted-words (observeRefusal t outs room) n t _ e z)),
       )
+
+-- without a hidden global
+pub observe-none : (t : Table) (k : ℕ) (users words : List ℕ) → soundb t ≡ true → k ≡ count (t .counts .global) (hiddenAt (t .records)) → k ≡ 0
+    → Does (observeOf t (length users) (length words)) (observed (Done 0 (t .counts) 0) (t .counts)) t words words
+    × (users ≡ sets users 0 (observeOf t (length users) (length words) .words))
+observe-none t k users words y e z = observe-does t (length users) (length words) 0 none-refused refl 0 0 (t .counts) t users users words words (
+  subst (λ (x : Result (List ℕ)). Leaves x 0 0 t words words) (sym stays) (leaves-stay t 0 words),
+  subst (λ (x : Result (List ℕ)). UsersFilled x 0 0 users users) (sym stays) (record { values = refl; moved = refl }),
+)
+  where
+    stays : observe t ≡ stay [] t
+    stays = observe-stays t (sym e ∙ z)
+
+    none-refused : 0 ≡ observeRefusal t (length users) (length words)
+    none-refused = observe-0 t (length users) (length words) y true (sym (none-fine (t .records) (t .counts .global) (sym e ∙ z))) refl 0 (sym z ∙ e)
+        (rw (le-ltb (length users) 0 (omega arith), le-ltb (length words) 0 (omega arith)))

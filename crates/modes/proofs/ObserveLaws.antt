@@ -14,7 +14,7 @@ use Rattle.base.proofs.SetsLaws.{sets-append}
 use Rattle.base.proofs.CountLaws.{count-none}
 use Rattle.scope.specs.Table.{Table, modeOf, recordOf, giveUser, leastFree}
 use Rattle.scope.specs.Sound.{Sound}
-use Rattle.scope.specs.Outcome.{Result, stay, choose, each}
+use Rattle.scope.specs.Outcome.{Result, stay, choose, joined, each}
 use Rattle.scope.specs.Map.{nextUser}
 use Rattle.scope.specs.Modes.{show, isHidden, observeOne, observe}
 use Rattle.scope.proofs.ResultLaws.{each-zero, each-value, each-notes, choose-then, choose-else}
@@ -26,7 +26,7 @@ use Rattle.changes.proofs.LeavesLaws.{leaves-stay}
 use Rattle.changes.proofs.DeletionLaws.{record-read}
 use Rattle.modes.specs.Asks.{ShowAsks, UsersFilled, Observes}
 use Rattle.modes.proofs.CursorLaws.{mapped-more}
-use Rattle.modes.proofs.HiddenLaws.{oneIf, hiddenAt, count-next}
+use Rattle.modes.proofs.HiddenLaws.{oneIf, hiddenAt, count-next, none-last}
 
 -- ---- how many
 
@@ -67,6 +67,18 @@ pub observe-count : (t : Table) → Sound t → (length (observe t .value) ≡ c
     × (length (observe t .notes) ≡ 2 * count (t .counts .global) (hiddenAt (t .records)))
 unfolding observe
 observe-count t p = turns-count t p (t .counts .global)
+
+-- without a hidden global nothing is done
+turns-stay : (t : Table) (i : ℕ) → count i (hiddenAt (t .records)) ≡ 0 → each i observeOne t ≡ stay [] t
+unfolding each observeOne
+turns-stay t zero e = refl
+turns-stay t (suc i) e =
+    let h = none-last i (hiddenAt (t .records)) e in
+    ap (λ (x : Result (List ℕ)). joined x (observeOne i)) (turns-stay t i (h .0)) ∙ choose-else _ _ _ (h .1)
+
+pub observe-stays : (t : Table) → count (t .counts .global) (hiddenAt (t .records)) ≡ 0 → observe t ≡ stay [] t
+unfolding observe
+observe-stays t e = turns-stay t (t .counts .global) e
 
 -- ---- users in a row
 

@@ -23,7 +23,7 @@ use Rattle.scope.proofs.SoundLaws.{sound-of}
 use Rattle.scope.proofs.ResultLaws.{past, by-choose, choose-then, choose-else}
 use Rattle.changes.specs.Leaves.{Leaves, Room}
 use Rattle.changes.specs.Solvers.{solversOf}
-use Rattle.scope.proofs.CursorLaws.{cursor-start}
+use Rattle.scope.specs.Cursor.{AllMapped}
 use Rattle.changes.proofs.LeavesLaws.{leaves-stay, notes-fit}
 use Rattle.changes.proofs.CallLaws.{call-refused, call-accepted, call-noted}
 use Rattle.changes.proofs.DeletionLaws.{record-read}
@@ -46,7 +46,7 @@ pub below-words : (t : Table) (g : ℕ) → soundb t ≡ true → g < t .counts 
 below-words t g y l = let z = sound-of t y .sizes in omega arith
 
 module _ (t : Table) (g : ℕ) (mode : SamplingMode) (room : ℕ) where
-  pub set-1 : soundb t ≡ false → 1 ≡ setModeRefusal t g mode room
+  set-1 : soundb t ≡ false → 1 ≡ setModeRefusal t g mode room
   unfolding setModeRefusal
   set-1 n = rw n
 
@@ -98,10 +98,15 @@ pub set-refused : (t : Table) (g : ℕ) (mode : SamplingMode) (n : ℕ) (words :
 unfolding setModeOf
 set-refused t g mode n words e z = call-refused (setModeRefusal t g mode (length words)) n t _ words e z
 
+pub set-unsound : (t : Table) (g : ℕ) (mode : SamplingMode) (words : List ℕ) → soundb t ≡ false
+    → Does (setModeOf t g mode (length words)) (modeSet (Refused 1) (t .counts)) t words words
+set-unsound t g mode words n = set-refused t g mode 1 words (set-1 t g mode (length words) n) (λ z. omega arith)
+
 module _ (t : Table) (g : ℕ) (mode : SamplingMode) (room n : ℕ) (e : n ≡ setModeRefusal t g mode room) (z : n ≡ 0) where
-  pub set-asks : (m : ℕ) → m ≡ modeNumber mode → SetAsks (t .counts) (t .globalFromUser) (t .userFromGlobal) (t .solverFromGlobal) (t .records) g m room
+  pub set-asks : (m : ℕ) → m ≡ modeNumber mode → (from : ℕ) → AllMapped (t .globalFromUser) (t .counts .user) from
+      → SetAsks (t .counts) (t .globalFromUser) (t .userFromGlobal) (t .solverFromGlobal) (t .records) g m from room
   unfolding setModeRefusal
-  set-asks m q =
+  set-asks m q from h =
       let a = past (not (soundb t)) 1 _ (omega arith) (sym e ∙ z) in
       let b = past (leb (t .counts .global) g) 3 _ (omega arith) (a .1) in
       let d = past (isDeleted (recordOf t g)) 6 _ (omega arith) (b .1) in
@@ -113,6 +118,7 @@ module _ (t : Table) (g : ℕ) (mode : SamplingMode) (room n : ℕ) (e : n ≡ s
         sets = rw q (record {
           there = record { sound = sound-of t (not-false (soundb t) (a .0)); undeleted = leb-false 36 (recordOf t g) (d .0) };
           mode = mode-small mode;
+          mapped = h;
           words = ltb-false room (3 * length (setMode g (modeNumber mode) t .notes)) (k .0);
         });
       }
@@ -191,7 +197,7 @@ module _ (t : Table) (g m : ℕ) (l : g < length (t .records)) where
 
 -- ---- what they ask
 
-module _ (t : Table) (g m room : ℕ) (h : Sets t g m room) where
+module _ (t : Table) (g m from room : ℕ) (h : Sets t g m from room) where
   here : g < length (t .records)
   here = there-live t g (h .there) .words
 
@@ -218,13 +224,13 @@ module _ (t : Table) (g m room : ℕ) (h : Sets t g m room) where
         }
 
     module _ (k : m ≡ 2 → ⊥) where
-      pub show-asks : (e : modeOf (getD (t .records) g 0) ≡ 2) → ShowAsks (t .counts) (t .globalFromUser) (t .userFromGlobal) (t .records) g m 0 0 room
+      pub show-asks : (e : modeOf (getD (t .records) g 0) ≡ 2) → ShowAsks (t .counts) (t .globalFromUser) (t .userFromGlobal) (t .records) g m from 0 room
       unfolding show
       show-asks e =
           let r = room-of (show g m t) (show-is t g m here n k e) .words in
           record {
             solvers = solversOf t;
-            shows = record { there = h .there; hidden = sym (old-mode t g m here) ∙ e; mode = let l = h .mode in omega arith; mapped = cursor-start _ _ };
+            shows = record { there = h .there; hidden = sym (old-mode t g m here) ∙ e; mode = let l = h .mode in omega arith; mapped = h .mapped };
             words = omega arith;
           }
 

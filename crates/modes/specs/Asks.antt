@@ -44,17 +44,18 @@ pub record HideAsks (c : Counts) (gu ug sg records : List ℕ) (g at room : ℕ)
   pub hides : Hides (tableOf c gu ug sg gs a records) g
   pub words : Room (hide g (tableOf c gu ug sg gs a records)) at room
 
--- The mode is one of the three, and there is room for the notes.
-pub record Sets (t : Table) (g m room : ℕ) : Type 0 where
+-- The mode is one of the three, users below the cursor `from` are mapped, and there is room for the notes.
+pub record Sets (t : Table) (g m from room : ℕ) : Type 0 where
   pub there : There t g
   pub mode : m < 3
+  pub mapped : AllMapped (t .globalFromUser) (t .counts .user) from
   pub words : 3 * length (setMode g m t .notes) ≤ room
 
 -- The same of the lists that are lent, with some others.
-pub record SetAsks (c : Counts) (gu ug sg records : List ℕ) (g m room : ℕ) : Type 0 where
+pub record SetAsks (c : Counts) (gu ug sg records : List ℕ) (g m from room : ℕ) : Type 0 where
   pub gs : List ℕ
   pub a : List ℕ
-  pub sets : Sets (tableOf c gu ug sg gs a records) g m room
+  pub sets : Sets (tableOf c gu ug sg gs a records) g m from room
 
 -- ---- Observe
 
@@ -76,13 +77,14 @@ pub record ObserveAsks (c : Counts) (gu ug records : List ℕ) (g from n outs at
   pub observes : Observes (tableWith c gu ug records solvers) g from n outs
   pub words : Room (observeOne g (tableWith c gu ug records solvers)) at room
 
--- A sound table, with room for the users and for the notes.
-pub record ObservesAll (t : Table) (outs room : ℕ) : Type 0 where
+-- A sound table with the cursor `from`; there is room for the users and for the notes.
+pub record ObservesAll (t : Table) (from outs room : ℕ) : Type 0 where
   pub sound : Sound t
+  pub mapped : AllMapped (t .globalFromUser) (t .counts .user) from
   pub users : length (observe t .value) ≤ outs
   pub words : 3 * length (observe t .notes) ≤ room
 
 -- The same of the lists that are lent, with some lists of solver indices.
-pub record ObserveAllAsks (c : Counts) (gu ug records : List ℕ) (outs room : ℕ) : Type 0 where
+pub record ObserveAllAsks (c : Counts) (gu ug records : List ℕ) (from outs room : ℕ) : Type 0 where
   pub solvers : Solvers
-  pub observes : ObservesAll (tableWith c gu ug records solvers) outs room
+  pub observes : ObservesAll (tableWith c gu ug records solvers) from outs room

@@ -10,7 +10,7 @@ use scope::least_free;
 use table::is_sound;
 use table::put_note;
 ghost use mathlib.Core.Path.{_≡_};
-ghost use mathlib.Core.Bool.{_&&_, not};
+ghost use mathlib.Core.Bool.{true, _&&_, not};
 ghost use mathlib.Core.List.{List, _∷_, []};
 ghost use Prim.Native.Nat.{ℕ, _≤_, _<_};
 ghost use lib.Dec.{eqb};
@@ -18,7 +18,8 @@ ghost use lib.ListN.{length, getD, set};
 ghost use Rattle.base.specs.Choice.{pick};
 ghost use Rattle.base.specs.Bounded.{allBelow, count};
 ghost use Rattle.base.specs.Lent.{old, new, Fills};
-ghost use Rattle.scope.specs.Contract.{before, lent, Does, Meets};
+ghost use Rattle.scope.specs.Contract.{given, before, lent, Does, Meets};
+ghost use Rattle.scope.specs.Sound.{soundb};
 ghost use Rattle.scope.specs.Table.{tableOf, assumedOf, withMode, leastFree};
 ghost use Rattle.scope.specs.Outcome.{noting};
 ghost use Rattle.scope.specs.Modes.{modeNumber, show, hide, setMode, setModeRefusal, setModeOf, isHidden, observeOne, observe, observeRefusal, observeOf};
@@ -150,6 +151,7 @@ fn mode_notes(solver: u32, w: u32, m: u32) -> u32
     1
 }
 
+// The first refusal of Set mode that applies to a sound table, 0 for none.
 fn set_mode_refusal(
     c: Counts,
     gu: &[u32],
@@ -162,11 +164,9 @@ fn set_mode_refusal(
     mode: SamplingMode,
     room: usize,
 ) -> u32
+    requires { ⌜ soundb (given c gu ug sg gs assignment records) ≡ true ⌝ }
     ensures { λ r. ⌜ r ≡ setModeRefusal (before c gu ug sg gs assignment records) (global .0) mode room ⌝ }
 {
-    if !is_sound(c, gu, ug, sg, gs, assignment, records) {
-        return 1;
-    }
     if c.global <= global.0 {
         return 3;
     }
@@ -186,7 +186,7 @@ fn set_mode_refusal(
     0
 }
 
-// Same mode: nothing. Otherwise by the old mode and the new one. The lists that are not lent, gs and a, may be any.
+// Same mode: nothing. Otherwise by the old mode and the new one; users below the cursor are mapped. The lists that are not lent, gs and a, may be any.
 fn set_mode(
     c: Counts,
     gu: &mut [u32],
@@ -195,9 +195,10 @@ fn set_mode(
     records: &mut [u32],
     global: Global,
     m: u32,
+    from: u32,
     notes: &mut [u32],
 ) -> ModeSet
-    requires { ⌜ SetAsks c (now gu) (now ug) (now sg) (now records) (global .0) m (length (now notes)) ⌝ }
+    requires { ⌜ SetAsks c (now gu) (now ug) (now sg) (now records) (global .0) m from (length (now notes)) ⌝ }
     ensures { λ r. ⌜ ((gs a : List ℕ) → Does (noting (λ us. us) (setMode (global .0) m (tableOf c (old gu) (old ug) (old sg) gs a (old records)))) (modeSet r c)
         (tableOf (modeSet r c .counts) (new gu) (new ug) (old sg) gs a (new records)) (old notes) (new notes)) ⌝ }
 {
@@ -211,7 +212,7 @@ fn set_mode(
         return ModeSet::Done(counts, (p.at / 3) as u32);
     }
     if was == 2 {
-        let p = show(c, gu, ug, records, global, m, 0, 0, notes);
+        let p = show(c, gu, ug, records, global, m, from, 0, notes);
         let counts = p.counts;
         let user = p.user;
         return ModeSet::Shown(user, counts, (p.at / 3) as u32);
@@ -237,6 +238,44 @@ pub fn set_sampling_mode(
     ensures { λ r. ⌜ Meets (λ t room. setModeOf t (global .0) mode room) (modeSet r c)
         (lent c gu ug sg gs assignment records notes) ⌝ }
 {
+    if !is_sound(c, gu, ug, sg, gs, assignment, records) {
+        return ModeSet::Refused(1);
+    }
+    known_set_sampling_mode(
+        c,
+        gu,
+        ug,
+        sg,
+        gs,
+        assignment,
+        records,
+        global,
+        mode,
+        0,
+        notes,
+    )
+}
+
+// Set mode on a table known to be sound, which is not tested, with every user below `ufrom` mapped.
+// The same answer as `set_sampling_mode`.
+pub fn known_set_sampling_mode(
+    c: Counts,
+    gu: &mut [u32],
+    ug: &mut [u32],
+    sg: &[u32],
+    gs: &[u32],
+    assignment: &[u32],
+    records: &mut [u32],
+    global: Global,
+    mode: SamplingMode,
+    ufrom: u32,
+    notes: &mut [u32],
+) -> ModeSet
+    requires { ⌜ soundb (given c gu ug sg gs assignment records) ≡ true ⌝ }
+    requires { ⌜ AllMapped (now gu) (c .user) ufrom ⌝ }
+    ensures { λ r. ⌜ Meets (λ t room. setModeOf t (global .0) mode room) (modeSet r c)
+        (lent c gu ug sg gs assignment records notes) ⌝ }
+{
     let n = set_mode_refusal(
         c,
         gu,
@@ -253,7 +292,7 @@ pub fn set_sampling_mode(
         return ModeSet::Refused(n);
     }
     let m = mode_number(mode);
-    set_mode(c, gu, ug, sg, records, global, m, notes)
+    set_mode(c, gu, ug, sg, records, global, m, ufrom, notes)
 }
 
 // Undeleted and Hide.
@@ -301,6 +340,7 @@ fn count_hidden(records: &[u32], mark: u32) -> u32
     n
 }
 
+// The first refusal of Observe that applies to a sound table with so many hidden globals, 0 for none.
 fn observe_refusal(
     c: Counts,
     gu: &[u32],
@@ -309,18 +349,18 @@ fn observe_refusal(
     gs: &[u32],
     assignment: &[u32],
     records: &[u32],
+    hidden: u32,
     outs: usize,
     room: usize,
 ) -> u32
+    requires { ⌜ soundb (given c gu ug sg gs assignment records) ≡ true ⌝ }
+    requires { ⌜ hidden ≡ count (c .global) (λ g. isHidden (getD (now records) g 47)) ⌝ }
     ensures { λ r. ⌜ r ≡ observeRefusal (before c gu ug sg gs assignment records) outs room ⌝ }
 {
-    if !is_sound(c, gu, ug, sg, gs, assignment, records) {
-        return 1;
-    }
     if !none_assumed(records, c.global) {
         return 7;
     }
-    let n = count_hidden(records, c.global) as usize;
+    let n = hidden as usize;
     if (outs < n) | (room < 6 * n) {
         return 2;
     }
@@ -376,16 +416,17 @@ fn observe_one(
     }
 }
 
-// Every global in ascending order, on a sound table with room for the users and the notes. The lists of solver indices may be any.
+// Every global in ascending order, on a sound table with the cursor `from` and room for the users and the notes. The lists of solver indices may be any.
 fn observe_all(
     c: Counts,
     gu: &mut [u32],
     ug: &mut [u32],
     records: &mut [u32],
+    from: u32,
     users: &mut [u32],
     notes: &mut [u32],
 ) -> ObservedTo
-    requires { ⌜ ObserveAllAsks c (now gu) (now ug) (now records) (length (now users)) (length (now notes)) ⌝ }
+    requires { ⌜ ObserveAllAsks c (now gu) (now ug) (now records) from (length (now users)) (length (now notes)) ⌝ }
     ensures { λ r. ⌜ ((x : Solvers) → Leaves (observe (tableWith c (old gu) (old ug) (old records) x)) 0 (r .at)
         (tableWith (r .counts) (new gu) (new ug) (new records) x) (old notes) (new notes)) ⌝ }
     ensures { λ r. ⌜ ((x : Solvers) → UsersFilled (observe (tableWith c (old gu) (old ug) (old records) x)) 0 (r .filled) (old users) (new users)) ⌝ }
@@ -393,7 +434,7 @@ fn observe_all(
     let last = c.global;
     let mut k = ObservedTo {
         counts: c,
-        from: 0,
+        from,
         filled: 0,
         at: 0,
     };
@@ -434,6 +475,36 @@ pub fn observe_internal_vars(
         (lent c gu ug sg gs assignment records notes) ⌝ }
     ensures out { λ _. ⌜ Fills users 0 (observeOf (before c gu ug sg gs assignment records) (length (old users)) (length (old notes)) .words) ⌝ }
 {
+    if !is_sound(c, gu, ug, sg, gs, assignment, records) {
+        return Observed::Refused(1);
+    }
+    known_observe_internal_vars(c, gu, ug, sg, gs, assignment, records, 0, users, notes)
+}
+
+// Observe on a table known to be sound, which is not tested, with every user below `ufrom` mapped.
+// The same answer as `observe_internal_vars`. Hidden globals are counted first: without one the records are read once.
+pub fn known_observe_internal_vars(
+    c: Counts,
+    gu: &mut [u32],
+    ug: &mut [u32],
+    sg: &[u32],
+    gs: &[u32],
+    assignment: &[u32],
+    records: &mut [u32],
+    ufrom: u32,
+    users: &mut [u32],
+    notes: &mut [u32],
+) -> Observed
+    requires { ⌜ soundb (given c gu ug sg gs assignment records) ≡ true ⌝ }
+    requires { ⌜ AllMapped (now gu) (c .user) ufrom ⌝ }
+    ensures { λ r. ⌜ Meets (λ t room. observeOf t (length (old users)) room) (observed r c)
+        (lent c gu ug sg gs assignment records notes) ⌝ }
+    ensures out { λ _. ⌜ Fills users 0 (observeOf (before c gu ug sg gs assignment records) (length (old users)) (length (old notes)) .words) ⌝ }
+{
+    let hidden = count_hidden(records, c.global);
+    if hidden == 0 {
+        return Observed::Done(0, c, 0);
+    }
     let n = observe_refusal(
         c,
         gu,
@@ -442,13 +513,14 @@ pub fn observe_internal_vars(
         gs,
         assignment,
         records,
+        hidden,
         users.len(),
         notes.len(),
     );
     if n != 0 {
         return Observed::Refused(n);
     }
-    let k = observe_all(c, gu, ug, records, users, notes);
+    let k = observe_all(c, gu, ug, records, ufrom, users, notes);
     let counts = k.counts;
     Observed::Done(k.filled as u32, counts, (k.at / 3) as u32)
 }

@@ -86,7 +86,7 @@ map-counts t u n y q =
 -- ---- refusals of Map
 
 module _ (t : Table) (u : ℕ) (sampling : Bool) (room : ℕ) where
-  pub map-1 : soundb t ≡ false → 1 ≡ mapRefusal t u sampling room
+  map-1 : soundb t ≡ false → 1 ≡ mapRefusal t u sampling room
   unfolding mapRefusal
   map-1 n = rw n
 
@@ -162,6 +162,10 @@ pub map-refused : (t : Table) (u : ℕ) (sampling : Bool) (n : ℕ) (words : Lis
 unfolding mapOf
 map-refused t u sampling n words q e = call-refused (mapRefusal t u sampling (length words)) n t _ words q e
 
+pub map-unsound : (t : Table) (u : ℕ) (sampling : Bool) (words : List ℕ) → soundb t ≡ false
+    → Does (mapOf t u sampling (length words)) (userMapped (Map.Refused 1) (t .counts)) t words words
+map-unsound t u sampling words n = map-refused t u sampling 1 words (map-1 t u sampling (length words) n) (omega arith)
+
 pub map-done : (t : Table) (u : ℕ) (sampling : Bool) (n at : ℕ) (g : Global) (left : Table) (words words' : List ℕ)
     → n ≡ mapRefusal t u sampling (length words) → n ≡ 0
     → (g .0 ≡ mapUser u t .value) × Leaves (mapUser u t) 0 at left words words'
@@ -178,7 +182,7 @@ unfolding newUser
 new-words t y = map-user-count t (nextUser t) ∙ next-user-to-map t (sound-of t y)
 
 module _ (t : Table) (room : ℕ) where
-  pub new-1 : soundb t ≡ false → 1 ≡ newUserRefusal t room
+  new-1 : soundb t ≡ false → 1 ≡ newUserRefusal t room
   unfolding newUserRefusal
   new-1 n = rw n
 
@@ -239,6 +243,10 @@ pub new-refused : (t : Table) (n : ℕ) (words : List ℕ) → n ≡ newUserRefu
     → Does (newUserOf t (length words)) (newUserMapped (New.Refused n) (t .counts)) t words words
 unfolding newUserOf
 new-refused t n words q e = call-refused (newUserRefusal t (length words)) n t _ words q e
+
+pub new-unsound : (t : Table) (words : List ℕ) → soundb t ≡ false
+    → Does (newUserOf t (length words)) (newUserMapped (New.Refused 1) (t .counts)) t words words
+new-unsound t words n = new-refused t 1 words (new-1 t (length words) n) (omega arith)
 
 pub new-done : (t : Table) (u : User) (n at : ℕ) (g : Global) (left : Table) (words words' : List ℕ) → n ≡ newUserRefusal t (length words) → n ≡ 0
     → u .0 ≡ leastFree (t .globalFromUser) (t .counts .user)

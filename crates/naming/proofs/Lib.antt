@@ -1,3 +1,4 @@
 pub mod FreeLaws
 pub mod GapLaws
 pub mod CallLaws
+pub mod InLaws

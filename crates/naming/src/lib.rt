@@ -9,15 +9,18 @@ use table::global_of;
 use table::is_sound;
 use table::put_note;
 ghost use mathlib.Core.Path.{_≡_};
+ghost use mathlib.Core.Bool.{true};
 ghost use mathlib.Core.List.{_∷_, []};
 ghost use Prim.Native.Nat.{_+_, _-_, _^_, _≤_, _<_};
 ghost use lib.ListN.{length, getD, set};
 ghost use Rattle.base.specs.Bounded.{least};
 ghost use Rattle.base.specs.Lent.{old, new, Fills};
-ghost use Rattle.scope.specs.Contract.{before, lent, Meets};
-ghost use Rattle.scope.specs.Table.{word, mapCounts};
+ghost use Rattle.scope.specs.Contract.{given, before, lent, Meets};
+ghost use Rattle.scope.specs.Table.{Table, word, mapCounts};
 ghost use Rattle.scope.specs.Map.{mapRefusal, mapOf, newUserRefusal, newUserOf};
-ghost use Rattle.scope.specs.Cursor.{NoneFree};
+ghost use Rattle.scope.specs.Sound.{soundb};
+ghost use Rattle.scope.specs.Cursor.{NoneFree, AllMapped};
+ghost use Rattle.changes.specs.AtOnce.{AtOnce, globalFound};
 ghost use Rattle.naming.specs.Answers.{userMapped, newUserMapped};
 ghost use Rattle.naming.specs.Parts.{free, freeFor, isUnsampled, MapBelow};
 ghost use Rattle.naming.specs.Asks.{Rest, countsWith, countsAfter, UpAsks, UpLeaves};
@@ -242,7 +245,7 @@ fn to_map(gu: &[u32], mark: u32, user: User) -> u32
     0
 }
 
-// The first refusal of Map that applies, 0 for none.
+// The first refusal of Map that applies to a sound table, 0 for none.
 fn map_refusal(
     c: Counts,
     gu: &[u32],
@@ -255,11 +258,9 @@ fn map_refusal(
     sampling: bool,
     room: usize,
 ) -> u32
+    requires { ⌜ soundb (given c gu ug sg gs assignment records) ≡ true ⌝ }
     ensures { λ r. ⌜ r ≡ mapRefusal (before c gu ug sg gs assignment records) (user .0) sampling room ⌝ }
 {
-    if !is_sound(c, gu, ug, sg, gs, assignment, records) {
-        return 1;
-    }
     if c.capacity <= user.0 {
         return 3;
     }
@@ -293,6 +294,44 @@ pub fn global_from_user(
     ensures { λ r. ⌜ Meets (λ t room. mapOf t (user .0) sampling room) (userMapped r c)
         (lent c gu ug sg gs assignment records notes) ⌝ }
 {
+    if !is_sound(c, gu, ug, sg, gs, assignment, records) {
+        return UserMapped::Refused(1);
+    }
+    known_global_from_user(
+        c,
+        gu,
+        ug,
+        sg,
+        gs,
+        assignment,
+        records,
+        user,
+        sampling,
+        0,
+        notes,
+    )
+}
+
+// Map on a table known to be sound, which is not tested. A free global is searched from `gfrom` on: no global below is deleted.
+// The same definition and answer.
+pub fn known_global_from_user(
+    c: Counts,
+    gu: &mut [u32],
+    ug: &mut [u32],
+    sg: &[u32],
+    gs: &[u32],
+    assignment: &[u32],
+    records: &mut [u32],
+    user: User,
+    sampling: bool,
+    gfrom: u32,
+    notes: &mut [u32],
+) -> UserMapped
+    requires { ⌜ soundb (given c gu ug sg gs assignment records) ≡ true ⌝ }
+    requires { ⌜ NoneFree (free (now records)) (c .global) gfrom ⌝ }
+    ensures { λ r. ⌜ Meets (λ t room. mapOf t (user .0) sampling room) (userMapped r c)
+        (lent c gu ug sg gs assignment records notes) ⌝ }
+{
     let n = map_refusal(
         c,
         gu,
@@ -317,16 +356,38 @@ pub fn global_from_user(
         ug,
         records,
         user,
-        0,
+        gfrom,
         0,
         notes,
     );
     let global = m.global;
     let counts = counts_after(c, m);
-    UserMapped::Done(global, counts, (m.at / 3) as u32)
+    let made = (m.at / 3) as u32;
+    UserMapped::Done(global, counts, made)
 }
 
-// The first refusal of New user that applies, 0 for none.
+// Map of a user that is mapped already, in the two lists that it reads, of a table known to be sound: the global, where the call is accepted and
+// makes no note; nothing, where it is refused or makes one. Any words may be lent. Definition: crates/changes/specs/AtOnce.antt, `AtOnce`.
+pub fn map_in(gu: &[u32], records: &[u32], user: User, sampling: bool) -> FoundGlobal
+    ensures { λ r. ⌜ ((t : Table) → soundb t ≡ true → t .globalFromUser ≡ old gu → t .records ≡ old records
+        → AtOnce (λ room. mapOf t (user .0) sampling room) t (globalFound r)) ⌝ }
+{
+    let FoundGlobal::At(g) = global_of(gu, user) else {
+        return FoundGlobal::Nothing;
+    };
+    if !sampling {
+        return FoundGlobal::At(g);
+    }
+    if records.len() <= g.0 as usize {
+        return FoundGlobal::Nothing;
+    }
+    if records[g.0 as usize] % 3 != 0 {
+        return FoundGlobal::Nothing;
+    }
+    FoundGlobal::At(g)
+}
+
+// The first refusal of New user that applies to a sound table, 0 for none.
 fn new_user_refusal(
     c: Counts,
     gu: &[u32],
@@ -337,11 +398,9 @@ fn new_user_refusal(
     records: &[u32],
     room: usize,
 ) -> u32
+    requires { ⌜ soundb (given c gu ug sg gs assignment records) ≡ true ⌝ }
     ensures { λ r. ⌜ r ≡ newUserRefusal (before c gu ug sg gs assignment records) room ⌝ }
 {
-    if !is_sound(c, gu, ug, sg, gs, assignment, records) {
-        return 1;
-    }
     if c.capacity < c.used + 1 {
         return 5;
     }
@@ -366,11 +425,37 @@ pub fn new_user_var(
     ensures { λ r. ⌜ Meets (λ t room. newUserOf t room) (newUserMapped r c)
         (lent c gu ug sg gs assignment records notes) ⌝ }
 {
+    if !is_sound(c, gu, ug, sg, gs, assignment, records) {
+        return NewUser::Refused(1);
+    }
+    known_new_user_var(c, gu, ug, sg, gs, assignment, records, 0, 0, notes)
+}
+
+// New user on a table known to be sound, which is not tested. The least unmapped user is searched from `ufrom` on, since every user below is
+// mapped, and a free global from `gfrom` on: no global below is deleted. The same definition and answer.
+pub fn known_new_user_var(
+    c: Counts,
+    gu: &mut [u32],
+    ug: &mut [u32],
+    sg: &[u32],
+    gs: &[u32],
+    assignment: &[u32],
+    records: &mut [u32],
+    ufrom: u32,
+    gfrom: u32,
+    notes: &mut [u32],
+) -> NewUser
+    requires { ⌜ soundb (given c gu ug sg gs assignment records) ≡ true ⌝ }
+    requires { ⌜ AllMapped (now gu) (c .user) ufrom ⌝ }
+    requires { ⌜ NoneFree (free (now records)) (c .global) gfrom ⌝ }
+    ensures { λ r. ⌜ Meets (λ t room. newUserOf t room) (newUserMapped r c)
+        (lent c gu ug sg gs assignment records notes) ⌝ }
+{
     let n = new_user_refusal(c, gu, ug, sg, gs, assignment, records, notes.len());
     if n != 0 {
         return NewUser::Refused(n);
     }
-    let user = User(least_free(gu, c.user, 0));
+    let user = User(least_free(gu, c.user, ufrom));
     let m = map_up(
         c.capacity,
         c.user,
@@ -380,11 +465,12 @@ pub fn new_user_var(
         ug,
         records,
         user,
-        0,
+        gfrom,
         0,
         notes,
     );
     let global = m.global;
     let counts = counts_after(c, m);
-    NewUser::Done(user, global, counts, (m.at / 3) as u32)
+    let made = (m.at / 3) as u32;
+    NewUser::Done(user, global, counts, made)
 }

@@ -5,6 +5,7 @@ use mathlib.Core.Logic.{_≢_}
 use mathlib.Core.List.{List, [], _∷_}
 use native.Mathlib.Omega.{arith}
 use lib.ListN.{length}
+use lib.Seq.{sets}
 use Rattle.base.specs.Answer.{Answer, refused}
 use Rattle.scope.specs.declared.Counts.{Counts}
 use Rattle.scope.specs.Table.{Table, tableOf}
@@ -30,6 +31,11 @@ numbered-given {layout = layout} {gu = gu} {ug = ug} {sg = sg} {gs = gs} {a = a}
       table = ap (λ (c : Counts). tableOf c gu ug sg gs a r) (told .counts) ∙ does .table;
       noted = does .noted;
     }
+
+-- The same of a call whose answer has no counts of its own.
+pub numbered-left : {o : Outcome} {said : Said} {layout : Answer → List ℕ} {ns : List ℕ} {d : Counts} {left : Table} {words words' : List ℕ}
+    → Does o said left words words' → Numbered said layout ns d → Given o layout ns left words words'
+numbered-left {layout = layout} does told = record { fields = told .fields ∙ ap layout (does .answer); table = does .table; noted = does .noted }
 
 -- nothing is done
 pub refused-given : {n : ℕ} {layout : Answer → List ℕ} {ns : List ℕ} {t : Table} {words : List ℕ} → ns ≡ layout (refused n [])
@@ -60,3 +66,7 @@ no-part i (b ∷ l) h = absurd (let z : _≡_ {A = ℕ} 0 1 = cc in omega arith)
 pub some-part : (i : ℕ) (l : List ℕ) → length l ≢ 0 → 0 ∷ i ∷ length l ∷ [] ≡ placed i (first i l)
 some-part i [] n = absurd (n refl)
 some-part i (b ∷ l) n = refl
+
+-- what is filled, by another name
+pub filled-same : (before : List ℕ) (at : ℕ) {xs ys after : List ℕ} → ys ≡ xs → after ≡ sets before at xs → after ≡ sets before at ys
+filled-same before at e h = h ∙ ap (sets before at) (sym e)

@@ -2,3 +2,4 @@ pub mod Numbers
 pub mod Meant
 pub mod Surface
 pub mod Flat
+pub mod Lines

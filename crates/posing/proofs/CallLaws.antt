@@ -92,7 +92,7 @@ unfolding isUnsampled unsampled
 unsampled-are t lits = refl
 
 module _ (t : Table) (lits : List ℕ) (sampling : Bool) (outs room : ℕ) where
-  pub pose-1 : soundb t ≡ false → 1 ≡ poseRefusal t lits sampling outs room
+  pose-1 : soundb t ≡ false → 1 ≡ poseRefusal t lits sampling outs room
   unfolding poseRefusal
   pose-1 n = rw n
 
@@ -172,6 +172,17 @@ pose-asks t lits sampling n outs room q e =
       few = ltb-false 8192 (length lits) (or-left (ltb 8192 (length lits)) _ (b .0));
     }
 
+-- and all users with globals are sampled if that is required
+pub pose-sampled : (t : Table) (lits : List ℕ) (sampling : Bool)
+    (n outs room : ℕ) → n ≡ poseRefusal t lits sampling outs room → n ≡ 0
+    → sampling && anyOf (λ c. isUnsampled (t .globalFromUser) (t .records) (indexOf c)) lits ≡ false
+unfolding poseRefusal
+pose-sampled t lits sampling n outs room q e =
+    let a = past (not (soundb t)) 1 _ (omega arith) (sym q ∙ e) in
+    let b = past (ltb 8192 (length lits) || anyOf (λ c. leb (t .counts .capacity) (indexOf c)) lits) 3 _ (omega arith) (a .1) in
+    let c = past (sampling && anyOf (λ c. unsampled t (indexOf c)) lits) 4 _ (omega arith) (b .1) in
+    ap (λ (x : Bool). sampling && x) (unsampled-are t lits) ∙ c .0
+
 -- ---- the call
 
 grants-most : (t : Table) (lits : List ℕ) → usersToGrant t lits ≤ t .counts .capacity
@@ -195,6 +206,11 @@ unfolding poseOf
 pose-refused t lits sampling n out words q e =
     let r = poseRefusal t lits sampling (length out) (length words) in
     (call-refused r n t _ words q e, ap (λ (l : List ℕ). sets out 0 l) (sym (refused-words r n t _ q e)))
+
+pub pose-unsound : (t : Table) (lits : List ℕ) (sampling : Bool) (out words : List ℕ) → soundb t ≡ false
+    → Does (poseOf t lits sampling (length out) (length words)) (posed (Refused 1) (t .counts)) t words words
+    × (out ≡ sets out 0 (poseOf t lits sampling (length out) (length words) .words))
+pose-unsound t lits sampling out words n = pose-refused t lits sampling 1 out words (pose-1 t lits sampling (length out) (length words) n) (omega arith)
 
 -- an accepted one
 pub pose-done : (t : Table) (lits : List ℕ) (sampling : Bool) (n at : ℕ) (left : Table) (out out' words words' : List ℕ)

@@ -19,9 +19,10 @@ ghost use mathlib.Core.Path.{_≡_};
 ghost use mathlib.Core.Bool.{true, _&&_};
 ghost use Prim.Native.Nat.{_≤_};
 ghost use lib.ListN.{length};
-ghost use Rattle.base.specs.Bounded.{anyOf};
+ghost use Rattle.base.specs.Bounded.{anyOf, everyOf};
 ghost use Rattle.base.specs.Lent.{old, new, Fills};
 ghost use Rattle.scope.specs.Literals.{indexOf};
+ghost use Rattle.scope.specs.Table.{Table};
 ghost use Rattle.scope.specs.Contract.{given, before, after, lent, Meets};
 ghost use Rattle.scope.specs.Pose.{pose, poseRefusal, poseOf};
 ghost use Rattle.scope.specs.Sound.{soundb};
@@ -32,6 +33,7 @@ ghost use Rattle.naming.specs.Parts.{free, isUnsampled, MapBelow};
 ghost use Rattle.posing.specs.Answers.{posed};
 ghost use Rattle.posing.specs.Parts.{heldWord, HeldTo, HeldRun, HeldTried};
 ghost use Rattle.posing.specs.Asks.{poseUser, PlaceAsks, PoseAsks};
+ghost use Rattle.posing.specs.Ready.{isReady, PosedAtOnce};
 
 // A user's solver index, with the counts, the cursor of free globals and the place in the notes after it.
 pub struct Placed {
@@ -128,7 +130,7 @@ fn held_lits(gu: &[u32], sg: &[u32], lits: &[u32], from: usize, codes: &mut [u32
     i
 }
 
-// A solver literal for each user literal, on a sound table with room for all.
+// A solver literal for each user literal, on a sound table with room for all. A free global is searched from the cursor on.
 fn place_all(
     c: Counts,
     gu: &mut [u32],
@@ -138,16 +140,18 @@ fn place_all(
     assignment: &mut [u32],
     records: &mut [u32],
     lits: &[u32],
+    from: u32,
     out: &mut [u32],
     notes: &mut [u32],
 ) -> Passed
     requires { ⌜ PoseAsks (given c gu ug sg gs assignment records) (now lits) (length (now out)) (length (now notes)) ⌝ }
+    requires { ⌜ NoneFree (free (now records)) (c .global) from ⌝ }
     ensures { λ r. let x = pose (old lits) (before c gu ug sg gs assignment records) in
         ⌜ Leaves x 0 (r .at) (after (r .counts) gu ug sg gs assignment records) (old notes) (new notes) ⌝
         ∗ ⌜ Fills out 0 (x .value) ⌝ }
 {
     let mut cur = c;
-    let mut k = 0;
+    let mut k = from;
     let mut at: usize = 0;
     let mut i: usize = 0;
     loop {
@@ -223,7 +227,7 @@ fn fill_held(
     }
 }
 
-// The same with a list of its own, the shortest of three that is long enough, since it is cleared each time.
+// The same with a list of its own, the shortest of four that is long enough, since it is cleared each time.
 fn pose_held(
     gu: &[u32],
     sg: &[u32],
@@ -241,6 +245,10 @@ fn pose_held(
             filled: false,
             lead: 0,
         };
+    }
+    if lits.len() <= 8 {
+        let mut codes = [0u32; 8];
+        return fill_held(gu, sg, records, lits, sampling, &mut codes, out);
     }
     if lits.len() <= 64 {
         let mut codes = [0u32; 64];
@@ -308,11 +316,13 @@ fn pose_any(
     lits: &[u32],
     lead: usize,
     sampling: bool,
+    gfrom: u32,
     out: &mut [u32],
     notes: &mut [u32],
 ) -> PosedLits
     requires { ⌜ soundb (given c gu ug sg gs assignment records) ≡ true ⌝ }
     requires { ⌜ HeldTo (now gu) (now sg) (now lits) lead ⌝ }
+    requires { ⌜ NoneFree (free (now records)) (c .global) gfrom ⌝ }
     ensures { λ r. ⌜ Meets (λ t room. poseOf t (old lits) sampling (length (old out)) room) (posed r c)
         (lent c gu ug sg gs assignment records notes) ⌝ }
     ensures out { λ _. ⌜ Fills out 0 (poseOf (before c gu ug sg gs assignment records) (old lits) sampling
@@ -335,7 +345,19 @@ fn pose_any(
     if n != 0 {
         return PosedLits::Refused(n);
     }
-    let p = place_all(c, gu, ug, sg, gs, assignment, records, lits, out, notes);
+    let p = place_all(
+        c,
+        gu,
+        ug,
+        sg,
+        gs,
+        assignment,
+        records,
+        lits,
+        gfrom,
+        out,
+        notes,
+    );
     let counts = p.counts;
     let filled = lits.len() as u32;
     let made = (p.at / 3) as u32;
@@ -365,6 +387,45 @@ pub fn solver_from_user_lits(
     if !is_sound(c, gu, ug, sg, gs, assignment, records) {
         return PosedLits::Refused(1);
     }
+    known_solver_from_user_lits(
+        c,
+        gu,
+        ug,
+        sg,
+        gs,
+        assignment,
+        records,
+        lits,
+        sampling,
+        0,
+        out,
+        notes,
+    )
+}
+
+// Pose on a table known to be sound, which is not tested. Free globals are searched from `gfrom` on: no global below is deleted.
+// The same definition and answer.
+pub fn known_solver_from_user_lits(
+    c: Counts,
+    gu: &mut [u32],
+    ug: &mut [u32],
+    sg: &mut [u32],
+    gs: &mut [u32],
+    assignment: &mut [u32],
+    records: &mut [u32],
+    lits: &[u32],
+    sampling: bool,
+    gfrom: u32,
+    out: &mut [u32],
+    notes: &mut [u32],
+) -> PosedLits
+    requires { ⌜ soundb (given c gu ug sg gs assignment records) ≡ true ⌝ }
+    requires { ⌜ NoneFree (free (now records)) (c .global) gfrom ⌝ }
+    ensures { λ r. ⌜ Meets (λ t room. poseOf t (old lits) sampling (length (old out)) room) (posed r c)
+        (lent c gu ug sg gs assignment records notes) ⌝ }
+    ensures out { λ _. ⌜ Fills out 0 (poseOf (before c gu ug sg gs assignment records) (old lits) sampling
+        (length (old out)) (length (old notes)) .words) ⌝ }
+{
     let tried = pose_held(gu, sg, records, lits, sampling, out);
     if tried.filled {
         let filled = lits.len() as u32;
@@ -381,7 +442,74 @@ pub fn solver_from_user_lits(
         lits,
         tried.lead,
         sampling,
+        gfrom,
         out,
         notes,
     )
+}
+
+// The user has a solver index, below 4,096 as in every sound table, and is sampled if that is required.
+fn is_ready(gu: &[u32], sg: &[u32], records: &[u32], user: User, sampling: bool) -> bool
+    ensures { λ r. ⌜ r ≡ isReady (old gu) (old sg) (old records) sampling (user .0) ⌝ }
+{
+    let FoundGlobal::At(g) = global_of(gu, user) else {
+        return false;
+    };
+    let FoundSolver::At(s) = solver_of(sg, g) else {
+        return false;
+    };
+    if 4096 <= s.0 {
+        return false;
+    }
+    if !sampling {
+        return true;
+    }
+    if records.len() <= g.0 as usize {
+        return false;
+    }
+    records[g.0 as usize] % 3 == 0
+}
+
+// It is so of every literal's user.
+fn all_ready(gu: &[u32], sg: &[u32], records: &[u32], lits: &[u32], sampling: bool) -> bool
+    ensures { λ r. ⌜ r ≡ everyOf (λ c. isReady (old gu) (old sg) (old records) sampling (indexOf c)) (old lits) ⌝ }
+{
+    let mut i = 0;
+    while i < lits.len() {
+        if !is_ready(gu, sg, records, User(lits[i] / 2), sampling) {
+            return false;
+        }
+        i += 1;
+    }
+    true
+}
+
+// Pose of literals whose users all have solver indices, in the lists that it reads, of a table known to be sound: filled, where the call is accepted and
+// makes no note; nothing, where it is refused or makes one. Any words may be lent. Definition: specs/Ready.antt, `PosedAtOnce`.
+pub fn pose_in(
+    gu: &[u32],
+    sg: &[u32],
+    records: &[u32],
+    lits: &[u32],
+    sampling: bool,
+    out: &mut [u32],
+) -> bool
+    ensures { λ r. ⌜ ((t : Table) → soundb t ≡ true → t .globalFromUser ≡ old gu → t .solverFromGlobal ≡ old sg → t .records ≡ old records
+        → PosedAtOnce t (old lits) sampling r (old out) (new out)) ⌝ }
+{
+    if (8192 < lits.len()) | (out.len() < lits.len()) {
+        return false;
+    }
+    if !all_ready(gu, sg, records, lits, sampling) {
+        return false;
+    }
+    let mut i = 0;
+    while i < lits.len() {
+        let code = lits[i];
+        let g = gu[(code / 2) as usize] - 1;
+        let s = sg[g as usize] - 1;
+        out[i] = 2 * s + code % 2;
+        i += 1;
+    }
+    true
 }

@@ -1,7 +1,7 @@
 -- The removal of a held solver index: S(g,-), then D if unused.
 use Prim.Native.Nat.{ℕ, _+_, _*_, _/_, _≤_, _<_, _^_}
 use mathlib.Core.Path.{_≡_, refl, sym, ap, _∙_, subst}
-use mathlib.Core.Bool.{true, not}
+use mathlib.Core.Bool.{true, false, not}
 use mathlib.Core.List.{List, [], _∷_}
 use native.Mathlib.Omega.{arith}
 use lib.Dec.{eqb, ltb}
@@ -32,7 +32,7 @@ use Rattle.removal.specs.Answers.{removed}
 use Rattle.removal.proofs.CountingLaws.{removal-notes, removal-few, removal-some}
 use Rattle.scope.proofs.MarkLaws.{held-past}
 use Rattle.table.proofs.FoundLaws.{global-word}
-use Rattle.removal.proofs.RefusalLaws.{remove-is, remove-holding}
+use Rattle.removal.proofs.RefusalLaws.{remove-is, remove-holding, remove-1}
 
 -- S(g,-) alone
 abbrev taken : ℕ → ℕ → Table → Result (List ℕ)
@@ -137,3 +137,7 @@ pub remove-refused : (t : Table) (s n : ℕ) (words : List ℕ) → n ≡ remove
     → Does (removeOf t s (length words)) (removed (Refused n) (t .counts)) t words words
 unfolding removeOf
 remove-refused t s n words e z = call-refused (removeRefusal t s (length words)) n t _ words e z
+
+pub remove-unsound : (t : Table) (s : ℕ) (words : List ℕ) → soundb t ≡ false
+    → Does (removeOf t s (length words)) (removed (Refused 1) (t .counts)) t words words
+remove-unsound t s words n = remove-refused t s 1 words (remove-1 t s (length words) n) (λ z. omega arith)

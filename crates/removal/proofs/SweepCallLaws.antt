@@ -64,7 +64,7 @@ module _ (t : Table) (y : soundb t ≡ true) (s at : ℕ) (left : Table) (words 
 -- ---- the call
 
 module _ (t : Table) (room : ℕ) where
-  pub sweep-1 : soundb t ≡ false → 1 ≡ sweepRefusal t room
+  sweep-1 : soundb t ≡ false → 1 ≡ sweepRefusal t room
   unfolding sweepRefusal
   sweep-1 n = rw n
 
@@ -81,6 +81,9 @@ pub sweep-refused : (t : Table) (n : ℕ) (words : List ℕ) → n ≡ sweepRefu
     → Does (sweepOf t (length words)) (removed (Refused n) (t .counts)) t words words
 unfolding sweepOf
 sweep-refused t n words e z = call-refused (sweepRefusal t (length words)) n t _ words e z
+
+pub sweep-unsound : (t : Table) (words : List ℕ) → soundb t ≡ false → Does (sweepOf t (length words)) (removed (Refused 1) (t .counts)) t words words
+sweep-unsound t words n = sweep-refused t 1 words (sweep-1 t (length words) n) (λ z. omega arith)
 
 module _ (t : Table) (room n : ℕ) (e : n ≡ sweepRefusal t room) (z : n ≡ 0) where
   passed : (soundb t ≡ true) × (3 * length (sweep t .notes) ≤ room)

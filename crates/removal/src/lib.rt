@@ -11,12 +11,14 @@ use table::holder;
 use table::is_sound;
 use table::put_note;
 ghost use mathlib.Core.Path.{_≡_};
+ghost use mathlib.Core.Bool.{true};
 ghost use mathlib.Core.List.{List};
 ghost use Prim.Native.Nat.{ℕ, _+_, _≤_, _<_};
 ghost use lib.ListN.{length, getD};
 ghost use Rattle.base.specs.Lent.{old, new};
-ghost use Rattle.scope.specs.Contract.{before, lent, Meets};
+ghost use Rattle.scope.specs.Contract.{given, before, lent, Meets};
 ghost use Rattle.scope.specs.Table.{tableOf};
+ghost use Rattle.scope.specs.Sound.{soundb};
 ghost use Rattle.scope.specs.Remove.{removeHeld, removeRefusal, removeOf, sweepOne, sweep, sweepRefusal, sweepOf};
 ghost use Rattle.changes.specs.Leaves.{Leaves};
 ghost use Rattle.removal.specs.Counting.{removalNotes, learnt, isLoose, notesBy, NotesCounted};
@@ -61,6 +63,7 @@ fn removal_notes(user: u32, w: u32) -> u32
     1
 }
 
+// The first refusal of Remove that applies to a sound table, 0 for none.
 fn remove_refusal(
     c: Counts,
     gu: &[u32],
@@ -72,11 +75,9 @@ fn remove_refusal(
     solver: Solver,
     room: usize,
 ) -> u32
+    requires { ⌜ soundb (given c gu ug sg gs assignment records) ≡ true ⌝ }
     ensures { λ r. ⌜ r ≡ removeRefusal (before c gu ug sg gs assignment records) (solver .0) room ⌝ }
 {
-    if !is_sound(c, gu, ug, sg, gs, assignment, records) {
-        return 1;
-    }
     let FoundGlobal::At(global) = holder(gs, solver) else {
         return held_refusal(gs, solver);
     };
@@ -106,6 +107,29 @@ pub fn remove_solver_var(
     solver: Solver,
     notes: &mut [u32],
 ) -> Removed
+    ensures { λ r. ⌜ Meets (λ t room. removeOf t (solver .0) room) (removed r c)
+        (lent c gu ug sg gs assignment records notes) ⌝ }
+{
+    if !is_sound(c, gu, ug, sg, gs, assignment, records) {
+        return Removed::Refused(1);
+    }
+    known_remove_solver_var(c, gu, ug, sg, gs, assignment, records, solver, notes)
+}
+
+// Remove on a table known to be sound, which is not tested.
+// The same answer as `remove_solver_var`.
+pub fn known_remove_solver_var(
+    c: Counts,
+    gu: &[u32],
+    ug: &[u32],
+    sg: &mut [u32],
+    gs: &mut [u32],
+    assignment: &[u32],
+    records: &mut [u32],
+    solver: Solver,
+    notes: &mut [u32],
+) -> Removed
+    requires { ⌜ soundb (given c gu ug sg gs assignment records) ≡ true ⌝ }
     ensures { λ r. ⌜ Meets (λ t room. removeOf t (solver .0) room) (removed r c)
         (lent c gu ug sg gs assignment records notes) ⌝ }
 {
@@ -173,6 +197,7 @@ fn count_notes(mark: u32, ug: &[u32], gs: &[u32], assignment: &[u32], records: &
     n
 }
 
+// The first refusal of Sweep that applies to a sound table, 0 for none.
 fn sweep_refusal(
     c: Counts,
     gu: &[u32],
@@ -183,11 +208,9 @@ fn sweep_refusal(
     records: &[u32],
     room: usize,
 ) -> u32
+    requires { ⌜ soundb (given c gu ug sg gs assignment records) ≡ true ⌝ }
     ensures { λ r. ⌜ r ≡ sweepRefusal (before c gu ug sg gs assignment records) room ⌝ }
 {
-    if !is_sound(c, gu, ug, sg, gs, assignment, records) {
-        return 1;
-    }
     let n = count_notes(c.solver, ug, gs, assignment, records) as usize;
     if room < 3 * n {
         return 2;
@@ -270,6 +293,28 @@ pub fn sweep(
     records: &mut [u32],
     notes: &mut [u32],
 ) -> Removed
+    ensures { λ r. ⌜ Meets (λ t room. sweepOf t room) (removed r c)
+        (lent c gu ug sg gs assignment records notes) ⌝ }
+{
+    if !is_sound(c, gu, ug, sg, gs, assignment, records) {
+        return Removed::Refused(1);
+    }
+    known_sweep(c, gu, ug, sg, gs, assignment, records, notes)
+}
+
+// Sweep on a table known to be sound, which is not tested.
+// The same answer as `sweep`.
+pub fn known_sweep(
+    c: Counts,
+    gu: &[u32],
+    ug: &[u32],
+    sg: &mut [u32],
+    gs: &mut [u32],
+    assignment: &[u32],
+    records: &mut [u32],
+    notes: &mut [u32],
+) -> Removed
+    requires { ⌜ soundb (given c gu ug sg gs assignment records) ≡ true ⌝ }
     ensures { λ r. ⌜ Meets (λ t room. sweepOf t room) (removed r c)
         (lent c gu ug sg gs assignment records notes) ⌝ }
 {

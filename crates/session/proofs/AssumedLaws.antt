@@ -87,7 +87,7 @@ call-assumes f Calls.model rooms t g s n = keeps f _ t g s refl
 
 -- ---- any list of calls
 
-after-table : (σ : State) (call : Calls.Call) (o : Outcome) (a : Answer) → enter σ call o a .table ≡ o .table
+pub after-table : (σ : State) (call : Calls.Call) (o : Outcome) (a : Answer) → enter σ call o a .table ≡ o .table
 unfolding enter
 after-table σ call o (accepted vs) = refl
 after-table σ call o (refused n vs) = refl

@@ -18,3 +18,5 @@ pub mod MetLaws
 pub mod OneProgram
 pub mod RuledOut
 pub mod RenamedLaws
+pub mod KnownLaws
+pub mod CursorsKept

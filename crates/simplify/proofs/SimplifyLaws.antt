@@ -17,8 +17,9 @@ use Rattle.base.proofs.SetsLaws.{sets-append}
 use Rattle.drat.specs.Grammar.{encode, Codes}
 use Rattle.drat.specs.declared.Format.{Format}
 use Rattle.drat.proofs.Complete.{encode-append}
-use Rattle.scope.specs.declared.DeleteClauseProof.{DeleteClauseProof}
 use Rattle.scope.specs.declared.DeleteClauseProof.the-variants.{Simplified as simpler}
+use Rattle.scope.specs.declared.Writes.{Writes}
+use Rattle.scope.specs.declared.Writes.the-variants.{Add as adds, Delete as deletes}
 use Rattle.scope.specs.declared.ProofStep.the-variants.{AtClause, DeleteClause}
 use Rattle.scope.specs.declared.Simplified.{Simplified}
 use Rattle.scope.specs.declared.Simplified.the-variants.{Kept, Dropped, Shortened, Binary}
@@ -26,7 +27,7 @@ use Rattle.scope.specs.Table.{Table, tableOf}
 use Rattle.scope.specs.Notes.{Note, notesWords}
 use Rattle.scope.specs.Contract.{Does}
 use Rattle.scope.specs.Sound.{soundb}
-use Rattle.scope.specs.Steps.{clauseSteps}
+use Rattle.scope.specs.Steps.{written, clauseSteps}
 use Rattle.scope.specs.Outcome.{Outcome, refusal, unless}
 use Rattle.scope.specs.Write.{renameLits, holders, outside}
 use Rattle.scope.specs.Marks.{litsHeldElse}
@@ -143,6 +144,9 @@ module _ (f : Format) (t : Table) (lits : List ℕ) (redundant : Bool) (outs roo
   unfolding simplifyOf
   comes-first n e h = unless-some n (simplifyRefusal f t lits redundant outs room) t _ (first n e h) h
 
+  pub comes-unsound : soundb t ≡ false → outcome ≡ refusal 1 t
+  comes-unsound h = comes-first 1 (refuse-1 t lits h) (λ q. omega arith)
+
   pub comes-12 : (what : Simplified) → clauseRefusal t lits ≡ 0 → simplified t lits ≡ what → tooFew t lits ≡ true → outcome ≡ refusal 12 t
   unfolding unless
   comes-12 what z s p = by-sort what true _ _ z s p refl refl
@@ -195,40 +199,42 @@ module _ (f : Format) (t : Table) (lits : List ℕ) (redundant : Bool) (room : �
 -- ---- dropped
 
 -- the bytes of the one delete step
-abbrev dropBytes : Format → List ℕ → List ℕ → DeleteClauseProof → List ℕ
-dropBytes f gs lits cause = encode f (clauseSteps (DeleteClause cause) (namesBy gs true lits))
+abbrev dropBytes : Format → List ℕ → List ℕ → Writes → List ℕ
+dropBytes f gs lits w = encode f (written w (namesBy gs true lits))
 
-module _ (f : Format) (t : Table) (gs lits : List ℕ) (redundant : Bool) (cause : DeleteClauseProof) (outs : ℕ) (o x : List ℕ)
-    (g : t .globalFromSolver ≡ gs) (s : SortedAs t lits Dropped) where
-  drop-here : (b : Bool) → ltb (length o) (length (dropBytes f gs lits cause)) ≡ b
+module _ (f : Format) (t : Table) (gs lits : List ℕ) (redundant : Bool) (w : Writes) (outs : ℕ) (o x : List ℕ)
+    (d : w ≡ deletes) (g : t .globalFromSolver ≡ gs) (s : SortedAs t lits Dropped) where
+  drop-same : dropBytes f gs lits w ≡ bytesAs f t lits redundant outs (length o) Dropped
+  drop-same = ap₂ (λ (x : Writes) (y : List ℕ). dropBytes f y lits x) d (sym g)
+
+  drop-here : (b : Bool) → ltb (length o) (length (dropBytes f gs lits w)) ≡ b
       → ltb (length o) (length (bytesAs f t lits redundant outs (length o) Dropped)) ≡ b
-  drop-here b e = ap (λ (w : List ℕ). ltb (length o) (length (dropBytes f w lits cause))) g ∙ e
+  drop-here b e = ap (λ (bs : List ℕ). ltb (length o) (length bs)) (sym drop-same) ∙ e
 
-  pub dropped-short : (n : ℕ) (r : Recorded) → r ≡ laid (dropBytes f gs lits cause) (length o) → r ≡ W.Refused n
-      → x ≡ sets o 0 (laidBytes (dropBytes f gs lits cause) (length o))
+  pub dropped-short : (n : ℕ) (r : Recorded) → r ≡ laid (dropBytes f gs lits w) (length o) → r ≡ W.Refused n
+      → x ≡ sets o 0 (laidBytes (dropBytes f gs lits w) (length o))
       → (refused 2 [] ≡ outcome f t lits redundant outs (length o) .answer) × (x ≡ sets o 0 (outcome f t lits redundant outs (length o) .bytes))
   dropped-short n r e q u =
-      let w = laid-refused (dropBytes f gs lits cause) (length o) n r e q in
+      let h = laid-refused (dropBytes f gs lits w) (length o) n r e q in
       let k = comes-2-bytes f t lits redundant outs (length o) Dropped (s .passes) (s .sort) (few-dropped t lits (s .sort)) (omega arith)
-      (drop-here true w) in (
+      (drop-here true h) in (
         sym (ap (λ (p : Outcome). p .answer) k),
-        filled-refused (dropBytes f gs lits cause) o x w u
+        filled-refused (dropBytes f gs lits w) o x h u
             ∙ sym (ap (λ (p : Outcome). sets o 0 (p .bytes)) k),
       )
 
-  pub dropped-filled : (n : ℕ) (r : Recorded) → r ≡ laid (dropBytes f gs lits cause) (length o) → r ≡ W.Done n
-      → x ≡ sets o 0 (laidBytes (dropBytes f gs lits cause) (length o))
+  pub dropped-filled : (n : ℕ) (r : Recorded) → r ≡ laid (dropBytes f gs lits w) (length o) → r ≡ W.Done n
+      → x ≡ sets o 0 (laidBytes (dropBytes f gs lits w) (length o))
       → (accepted (1 ∷ 0 ∷ 0 ∷ n ∷ []) ≡ outcome f t lits redundant outs (length o) .answer)
       × (x ≡ sets o 0 (outcome f t lits redundant outs (length o) .bytes))
   dropped-filled n r e q u =
-      let w = laid-done (dropBytes f gs lits cause) (length o) n r e q in
-      let h = ap (λ (v : List ℕ). dropBytes f v lits cause) (sym g) in
+      let h = laid-done (dropBytes f gs lits w) (length o) n r e q in
       let k = comes-filled f t lits redundant outs (length o) Dropped (s .passes) (s .sort) (few-dropped t lits (s .sort)) (omega arith)
-      (drop-here false (w .0)) in (
-        ap (λ (m : ℕ). accepted (1 ∷ 0 ∷ 0 ∷ m ∷ [])) (w .1 ∙ ap length h)
+      (drop-here false (h .0)) in (
+        ap (λ (m : ℕ). accepted (1 ∷ 0 ∷ 0 ∷ m ∷ [])) (h .1 ∙ ap length drop-same)
             ∙ sym (ap (λ (p : Outcome). p .answer) k),
-        filled-done (dropBytes f gs lits cause) o x (w .0) u
-            ∙ ap (sets o 0) h
+        filled-done (dropBytes f gs lits w) o x (h .0) u
+            ∙ ap (sets o 0) drop-same
             ∙ sym (ap (λ (p : Outcome). sets o 0 (p .bytes)) k),
       )
 
@@ -244,35 +250,33 @@ cut-steps : (what : Simplified) (redundant : Bool) (rest clause : List ℕ) → 
 cut-steps Shortened redundant rest clause shortened = refl
 cut-steps Binary redundant rest clause binary = refl
 
--- the bytes of the add step, then those of the delete step
-pub cut-bytes : (f : Format) (what : Simplified) (redundant flag : Bool) (cause : DeleteClauseProof) (rest clause : List ℕ) → Cuts what
-    → encode f (simplifySteps what redundant rest clause) ≡ encode f (clauseSteps (AtClause flag) rest) ++ encode f (clauseSteps (DeleteClause cause) clause)
-cut-bytes f what redundant flag cause rest clause k =
-    ap (encode f) (cut-steps what redundant rest clause k)
-    ∙ encode-append f (clauseSteps (AtClause flag) rest) (clauseSteps (DeleteClause cause) clause)
+-- both steps, one that adds and one that deletes
+module _ (f : Format) (what : Simplified) (redundant : Bool) (v w : Writes) (rest clause : List ℕ) (i : v ≡ adds) (d : w ≡ deletes) (k : Cuts what) where
+  abbrev cutBytes : List ℕ
+  cutBytes = encode f (simplifySteps what redundant rest clause)
 
--- both steps laid where there is room for both
-pub both-short : (f : Format) (what : Simplified) (redundant flag : Bool) (cause : DeleteClauseProof) (rest clause o : List ℕ) (a b : ℕ) → Cuts what
-    → a ≡ length (encode f (clauseSteps (AtClause flag) rest)) → b ≡ length (encode f (clauseSteps (DeleteClause cause) clause)) → length o < a + b
-    → (W.Refused 2 ≡ laid (encode f (simplifySteps what redundant rest clause)) (length o))
-    × (o ≡ sets o 0 (laidBytes (encode f (simplifySteps what redundant rest clause)) (length o)))
-both-short f what redundant flag cause rest clause o a b k p q l =
-    let e = ap length (cut-bytes f what redundant flag cause rest clause k) in
-    let x = encode f (clauseSteps (AtClause flag) rest) in
-    let y = encode f (clauseSteps (DeleteClause cause) clause) in
-    short-laid (encode f (simplifySteps what redundant rest clause)) o (a + b) (omega (arith, e, length-append x y)) l
+  -- the bytes of the add step, then those of the delete step
+  cut-bytes : cutBytes ≡ encode f (written v rest) ++ encode f (written w clause)
+  cut-bytes =
+      ap (encode f) (cut-steps what redundant rest clause k)
+      ∙ encode-append f (written adds rest) (written deletes clause)
+      ∙ ap₂ (λ (x y : Writes). encode f (written x rest) ++ encode f (written y clause)) (sym i) (sym d)
 
-pub both-whole : (f : Format) (what : Simplified) (redundant flag : Bool) (cause : DeleteClauseProof) (rest clause o u v : List ℕ) (a b : ℕ) → Cuts what
-    → a ≡ length (encode f (clauseSteps (AtClause flag) rest)) → b ≡ length (encode f (clauseSteps (DeleteClause cause) clause)) → a + b ≤ length o
-    → u ≡ sets o 0 (encode f (clauseSteps (AtClause flag) rest)) → v ≡ sets u a (encode f (clauseSteps (DeleteClause cause) clause))
-    → (W.Done (a + b) ≡ laid (encode f (simplifySteps what redundant rest clause)) (length o))
-    × (v ≡ sets o 0 (laidBytes (encode f (simplifySteps what redundant rest clause)) (length o)))
-both-whole f what redundant flag cause rest clause o u v a b k p q l m n =
-    let e = cut-bytes f what redundant flag cause rest clause k in
-    let x = encode f (clauseSteps (AtClause flag) rest) in
-    let y = encode f (clauseSteps (DeleteClause cause) clause) in
-    whole-laid (encode f (simplifySteps what redundant rest clause)) o v (a + b) (omega (arith, ap length e, length-append x y)) l
-    (n ∙ ap₂ (λ (w : List ℕ) (i : ℕ). sets w i y) m (p ∙ omega arith) ∙ sym (sets-append x y o 0) ∙ sym (ap (sets o 0) e))
+  -- laid where there is room for both
+  pub both-short : (o : List ℕ) (a b : ℕ) → a ≡ length (encode f (written v rest)) → b ≡ length (encode f (written w clause)) → length o < a + b
+      → (W.Refused 2 ≡ laid cutBytes (length o)) × (o ≡ sets o 0 (laidBytes cutBytes (length o)))
+  both-short o a b p q l =
+      let e = ap length cut-bytes in
+      short-laid cutBytes o (a + b) (omega (arith, e, length-append (encode f (written v rest)) (encode f (written w clause)))) l
+
+  pub both-whole : (o x y : List ℕ) (a b : ℕ) → a ≡ length (encode f (written v rest)) → b ≡ length (encode f (written w clause)) → a + b ≤ length o
+      → x ≡ sets o 0 (encode f (written v rest)) → y ≡ sets x a (encode f (written w clause))
+      → (W.Done (a + b) ≡ laid cutBytes (length o)) × (y ≡ sets o 0 (laidBytes cutBytes (length o)))
+  both-whole o x y a b p q l m n =
+      let e = encode f (written v rest) in
+      let u = encode f (written w clause) in
+      whole-laid cutBytes o y (a + b) (omega (arith, ap length cut-bytes, length-append e u)) l
+      (n ∙ ap₂ (λ (h : List ℕ) (j : ℕ). sets h j u) m (p ∙ omega arith) ∙ sym (sets-append e u o 0) ∙ sym (ap (sets o 0) cut-bytes))
 
 module _ (f : Format) (t : Table) (lits : List ℕ) (redundant : Bool) (outs room : ℕ) (what : Simplified) (z : clauseRefusal t lits ≡ 0)
     (s : simplified t lits ≡ what) (k : Cuts what) where
@@ -323,43 +327,43 @@ module _ (t : Table) (gs values lits : List ℕ) (g : t .globalFromSolver ≡ gs
   pub clause-here : namesBy gs true lits ≡ renameLits (holders t) true lits
   clause-here = ap (λ (x : List ℕ). namesBy x true lits) (sym g)
 
--- ---- names in buffers of 8,192
+-- ---- names in buffers that have room for them
 
-module _ (gs lits : List ℕ) (n : Nameable gs true lits) (o : List ℕ) (e : length o ≡ 8192) where
-  pub room-clause : length lits ≤ length o
-  room-clause = let h = n .few in omega arith
-
+module _ (gs lits : List ℕ) (n : Nameable gs true lits) (o : List ℕ) (e : length lits ≤ length o) where
   codes : (ls : List ℕ) → Codes (namesBy gs true ls)
   codes ls = names-codes gs true ls (n .small) (λ q. absurd (true≢false q))
 
   module _ (m : List ℕ) (q : m ≡ sets o 0 (namesBy gs true lits)) where
     pub clause-part : take (length lits) m ≡ namesBy gs true lits
-    clause-part = names-part gs true lits o m e (n .few) q
+    clause-part = names-part gs true lits o m e q
 
     pub clause-written : Written (take (length lits) m)
-    clause-written = let w = names-written gs true lits o m e (n .few) q (codes lits) in record { codes = w .0; few = w .1 }
+    clause-written = let w = names-written gs true lits o m e q (n .few) (codes lits) in record { codes = w .0; few = w .1 }
 
     pub clause-within : length lits ≤ length m
-    clause-within = names-within gs true lits o m e (n .few) q
+    clause-within = names-within gs true lits o m e q
 
   module _ (values : List ℕ) where
+    rest-most : length (unfalseBy values lits) ≤ length lits
+    rest-most = keep-length (λ c. not (falseBy values c)) lits
+
     pub room-rest : length (unfalseBy values lits) ≤ length o
-    room-rest = let h = room-clause in let k = keep-length (λ c. not (falseBy values c)) lits in omega arith
+    room-rest = let h = rest-most in omega arith
 
     rest-few : length (unfalseBy values lits) ≤ 8192
-    rest-few = let h = room-rest in omega arith
+    rest-few = let h = rest-most in let k = n .few in omega arith
 
     module _ (m : List ℕ) (k : ℕ) (l : k ≡ length (unfalseBy values lits)) (q : m ≡ sets o 0 (namesBy gs true (unfalseBy values lits))) where
       pub rest-part : take k m ≡ namesBy gs true (unfalseBy values lits)
-      rest-part = ap (λ (i : ℕ). take i m) l ∙ names-part gs true (unfalseBy values lits) o m e rest-few q
+      rest-part = ap (λ (i : ℕ). take i m) l ∙ names-part gs true (unfalseBy values lits) o m room-rest q
 
       pub rest-written : Written (take k m)
       rest-written =
-          let w = names-written gs true (unfalseBy values lits) o m e rest-few q (codes (unfalseBy values lits)) in
+          let w = names-written gs true (unfalseBy values lits) o m room-rest q rest-few (codes (unfalseBy values lits)) in
           subst (λ (i : ℕ). Written (take i m)) (sym l) (record { codes = w .0; few = w .1 })
 
       pub rest-within : k ≤ length m
-      rest-within = let h = names-within gs true (unfalseBy values lits) o m e rest-few q in omega arith
+      rest-within = let h = names-within gs true (unfalseBy values lits) o m room-rest q in omega arith
 
 answer-is : (what : Simplified) (m n : ℕ) (flag : Bool) (i j : ℕ) (g : Bool) → m ≡ i → n ≡ j → flag ≡ g
     → accepted (simplifiedNumber what ∷ m ∷ pick flag 1 0 ∷ n ∷ []) ≡ accepted (simplifiedNumber what ∷ i ∷ pick g 1 0 ∷ j ∷ [])

@@ -8,6 +8,7 @@ use scope::Counts;
 use scope::DeleteClauseProof;
 use scope::ProofStep;
 use scope::Simplified;
+use steps::kinds::rule_of;
 use steps::rename::literal_refusal;
 use steps::rename::rename_lits;
 use steps::write::Recorded;
@@ -18,14 +19,15 @@ use table::copy_lits;
 use table::is_sound;
 ghost use mathlib.Core.Path.{_≡_};
 ghost use mathlib.Core.Bool.{Bool, true};
-ghost use Prim.Native.Nat.{ℕ};
+ghost use Prim.Native.Nat.{ℕ, _≤_};
 ghost use lib.ListN.{length};
 ghost use Rattle.base.specs.Lent.{old, new, Fills};
 ghost use Rattle.drat.specs.declared.Format.{Format};
 ghost use Rattle.drat.specs.Grammar.{encode};
 ghost use Rattle.scope.specs.declared.Simplified.the-variants.{Kept, Dropped};
 ghost use Rattle.scope.specs.Table.{Table};
-ghost use Rattle.scope.specs.Contract.{before, quiet, Meets};
+ghost use Rattle.scope.specs.Sound.{soundb};
+ghost use Rattle.scope.specs.Contract.{before, given, quiet, Meets};
 ghost use Rattle.scope.specs.Simplify.{flagOf, deleteCause, simplifySteps, simplifyOf};
 ghost use Rattle.steps.specs.Names.{namesBy, Nameable};
 ghost use Rattle.steps.specs.Refusals.{laid, laidBytes};
@@ -33,7 +35,7 @@ ghost use Rattle.simplify.specs.Cuts.{clauseRefusal, SortedAs, Cuts, Wri
 ghost use Rattle.simplify.specs.Values.{unfalseBy};
 ghost use Rattle.simplify.specs.Answers.{reduced};
 
-// The first refusal that a clause has before its values are looked at, 0 for none: 1, 3, 8.
+// The first refusal that a clause has on a sound table before its values are looked at, 0 for none: 3, 8.
 fn clause_refusal(
     c: Counts,
     gu: &[u32],
@@ -44,11 +46,9 @@ fn clause_refusal(
     records: &[u32],
     lits: &[u32],
 ) -> u32
+    requires { ⌜ soundb (given c gu ug sg gs assignment records) ≡ true ⌝ }
     ensures { λ r. ⌜ r ≡ clauseRefusal (before c gu ug sg gs assignment records) (old lits) ⌝ }
 {
-    if !is_sound(c, gu, ug, sg, gs, assignment, records) {
-        return 1;
-    }
     literal_refusal(c, gs, true, lits)
 }
 
@@ -102,7 +102,9 @@ fn drop_clause(gs: &[u32], f: Format, lits: &[u32], redundant: bool, bytes: &mut
 {
     let cause = delete_cause(redundant, DeleteClauseProof::Satisfied);
     let step = ProofStep::DeleteClause(cause);
-    let wrote = write_judged(gs, f, step, true, lits, bytes);
+    let rule = rule_of(step);
+    let writes = rule.writes;
+    let wrote = write_judged(gs, f, writes, true, lits, bytes);
     let Recorded::Done(n) = wrote else {
         return Reduced::Refused(2);
     };
@@ -126,15 +128,19 @@ fn put_both(
 {
     let flag = add_flag(what, redundant);
     let first = ProofStep::AtClause(flag);
+    let firstrule = rule_of(first);
+    let adds = firstrule.writes;
     let cause = delete_cause(redundant, DeleteClauseProof::Simplified);
     let second = ProofStep::DeleteClause(cause);
-    let a = bytes_len(f, first, rest);
-    let b = bytes_len(f, second, clause);
+    let secondrule = rule_of(second);
+    let deletes = secondrule.writes;
+    let a = bytes_len(f, adds, rest);
+    let b = bytes_len(f, deletes, clause);
     if bytes.len() < a + b {
         return Recorded::Refused(2);
     }
-    put_bytes(f, first, rest, bytes, 0);
-    put_bytes(f, second, clause, bytes, a);
+    put_bytes(f, adds, rest, bytes, 0);
+    put_bytes(f, deletes, clause, bytes, a);
     Recorded::Done(a + b)
 }
 
@@ -147,8 +153,8 @@ fn name_both(
     clause: &mut [u32],
 ) -> usize
     requires { ⌜ Nameable (now gs) true (now lits) ⌝ }
-    requires { ⌜ length (now rest) ≡ 8192 ⌝ }
-    requires { ⌜ length (now clause) ≡ 8192 ⌝ }
+    requires { ⌜ length (now lits) ≤ length (now rest) ⌝ }
+    requires { ⌜ length (now lits) ≤ length (now clause) ⌝ }
     ensures { λ r. ⌜ r ≡ length (unfalseBy (old assignment) (old lits)) ⌝ }
     ensures rest { λ _. ⌜ Fills rest 0 (namesBy (old gs) true (unfalseBy (old assignment) (old lits))) ⌝ }
     ensures clause { λ _. ⌜ Fills clause 0 (namesBy (old gs) true (old lits)) ⌝ }
@@ -157,7 +163,44 @@ fn name_both(
     keep_rest(gs, assignment, true, lits, rest)
 }
 
-// A clause from which false literals went: 12, 2.
+// A clause from which false literals went, with places for the names of the rest and of the old clause: 12, 2.
+fn shorten_over(
+    gs: &[u32],
+    assignment: &[u32],
+    f: Format,
+    what: Simplified,
+    lits: &[u32],
+    redundant: bool,
+    rest: &mut [u32],
+    clause: &mut [u32],
+    out: &mut [u32],
+    bytes: &mut [u8],
+) -> Reduced
+    requires { ⌜ Nameable (now gs) true (now lits) ⌝ }
+    requires { ⌜ Cuts what ⌝ }
+    requires { ⌜ length (now lits) ≤ length (now rest) ⌝ }
+    requires { ⌜ length (now lits) ≤ length (now clause) ⌝ }
+    ensures { λ r. ⌜ ((t : Table) → SortedAs t (old lits) what → t .globalFromSolver ≡ old gs → t .assignment ≡ old assignment →
+        let o = simplifyOf f t (old lits) redundant (length (old out)) (length (old bytes)) in
+        (reduced r (t .counts) .answer ≡ o .answer) × (Fills out 0 (o .words) × Fills bytes 0 (o .bytes))) ⌝ }
+{
+    let k = name_both(gs, assignment, lits, rest, clause);
+    if k < 2 {
+        return Reduced::Refused(12);
+    }
+    if out.len() < k {
+        return Reduced::Refused(2);
+    }
+    let m = lits.len();
+    let wrote = put_both(f, what, redundant, &rest[..k], &clause[..m], bytes);
+    let Recorded::Done(n) = wrote else {
+        return Reduced::Refused(2);
+    };
+    keep_rest(gs, assignment, false, lits, out);
+    Reduced::Done(what, k, add_flag(what, redundant), n)
+}
+
+// The same, the places lent: short ones for few literals, since they are cleared at each call.
 fn shorten_clause(
     gs: &[u32],
     assignment: &[u32],
@@ -174,22 +217,36 @@ fn shorten_clause(
         let o = simplifyOf f t (old lits) redundant (length (old out)) (length (old bytes)) in
         (reduced r (t .counts) .answer ≡ o .answer) × (Fills out 0 (o .words) × Fills bytes 0 (o .bytes))) ⌝ }
 {
+    if lits.len() <= 32 {
+        let mut fewrest = [0u32; 32];
+        let mut fewclause = [0u32; 32];
+        return shorten_over(
+            gs,
+            assignment,
+            f,
+            what,
+            lits,
+            redundant,
+            &mut fewrest,
+            &mut fewclause,
+            out,
+            bytes,
+        );
+    }
     let mut rest = [0u32; 8192];
     let mut clause = [0u32; 8192];
-    let k = name_both(gs, assignment, lits, &mut rest, &mut clause);
-    if k < 2 {
-        return Reduced::Refused(12);
-    }
-    if out.len() < k {
-        return Reduced::Refused(2);
-    }
-    let m = lits.len();
-    let wrote = put_both(f, what, redundant, &rest[..k], &clause[..m], bytes);
-    let Recorded::Done(n) = wrote else {
-        return Reduced::Refused(2);
-    };
-    keep_rest(gs, assignment, false, lits, out);
-    Reduced::Done(what, k, add_flag(what, redundant), n)
+    shorten_over(
+        gs,
+        assignment,
+        f,
+        what,
+        lits,
+        redundant,
+        &mut rest,
+        &mut clause,
+        out,
+        bytes,
+    )
 }
 
 // Simplify (document 01, "Simplify a clause"; 1, 3, 8, 12, 2): the closure of `unit_simplify`.
@@ -208,6 +265,49 @@ pub fn simplify_clause(
     out: &mut [u32],
     bytes: &mut [u8],
 ) -> Reduced
+    ensures { λ r. ⌜ Meets (λ t room. simplifyOf f t (old lits) redundant (length (old out)) (length (old bytes))) (reduced r c)
+        (quiet c gu ug sg gs assignment records) ⌝ }
+    ensures out { λ _. ⌜ Fills out 0
+        (simplifyOf f (before c gu ug sg gs assignment records) (old lits) redundant (length (old out)) (length (old bytes)) .words) ⌝ }
+    ensures bytes { λ _. ⌜ Fills bytes 0
+        (simplifyOf f (before c gu ug sg gs assignment records) (old lits) redundant (length (old out)) (length (old bytes)) .bytes) ⌝ }
+{
+    if !is_sound(c, gu, ug, sg, gs, assignment, records) {
+        return Reduced::Refused(1);
+    }
+    known_simplify_clause(
+        c,
+        gu,
+        ug,
+        sg,
+        gs,
+        assignment,
+        records,
+        f,
+        lits,
+        redundant,
+        out,
+        bytes,
+    )
+}
+
+// Simplify on a table known to be sound, which is not tested.
+// The same definition and answer.
+pub fn known_simplify_clause(
+    c: Counts,
+    gu: &[u32],
+    ug: &[u32],
+    sg: &[u32],
+    gs: &[u32],
+    assignment: &[u32],
+    records: &[u32],
+    f: Format,
+    lits: &[u32],
+    redundant: bool,
+    out: &mut [u32],
+    bytes: &mut [u8],
+) -> Reduced
+    requires { ⌜ soundb (given c gu ug sg gs assignment records) ≡ true ⌝ }
     ensures { λ r. ⌜ Meets (λ t room. simplifyOf f t (old lits) redundant (length (old out)) (length (old bytes))) (reduced r c)
         (quiet c gu ug sg gs assignment records) ⌝ }
     ensures out { λ _. ⌜ Fills out 0

@@ -1,6 +1,6 @@
 -- Literals: what they are refused for, and their global names.
 use Prim.Native.Nat.{ℕ, zero, suc, _+_, _-_, _*_, _/_, _%_, _≤_, _<_}
-use mathlib.Core.Path.{_≡_, refl, sym, ap, _∙_, subst}
+use mathlib.Core.Path.{_≡_, refl, sym, ap, ap₂, _∙_, subst}
 use mathlib.Core.Bool.{Bool, true, false, _&&_, _||_, not, true≢false}
 use mathlib.Core.Logic.{⊎-elim, _≢_}
 use mathlib.Core.List.{List, [], _∷_, map}
@@ -11,7 +11,7 @@ use lib.Seq.{sets, length-sets}
 use borrow.Author.Tests.{ne-eqb, lt-ltb, le-ltb, ltb-false, eqb-false, leb-false}
 use Rattle.base.specs.Bounded.{anyOf}
 use Rattle.base.proofs.Truth.{same}
-use Rattle.base.proofs.MemberLaws.{any-none, or-left, or-right, word-inside}
+use Rattle.base.proofs.MemberLaws.{any-none, or-left, or-right, or-none, word-inside}
 use Rattle.drat.specs.Grammar.{Codes}
 use Rattle.scope.specs.declared.Counts.{Counts}
 use Rattle.scope.specs.Table.{Table}
@@ -23,7 +23,7 @@ use Rattle.scope.proofs.SoundLaws.{sound-of}
 use Rattle.scope.proofs.PairLaws.{below-mark, pair-flip}
 use Rattle.scope.proofs.ResultLaws.{past}
 use Rattle.scope.proofs.MarkLaws.{lits-past, lits-else}
-use Rattle.steps.specs.Names.{namesBy, Nameable}
+use Rattle.steps.specs.Names.{namesBy, Nameable, unnamed}
 use Rattle.steps.specs.Refusals.{literalRefusal}
 use Rattle.base.proofs.StoreLaws.{stored-part}
 
@@ -71,6 +71,11 @@ clear t s lits e =
 pub word-filled : (w g : ℕ) → w ≡ g + 1 → eqb w 0 ≡ false
 word-filled w g e = ne-eqb w 0 (λ z. omega arith)
 
+any-same : (p q : ℕ → Bool) → ((c : ℕ) → p c ≡ q c) → (xs : List ℕ) → anyOf p xs ≡ anyOf q xs
+unfolding anyOf
+any-same p q h [] = refl
+any-same p q h (x ∷ xs) = ap₂ (λ (a b : Bool). a || b) (h x) (any-same p q h xs)
+
 -- a map's word of a sound table is at most 4,096
 word-small : (t : Table) → soundb t ≡ true → (s : ℕ) → getD (t .globalFromSolver) s 0 ≤ 4096
 word-small t h s = ⊎-elim
@@ -82,6 +87,29 @@ word-small t h s = ⊎-elim
     let k = below-mark (w - 1) s (pair-flip p) (p .inverse s (w - 1) .0 (omega arith)) in
     omega arith)
     (same (getD (t .globalFromSolver) s 0) 0)
+
+-- a literal has no name by the map: what `unnamed` asks of each, and the same of its word
+abbrev pub lacks : List ℕ → ℕ → Bool
+lacks gs c = eqb (getD gs (indexOf c) 0) 0 || ltb 4096 (getD gs (indexOf c) 0)
+
+pub lacks-by : (gs : List ℕ) (c w : ℕ) (b : Bool) → w ≡ getD gs (c / 2) 0 → (eqb w 0 || ltb 4096 w) ≡ b → lacks gs c ≡ b
+lacks-by gs c w b e q = sym (ap (λ (x : ℕ). eqb x 0 || ltb 4096 x) e) ∙ q
+
+-- on a sound table a literal has no name where its index has no holder
+pub unnamed-sound : (t : Table) (gs lits : List ℕ) → soundb t ≡ true → t .globalFromSolver ≡ gs
+    → unnamed gs lits ≡ anyOf (λ c. eqb (getD gs (indexOf c) 0) 0) lits
+unnamed-sound t gs lits h e = any-same _ _ (λ c. plain (getD gs (c / 2) 0) (subst (λ (l : List ℕ). getD l (c / 2) 0 ≤ 4096) e (word-small t h (c / 2)))) lits
+  where
+    plain : (w : ℕ) → w ≤ 4096 → eqb w 0 || ltb 4096 w ≡ eqb w 0
+    plain w l = rw (le-ltb 4096 w l) (or-none (eqb w 0))
+
+-- the word of a literal that has a name
+pub named-at : (gs lits : List ℕ) (i : ℕ) → unnamed gs lits ≡ false → i < length lits
+    → (getD gs (getD lits i 0 / 2) 0 ≤ 4096) × (true ≡ true → getD gs (getD lits i 0 / 2) 0 ≢ 0)
+named-at gs lits i u l =
+    let w = getD gs (getD lits i 0 / 2) 0 in
+    let n = any-none (lacks gs) lits i 0 u l in
+    (ltb-false 4096 w (or-right (eqb w 0) (ltb 4096 w) n), λ q. eqb-false w 0 (or-left (eqb w 0) (ltb 4096 w) n))
 
 -- the index of a held literal has a holder
 held-at : (t : Table) (s : Bool) (lits : List ℕ) (i : ℕ) → unheld t s lits ≡ false → i < length lits → s ≡ true
@@ -147,16 +175,16 @@ names-codes gs s lits w g i l =
     go true h k = let x = w (getD lits i 0 / 2) in omega arith
     go false h k = h refl i k
 
--- ---- names in a buffer of 8,192
+-- ---- names in a buffer that has room for them
 
-module _ (gs : List ℕ) (s : Bool) (lits zs m : List ℕ) (z : length zs ≡ 8192) (h : length lits ≤ 8192) (e : m ≡ sets zs 0 (namesBy gs s lits)) where
+module _ (gs : List ℕ) (s : Bool) (lits zs m : List ℕ) (z : length lits ≤ length zs) (e : m ≡ sets zs 0 (namesBy gs s lits)) where
   pub names-part : take (length lits) m ≡ namesBy gs s lits
   names-part = stored-part zs m (namesBy gs s lits) (length lits) e (sym (names-length (λ i. getD gs i 0) s lits)) (omega arith)
 
   pub names-within : length lits ≤ length m
   names-within = let k = ap length e ∙ length-sets zs 0 (namesBy gs s lits) in omega arith
 
-  pub names-given : Codes (namesBy gs s lits) → Codes (take (length lits) m) × (length (take (length lits) m) ≤ 8192)
-  names-given c =
+  pub names-given : length lits ≤ 8192 → Codes (namesBy gs s lits) → Codes (take (length lits) m) × (length (take (length lits) m) ≤ 8192)
+  names-given h c =
       subst (λ (l : List ℕ). Codes l × (length l ≤ 8192)) (sym names-part)
       (c, subst (λ (n : ℕ). n ≤ 8192) (sym (names-length (λ i. getD gs i 0) s lits)) h)

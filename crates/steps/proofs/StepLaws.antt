@@ -11,6 +11,7 @@ use borrow.Author.Tests.{lt-ltb, le-ltb, ltb-false, not-false}
 use Rattle.base.specs.Choice.{pick}
 use Rattle.base.proofs.MemberLaws.{or-left, or-right}
 use Rattle.scope.specs.declared.ProofStep.{ProofStep}
+use Rattle.scope.specs.declared.KindRule.{KindRule}
 use Rattle.scope.specs.Table.{Table}
 use Rattle.scope.specs.Sound.{soundb}
 use Rattle.scope.specs.Steps.{ruleOf, hasHashes, literalsOf, hashesOf}
@@ -42,6 +43,10 @@ carries-none b n m e q = rw e q
 pick-most : (b : Bool) (n : ℕ) → pick b n 0 ≤ n
 pick-most true n = omega arith
 pick-most false n = omega arith
+
+-- the number that a step's rule gives
+pub carried-by : (step : ProofStep) (r : KindRule) (k n : ℕ) → r ≡ ruleOf step → k ≡ pick (r .renamed) n 0 → k ≡ pick (ruleOf step .renamed) n 0
+carried-by step r k n e q = q ∙ ap (λ (x : KindRule). pick (x .renamed) n 0) e
 
 pub literals-length : (step : ProofStep) (lits : List ℕ) (k : ℕ) → k ≡ pick (ruleOf step .renamed) (length lits) 0 → k ≡ length (literalsOf step lits)
 literals-length step lits k e = e ∙ sym (pick-length (ruleOf step .renamed) lits)

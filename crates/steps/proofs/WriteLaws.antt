@@ -1,6 +1,6 @@
 -- Write: the bytes of a step by what its rule writes, and what the call comes to.
 use Prim.Native.Nat.{ℕ, _+_, _≤_, _<_}
-use mathlib.Core.Path.{_≡_, refl, sym, ap, _∙_, subst}
+use mathlib.Core.Path.{_≡_, refl, sym, ap, ap₂, _∙_, subst}
 use mathlib.Core.Bool.{Bool, true, false}
 use mathlib.Core.List.{List, [], _∷_}
 use native.Mathlib.Omega.{arith}
@@ -18,6 +18,7 @@ use Rattle.scope.specs.declared.KindRule.{KindRule}
 use Rattle.scope.specs.declared.Writes.{Writes}
 use Rattle.scope.specs.declared.Writes.the-variants.{Add, AddEach, Delete, Nothing, Refused}
 use Rattle.scope.specs.Table.{Table, tableOf}
+use Rattle.scope.specs.Sound.{soundb}
 use Rattle.scope.specs.Steps.{ruleOf, written, clauseSteps, literalsOf}
 use Rattle.scope.specs.Outcome.{Outcome, refusal}
 use Rattle.scope.specs.Contract.{Said}
@@ -28,33 +29,37 @@ use Rattle.steps.specs.Refusals.{laid, laidBytes}
 use Rattle.steps.specs.Answers.{recorded}
 use Rattle.drat.proofs.Complete.{encode-one}
 use Rattle.steps.proofs.UnitLaws.{encode-none}
-use Rattle.steps.proofs.StepLaws.{literals-part, refused-first, refused-later}
+use Rattle.steps.proofs.StepLaws.{literals-part, refuse-1, refused-first, refused-later}
 use Rattle.scope.proofs.ResultLaws.{unless-some, unless-none}
 use Rattle.steps.proofs.CallLaws.{Told, told, told-refusal}
 
--- ---- the bytes of a step whose rule is r
+-- ---- the bytes of a step that writes so
 
-module _ (f : Format) (step : ProofStep) (r : KindRule) (ls : List ℕ) (e : r ≡ ruleOf step) where
-  by-rule : (w : Writes) → r .writes ≡ w → encode f (clauseSteps step ls) ≡ encode f (written w ls)
-  by-rule w q = ap (λ (x : Writes). encode f (written x ls)) (sym (ap (λ (x : KindRule). x .writes) e) ∙ q)
+module _ (f : Format) (w : Writes) (ls : List ℕ) where
+  by-kind : (v : Writes) → w ≡ v → encode f (written w ls) ≡ encode f (written v ls)
+  by-kind v q = ap (λ (x : Writes). encode f (written x ls)) q
 
-  pub bytes-add : r .writes ≡ Add → encode f (clauseSteps step ls) ≡ encodeStep f (stepOf add ls)
-  bytes-add q = by-rule Add q ∙ encode-one f (stepOf add ls)
+  pub bytes-add : w ≡ Add → encode f (written w ls) ≡ encodeStep f (stepOf add ls)
+  bytes-add q = by-kind Add q ∙ encode-one f (stepOf add ls)
 
-  pub bytes-each : r .writes ≡ AddEach → encode f (clauseSteps step ls) ≡ encode f (written AddEach ls)
-  bytes-each q = by-rule AddEach q
+  pub bytes-each : w ≡ AddEach → encode f (written w ls) ≡ encode f (written AddEach ls)
+  bytes-each q = by-kind AddEach q
 
-  pub bytes-delete : r .writes ≡ Delete → encode f (clauseSteps step ls) ≡ encodeStep f (stepOf delete ls)
-  bytes-delete q = by-rule Delete q ∙ encode-one f (stepOf delete ls)
+  pub bytes-delete : w ≡ Delete → encode f (written w ls) ≡ encodeStep f (stepOf delete ls)
+  bytes-delete q = by-kind Delete q ∙ encode-one f (stepOf delete ls)
 
-  pub bytes-nothing : r .writes ≡ Nothing → encode f (clauseSteps step ls) ≡ []
-  bytes-nothing q = by-rule Nothing q ∙ encode-none f
+  pub bytes-nothing : w ≡ Nothing → encode f (written w ls) ≡ []
+  bytes-nothing q = by-kind Nothing q ∙ encode-none f
 
-  pub bytes-refused : r .writes ≡ Refused → encode f (clauseSteps step ls) ≡ []
-  bytes-refused q = by-rule Refused q ∙ encode-none f
+  pub bytes-refused : w ≡ Refused → encode f (written w ls) ≡ []
+  bytes-refused q = by-kind Refused q ∙ encode-none f
+
+-- what a step writes, by its rule
+pub writes-by : (step : ProofStep) (r : KindRule) → r ≡ ruleOf step → r .writes ≡ ruleOf step .writes
+writes-by step r e = ap (λ (x : KindRule). x .writes) e
 
 pub lacked-by : (step : ProofStep) (r : KindRule) (b : Bool) → r ≡ ruleOf step → b ≡ lacked (r .writes) → b ≡ lacked (ruleOf step .writes)
-lacked-by step r b e q = q ∙ ap (λ (x : KindRule). lacked (x .writes)) e
+lacked-by step r b e q = q ∙ ap lacked (writes-by step r e)
 
 -- ---- bytes with room or without
 
@@ -70,17 +75,17 @@ whole-laid bs o p n e l q =
     (rw h (ap W.Done e), rw h q)
 
 -- of a step whose literals are read back from a buffer
-pub laid-short : (f : Format) (step : ProofStep) (xs ys : List ℕ) (n : ℕ) (o : List ℕ) → xs ≡ ys → n ≡ length (encode f (clauseSteps step xs)) → length o < n
-    → (W.Refused 2 ≡ laid (encode f (clauseSteps step ys)) (length o)) × (o ≡ sets o 0 (laidBytes (encode f (clauseSteps step ys)) (length o)))
-laid-short f step xs ys n o e q l =
-    short-laid (encode f (clauseSteps step ys)) o n (q ∙ ap (λ (zs : List ℕ). length (encode f (clauseSteps step zs))) e) l
+pub laid-short : (f : Format) (w : Writes) (xs ys : List ℕ) (n : ℕ) (o : List ℕ) → xs ≡ ys → n ≡ length (encode f (written w xs)) → length o < n
+    → (W.Refused 2 ≡ laid (encode f (written w ys)) (length o)) × (o ≡ sets o 0 (laidBytes (encode f (written w ys)) (length o)))
+laid-short f w xs ys n o e q l =
+    short-laid (encode f (written w ys)) o n (q ∙ ap (λ (zs : List ℕ). length (encode f (written w zs))) e) l
 
-pub laid-whole : (f : Format) (step : ProofStep) (xs ys : List ℕ) (n : ℕ) (o p : List ℕ) → xs ≡ ys → n ≡ length (encode f (clauseSteps step xs)) → n ≤ length o
-    → p ≡ sets o 0 (encode f (clauseSteps step xs))
-    → (W.Done n ≡ laid (encode f (clauseSteps step ys)) (length o)) × (p ≡ sets o 0 (laidBytes (encode f (clauseSteps step ys)) (length o)))
-laid-whole f step xs ys n o p e q l r =
-    whole-laid (encode f (clauseSteps step ys)) o p n (q ∙ ap (λ (zs : List ℕ). length (encode f (clauseSteps step zs))) e) l
-    (r ∙ ap (λ (zs : List ℕ). sets o 0 (encode f (clauseSteps step zs))) e)
+pub laid-whole : (f : Format) (w : Writes) (xs ys : List ℕ) (n : ℕ) (o p : List ℕ) → xs ≡ ys → n ≡ length (encode f (written w xs)) → n ≤ length o
+    → p ≡ sets o 0 (encode f (written w xs))
+    → (W.Done n ≡ laid (encode f (written w ys)) (length o)) × (p ≡ sets o 0 (laidBytes (encode f (written w ys)) (length o)))
+laid-whole f w xs ys n o p e q l r =
+    whole-laid (encode f (written w ys)) o p n (q ∙ ap (λ (zs : List ℕ). length (encode f (written w zs))) e) l
+    (r ∙ ap (λ (zs : List ℕ). sets o 0 (encode f (written w zs))) e)
 
 -- an answer opened
 pub laid-done : (bs : List ℕ) (room n : ℕ) (r : Recorded) → r ≡ laid bs room → r ≡ W.Done n → (ltb room (length bs) ≡ false) × (n ≡ length bs)
@@ -132,26 +137,33 @@ module _ (f : Format) (t : Table) (step : ProofStep) (s : Bool) (lits hashes d :
   unfolding writeRefusal
   write-first n e h = write-refused n (refused-first t step s lits hashes n _ e h) h
 
+  pub write-unsound : soundb t ≡ false → Told outcome (recorded (W.Refused 1) (t .counts)) t [] [] d [] [] d
+  write-unsound h = write-first 1 (refuse-1 t step s lits hashes h) (λ q. omega arith)
+
   pub write-lacked : (n : ℕ) → n ≡ stepRefusal t step s lits hashes 0 → n ≡ 0 → lacked (ruleOf step .writes) ≡ true
       → Told outcome (recorded (W.Refused 11) (t .counts)) t [] [] d [] [] d
   unfolding writeRefusal
   write-lacked n e z h =
       write-refused 11 (sym (refused-later t step s lits hashes n _ e z ∙ rw h)) (λ q. omega arith)
 
-  pub write-judged : (n k : ℕ) (r : Recorded) (x : List ℕ) → n ≡ stepRefusal t step s lits hashes 0 → n ≡ 0 → lacked (ruleOf step .writes) ≡ false
+  pub write-judged : (n k : ℕ) (rule : KindRule) (r : Recorded) (x : List ℕ) → rule ≡ ruleOf step → n ≡ stepRefusal t step s lits hashes 0 → n ≡ 0
+      → lacked (ruleOf step .writes) ≡ false
       → k ≡ pick (ruleOf step .renamed) (length lits) 0
-      → r ≡ laid (encode f (clauseSteps step (renameLits (holders t) s (take k lits)))) (length d)
-      → x ≡ sets d 0 (laidBytes (encode f (clauseSteps step (renameLits (holders t) s (take k lits)))) (length d))
+      → r ≡ laid (encode f (written (rule .writes) (renameLits (holders t) s (take k lits)))) (length d)
+      → x ≡ sets d 0 (laidBytes (encode f (written (rule .writes) (renameLits (holders t) s (take k lits)))) (length d))
       → Told outcome (recorded r (t .counts))
       (tableOf (recorded r (t .counts) .counts) (t .globalFromUser) (t .userFromGlobal) (t .solverFromGlobal) (t .globalFromSolver) (t .assignment)
       (t .records))
       [] [] d [] [] x
   unfolding writeOf writeRefusal stepBytes
-  write-judged n k r x e z h q p u =
+  write-judged n k rule r x v e z h q p u =
       go (ltb (length d) (length bytes)) refl
-      (p ∙ ap (λ (ls : List ℕ). laid (encode f (clauseSteps step (renameLits (holders t) s ls))) (length d)) (literals-part step lits k q))
-      (u ∙ ap (λ (ls : List ℕ). sets d 0 (laidBytes (encode f (clauseSteps step (renameLits (holders t) s ls))) (length d))) (literals-part step lits k q))
+      (p ∙ ap (λ (bs : List ℕ). laid bs (length d)) same)
+      (u ∙ ap (λ (bs : List ℕ). sets d 0 (laidBytes bs (length d))) same)
     where
+      same : encode f (written (rule .writes) (renameLits (holders t) s (take k lits))) ≡ bytes
+      same = ap₂ (λ (o : KindRule) (ls : List ℕ). encode f (written (o .writes) (renameLits (holders t) s ls))) v (literals-part step lits k q)
+
       after : (b : Bool) → ltb (length d) (length bytes) ≡ b → refusing ≡ pick b 2 0
       after b y = refused-later t step s lits hashes n _ e z ∙ rw (h, y)
 

@@ -101,11 +101,10 @@ pub fn rule_of(step: ProofStep) -> KindRule
     rule_at(kind(step))
 }
 
-// How many of the n literals passed beside a step it carries: all or none.
-pub fn carried(step: ProofStep, n: usize) -> usize
-    ensures { λ r. ⌜ r ≡ pick (ruleOf step .renamed) n 0 ⌝ }
+// How many of the n literals passed beside a step of this rule it carries: all or none.
+pub fn carried(rule: KindRule, n: usize) -> usize
+    ensures { λ r. ⌜ r ≡ pick (rule .renamed) n 0 ⌝ }
 {
-    let rule = rule_of(step);
     if rule.renamed { n } else { 0 }
 }
 
@@ -129,7 +128,7 @@ fn has_hashes(step: ProofStep) -> bool
     }
 }
 
-// The same of hashes.
+// How many of the n hashes passed beside a step it carries: all or none.
 pub fn hashed(step: ProofStep, n: usize) -> usize
     ensures { λ r. ⌜ r ≡ pick (hasHashes step) n 0 ⌝ }
 {

@@ -2,6 +2,8 @@
 use crate::kinds::carried;
 use crate::kinds::differ;
 use crate::kinds::hashed;
+use crate::kinds::rule_of;
+use crate::write::Recorded;
 use scope::Counts;
 use scope::ProofStep;
 use scope::Solver;
@@ -9,21 +11,27 @@ use table::FoundGlobal;
 use table::any_outside;
 use table::holder;
 use table::is_sound;
+use table::word_at;
 ghost use mathlib.Core.Path.{_≡_};
 ghost use mathlib.Core.Bool.{true, false};
 ghost use mathlib.Core.Logic.{_≢_};
-ghost use Prim.Native.Nat.{_/_, _≤_, _<_};
+ghost use mathlib.Core.List.{[]};
+ghost use Prim.Native.Nat.{ℕ, _/_, _≤_, _<_};
 ghost use lib.Dec.{eqb};
 ghost use lib.ListN.{length, getD};
+ghost use Rattle.base.specs.Choice.{pick};
 ghost use Rattle.base.specs.Bounded.{anyOf};
 ghost use Rattle.base.specs.Lent.{old, new, Fills};
 ghost use Rattle.scope.specs.Literals.{indexOf};
+ghost use Rattle.scope.specs.declared.ProofStep.{ProofStep};
 ghost use Rattle.scope.specs.Table.{Table};
-ghost use Rattle.scope.specs.Contract.{before, quiet, Meets};
-ghost use Rattle.scope.specs.Write.{renameLit, stepRefusal, renameRefusal, renameOf};
-ghost use Rattle.steps.specs.Names.{namesBy, Nameable};
+ghost use Rattle.scope.specs.Sound.{soundb};
+ghost use Rattle.scope.specs.Contract.{before, given, quiet, Does, Meets};
+ghost use Rattle.scope.specs.Steps.{ruleOf};
+ghost use Rattle.scope.specs.Write.{renameLit, unmatched, stepRefusal, renameRefusal, renameOf};
+ghost use Rattle.steps.specs.Names.{namesBy, Nameable, unnamed};
 ghost use Rattle.steps.specs.Refusals.{literalRefusal};
-ghost use Rattle.steps.specs.Answers.{renamed};
+ghost use Rattle.steps.specs.Answers.{renamed, inFull};
 
 // Some literal's index has no holder.
 fn any_unheld(gs: &[u32], lits: &[u32]) -> bool
@@ -106,7 +114,7 @@ fn copy_hashes(hashes: &[u64], out: &mut [u64])
     }
 }
 
-// The first refusal that a step has, rooms apart, 0 for none: 1, 14, 3, 8.
+// The first refusal that a step with k literals has on a sound table, rooms apart, 0 for none: 14, 3, 8.
 pub fn step_refusal(
     c: Counts,
     gu: &[u32],
@@ -119,16 +127,15 @@ pub fn step_refusal(
     solvervars: bool,
     lits: &[u32],
     hashes: &[u64],
+    k: usize,
 ) -> u32
+    requires { ⌜ soundb (given c gu ug sg gs assignment records) ≡ true ⌝ }
+    requires { ⌜ k ≡ pick (ruleOf step .renamed) (length (now lits)) 0 ⌝ }
     ensures { λ r. ⌜ r ≡ stepRefusal (before c gu ug sg gs assignment records) step solvervars (old lits) (old hashes) 0 ⌝ }
 {
-    if !is_sound(c, gu, ug, sg, gs, assignment, records) {
-        return 1;
-    }
     if differ(step, lits, hashes) {
         return 14;
     }
-    let k = carried(step, lits.len());
     literal_refusal(c, gs, solvervars, &lits[..k])
 }
 
@@ -145,9 +152,12 @@ fn rename_refusal(
     solvervars: bool,
     lits: &[u32],
     hashes: &[u64],
+    k: usize,
     room: usize,
     hashroom: usize,
 ) -> u32
+    requires { ⌜ soundb (given c gu ug sg gs assignment records) ≡ true ⌝ }
+    requires { ⌜ k ≡ pick (ruleOf step .renamed) (length (now lits)) 0 ⌝ }
     ensures { λ r. ⌜ r ≡ renameRefusal (before c gu ug sg gs assignment records) step solvervars (old lits) (old hashes) room hashroom ⌝ }
 {
     let n = step_refusal(
@@ -162,11 +172,11 @@ fn rename_refusal(
         solvervars,
         lits,
         hashes,
+        k,
     );
     if n != 0 {
         return n;
     }
-    let k = carried(step, lits.len());
     if room < k {
         return 2;
     }
@@ -207,6 +217,53 @@ pub fn rename_step(
     ensures hashout { λ _. ⌜ Fills hashout 0
         (renameOf (before c gu ug sg gs assignment records) step solvervars (old lits) (old hashes) (length (old out)) (length (old hashout)) .more) ⌝ }
 {
+    if !is_sound(c, gu, ug, sg, gs, assignment, records) {
+        return Renamed::Refused(1);
+    }
+    known_rename_step(
+        c,
+        gu,
+        ug,
+        sg,
+        gs,
+        assignment,
+        records,
+        step,
+        solvervars,
+        lits,
+        hashes,
+        out,
+        hashout,
+    )
+}
+
+// Rename on a table known to be sound, which is not tested.
+// The same definition and answer.
+pub fn known_rename_step(
+    c: Counts,
+    gu: &[u32],
+    ug: &[u32],
+    sg: &[u32],
+    gs: &[u32],
+    assignment: &[u32],
+    records: &[u32],
+    step: ProofStep,
+    solvervars: bool,
+    lits: &[u32],
+    hashes: &[u64],
+    out: &mut [u32],
+    hashout: &mut [u64],
+) -> Renamed
+    requires { ⌜ soundb (given c gu ug sg gs assignment records) ≡ true ⌝ }
+    ensures { λ r. ⌜ Meets (λ t room. renameOf t step solvervars (old lits) (old hashes) (length (old out)) (length (old hashout))) (renamed r c)
+        (quiet c gu ug sg gs assignment records) ⌝ }
+    ensures out { λ _. ⌜ Fills out 0
+        (renameOf (before c gu ug sg gs assignment records) step solvervars (old lits) (old hashes) (length (old out)) (length (old hashout)) .words) ⌝ }
+    ensures hashout { λ _. ⌜ Fills hashout 0
+        (renameOf (before c gu ug sg gs assignment records) step solvervars (old lits) (old hashes) (length (old out)) (length (old hashout)) .more) ⌝ }
+{
+    let rule = rule_of(step);
+    let k = carried(rule, lits.len());
     let n = rename_refusal(
         c,
         gu,
@@ -219,15 +276,65 @@ pub fn rename_step(
         solvervars,
         lits,
         hashes,
+        k,
         out.len(),
         hashout.len(),
     );
     if n != 0 {
         return Renamed::Refused(n);
     }
-    let k = carried(step, lits.len());
     let m = hashed(step, hashes.len());
     rename_lits(gs, solvervars, &lits[..k], out);
     copy_hashes(&hashes[..m], hashout);
     Renamed::Done(k, m, step)
+}
+
+// Some literal's index has no holder, or a word that no sound table has.
+fn any_unnamed(gs: &[u32], lits: &[u32]) -> bool
+    ensures { λ r. ⌜ r ≡ unnamed (old gs) (old lits) ⌝ }
+{
+    let mut i = 0;
+    while i < lits.len() {
+        let w = word_at(gs, lits[i] / 2);
+        if (w == 0) | (4096 < w) {
+            return true;
+        }
+        i += 1;
+    }
+    false
+}
+
+// Literals that all have names, under these names, from the start of `out`.
+fn rename_named(gs: &[u32], lits: &[u32], out: &mut [u32])
+    requires { ⌜ unnamed (now gs) (now lits) ≡ false ⌝ }
+    requires { ⌜ length (now lits) ≤ length (now out) ⌝ }
+    ensures { λ _. ⌜ Fills out 0 (namesBy (old gs) true (old lits)) ⌝ }
+{
+    let mut i = 0;
+    while i < lits.len() {
+        let code = lits[i];
+        out[i] = rename_lit(gs, true, code);
+        i += 1;
+    }
+}
+
+// Rename of the solver literals of a step without hashes (3, 8, 2), lent the map alone: what Rename does on every sound table that has it.
+// The same definition; its answer: specs/Answers.antt, `inFull`.
+pub fn rename_in(gs: &[u32], lits: &[u32], out: &mut [u32]) -> Recorded
+    ensures { λ r. ⌜ ((t : Table) (step : ProofStep) (k : ℕ) → soundb t ≡ true → t .globalFromSolver ≡ old gs
+        → ruleOf step .renamed ≡ true → unmatched step (old lits) [] ≡ false
+        → let o = renameOf t step true (old lits) [] (length (old out)) k in
+        Does o (renamed (inFull r step) (t .counts)) t [] [] × (Fills out 0 (o .words) × (o .more ≡ []))) ⌝ }
+{
+    if 8192 < lits.len() {
+        return Recorded::Refused(3);
+    }
+    if any_unnamed(gs, lits) {
+        return Recorded::Refused(8);
+    }
+    if out.len() < lits.len() {
+        return Recorded::Refused(2);
+    }
+    rename_named(gs, lits, out);
+    Recorded::Done(lits.len())
 }

@@ -14,9 +14,13 @@ use table::solver_of;
 use table::user_of;
 use table::word_at;
 ghost use mathlib.Core.Path.{_≡_};
+ghost use mathlib.Core.Bool.{true};
+ghost use mathlib.Core.List.{[]};
 ghost use lib.ListN.{length, replicate};
 ghost use Rattle.base.specs.Lent.{old, new};
-ghost use Rattle.scope.specs.Contract.{quiet, Meets};
+ghost use Rattle.scope.specs.Contract.{quiet, Does, Meets};
+ghost use Rattle.scope.specs.Sound.{soundb};
+ghost use Rattle.scope.specs.Table.{Table};
 ghost use Rattle.scope.specs.Open.{openCounts, openOf};
 ghost use Rattle.scope.specs.Lookup.{globalFromUserOf, userFromGlobalOf, solverFromGlobalOf, globalFromSolverOf, recordWordOf, assignmentWordOf};
 ghost use Rattle.var_map.specs.Answers.{opened, gotUser, gotGlobal, gotSolver, gotWord};
@@ -113,9 +117,15 @@ pub fn get_global_from_user(
     if !is_sound(c, gu, ug, sg, gs, assignment, records) {
         return GotGlobal::Refused(1);
     }
-    if c.user <= user.0 {
-        return GotGlobal::Nothing;
-    }
+    global_from_user_in(gu, user)
+}
+
+// Lookup in the one list that it reads, of a table known to be sound, which is not tested: any words may be lent.
+// The same definition and answer, of every sound table that has the list. The others likewise.
+pub fn global_from_user_in(gu: &[u32], user: User) -> GotGlobal
+    ensures { λ r. ⌜ ((t : Table) → soundb t ≡ true → t .globalFromUser ≡ old gu
+        → Does (globalFromUserOf t (user .0)) (gotGlobal r (t .counts)) t [] []) ⌝ }
+{
     let FoundGlobal::At(found) = global_of(gu, user) else {
         return GotGlobal::Nothing;
     };
@@ -139,9 +149,14 @@ pub fn get_user_from_global(
     if !is_sound(c, gu, ug, sg, gs, assignment, records) {
         return GotUser::Refused(1);
     }
-    if c.global <= global.0 {
-        return GotUser::Nothing;
-    }
+    user_from_global_in(ug, global)
+}
+
+// The same from a global to its user.
+pub fn user_from_global_in(ug: &[u32], global: Global) -> GotUser
+    ensures { λ r. ⌜ ((t : Table) → soundb t ≡ true → t .userFromGlobal ≡ old ug
+        → Does (userFromGlobalOf t (global .0)) (gotUser r (t .counts)) t [] []) ⌝ }
+{
     let FoundUser::At(found) = user_of(ug, global) else {
         return GotUser::Nothing;
     };
@@ -165,9 +180,14 @@ pub fn get_solver_from_global(
     if !is_sound(c, gu, ug, sg, gs, assignment, records) {
         return GotSolver::Refused(1);
     }
-    if c.global <= global.0 {
-        return GotSolver::Nothing;
-    }
+    solver_from_global_in(sg, global)
+}
+
+// The same from a global to its solver index.
+pub fn solver_from_global_in(sg: &[u32], global: Global) -> GotSolver
+    ensures { λ r. ⌜ ((t : Table) → soundb t ≡ true → t .solverFromGlobal ≡ old sg
+        → Does (solverFromGlobalOf t (global .0)) (gotSolver r (t .counts)) t [] []) ⌝ }
+{
     let FoundSolver::At(found) = solver_of(sg, global) else {
         return GotSolver::Nothing;
     };
@@ -191,9 +211,14 @@ pub fn get_global_from_solver(
     if !is_sound(c, gu, ug, sg, gs, assignment, records) {
         return GotGlobal::Refused(1);
     }
-    if c.solver <= solver.0 {
-        return GotGlobal::Nothing;
-    }
+    global_from_solver_in(gs, solver)
+}
+
+// The same from a solver index to the global that holds it.
+pub fn global_from_solver_in(gs: &[u32], solver: Solver) -> GotGlobal
+    ensures { λ r. ⌜ ((t : Table) → soundb t ≡ true → t .globalFromSolver ≡ old gs
+        → Does (globalFromSolverOf t (solver .0)) (gotGlobal r (t .counts)) t [] []) ⌝ }
+{
     let FoundGlobal::At(found) = holder(gs, solver) else {
         return GotGlobal::Nothing;
     };
@@ -217,7 +242,15 @@ pub fn get_record(
     if !is_sound(c, gu, ug, sg, gs, assignment, records) {
         return GotWord::Refused(1);
     }
-    if c.global <= global.0 {
+    record_in(c.global, records, global)
+}
+
+// The same of the record of a global, below the watermark `mark` of globals.
+pub fn record_in(mark: u32, records: &[u32], global: Global) -> GotWord
+    ensures { λ r. ⌜ ((t : Table) → soundb t ≡ true → t .counts .global ≡ mark → t .records ≡ old records
+        → Does (recordWordOf t (global .0)) (gotWord r (t .counts)) t [] []) ⌝ }
+{
+    if mark <= global.0 {
         return GotWord::Nothing;
     }
     GotWord::Word(word_at(records, global.0))
@@ -240,7 +273,15 @@ pub fn get_assignment(
     if !is_sound(c, gu, ug, sg, gs, assignment, records) {
         return GotWord::Refused(1);
     }
-    if c.solver <= solver.0 {
+    assignment_in(c.solver, assignment, solver)
+}
+
+// The same of the assignment word of a solver index, below the watermark `mark` of solver indices.
+pub fn assignment_in(mark: u32, assignment: &[u32], solver: Solver) -> GotWord
+    ensures { λ r. ⌜ ((t : Table) → soundb t ≡ true → t .counts .solver ≡ mark → t .assignment ≡ old assignment
+        → Does (assignmentWordOf t (solver .0)) (gotWord r (t .counts)) t [] []) ⌝ }
+{
+    if mark <= solver.0 {
         return GotWord::Nothing;
     }
     GotWord::Word(word_at(assignment, solver.0))

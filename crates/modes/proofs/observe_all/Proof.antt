@@ -7,20 +7,20 @@ use Rattle.modes.proofs.observe_all.Statement.{statement}
 use Rattle.modes.proofs.observe_all.Tie as tie
 
 abbrev Inv-loop : tie.InvT-loop
-Inv-loop gu₀ ug₀ records₀ users₀ notes₀ last k₀ g₀ gu ug records users notes k g =
+Inv-loop gu₀ ug₀ records₀ from users₀ notes₀ last k₀ g₀ gu ug records users notes k g =
     (g ≤ last) × ((x : Solvers) → Observing (tableWith (k₀ .counts) gu₀ ug₀ records₀ x) g (k .from) (k .filled) (k .at)
     (tableWith (k .counts) gu ug records x) users₀ users notes₀ notes)
 
 abbrev μ-loop : tie.MeasureT-loop
-μ-loop gu₀ ug₀ records₀ users₀ notes₀ last k₀ g₀ gu ug records users notes k g = last - g
+μ-loop gu₀ ug₀ records₀ from users₀ notes₀ last k₀ g₀ gu ug records users notes k g = last - g
 
 loop-holds : tie.Need-loop-holds Inv-loop μ-loop
-loop-holds c = (omega arith, λ x. observing-none _ _ _)
+loop-holds c = (omega arith, λ x. observing-none _ _ _ _ (c .before .before .before .before .before .pre .observes .mapped))
 
 observe-one-requires : tie.Need-observe-one-requires Inv-loop μ-loop
 observe-one-requires c κs =
     let entry = c .before .before .before .before .before .before .before .before .before .before .before .before .before in
-    observing-asks _ _ _ _ _ _ _ _ _ _ (c .before .before .before .before .before .before .before .loop .inv .1 (entry .pre .solvers)) _ _
+    observing-asks _ _ _ _ _ _ _ _ _ _ (c .before .before .before .before .before .before .before .loop .inv .1 (entry .pre .solvers)) _ _ _
     (entry .pre .observes) refl refl (c .before .before .before .before .before .before .loop-test .taken)
 
 add-g : tie.Need-add-g Inv-loop μ-loop
@@ -48,17 +48,17 @@ loop-again c =
 
 same-length : tie.Need-same-length Inv-loop μ-loop
 same-length c =
-    observing-sizes _ _ _ _ _ _ _ _ _ _ (c .before .loop .inv .1 (c .before .before .before .before .before .before .before .pre .solvers)) _ _
+    observing-sizes _ _ _ _ _ _ _ _ _ _ (c .before .loop .inv .1 (c .before .before .before .before .before .before .before .pre .solvers)) _ _ _
     (c .before .before .before .before .before .before .before .pre .observes) .globalFromUser
 
 same-length-2 : tie.Need-same-length-2 Inv-loop μ-loop
 same-length-2 c =
-    observing-sizes _ _ _ _ _ _ _ _ _ _ (c .before .loop .inv .1 (c .before .before .before .before .before .before .before .pre .solvers)) _ _
+    observing-sizes _ _ _ _ _ _ _ _ _ _ (c .before .loop .inv .1 (c .before .before .before .before .before .before .before .pre .solvers)) _ _ _
     (c .before .before .before .before .before .before .before .pre .observes) .userFromGlobal
 
 same-length-3 : tie.Need-same-length-3 Inv-loop μ-loop
 same-length-3 c =
-    observing-sizes _ _ _ _ _ _ _ _ _ _ (c .before .loop .inv .1 (c .before .before .before .before .before .before .before .pre .solvers)) _ _
+    observing-sizes _ _ _ _ _ _ _ _ _ _ (c .before .loop .inv .1 (c .before .before .before .before .before .before .before .pre .solvers)) _ _ _
     (c .before .before .before .before .before .before .before .pre .observes) .records
 
 same-length-4 : tie.Need-same-length-4 Inv-loop μ-loop
@@ -67,7 +67,7 @@ same-length-4 c =
 
 same-length-5 : tie.Need-same-length-5 Inv-loop μ-loop
 same-length-5 c =
-    observing-sizes _ _ _ _ _ _ _ _ _ _ (c .before .loop .inv .1 (c .before .before .before .before .before .before .before .pre .solvers)) _ _
+    observing-sizes _ _ _ _ _ _ _ _ _ _ (c .before .loop .inv .1 (c .before .before .before .before .before .before .before .pre .solvers)) _ _ _
     (c .before .before .before .before .before .before .before .pre .observes) .notes
 
 returns : tie.Need-returns Inv-loop μ-loop

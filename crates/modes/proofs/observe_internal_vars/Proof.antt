@@ -1,10 +1,12 @@
-use Rattle.modes.proofs.ObserveCallLaws.{observe-refused, observe-asks, observe-fits, observe-does}
+use Rattle.modes.proofs.ObserveCallLaws.{observe-unsound}
+use Rattle.table.proofs.CheckLaws.{yes-of, no-of}
+use Rattle.scope.proofs.CursorLaws.{cursor-start}
 use borrow.Author.Needs.{needs}
 use Rattle.modes.proofs.observe_internal_vars.Statement.{statement}
 use Rattle.modes.proofs.observe_internal_vars.Tie as tie
 
-observe-refusal-requires : tie.Need-observe-refusal-requires
-observe-refusal-requires c κs = search needs
+is-sound-requires : tie.Need-is-sound-requires
+is-sound-requires c κs = search needs
 
 same-length : tie.Need-same-length
 same-length c = search needs
@@ -16,31 +18,13 @@ same-length-3 : tie.Need-same-length-3
 same-length-3 c = search needs
 
 returns : tie.Need-returns
-returns c = observe-refused _ _ _ _ (c .before .observe-refusal .ensures) (c .if1 .taken)
+returns c = observe-unsound _ _ _ (no-of (c .before .is-sound .ensures) (c .if1 .taken))
 
-observe-all-requires : tie.Need-observe-all-requires
-observe-all-requires c κs = observe-asks _ _ _ _ (c .before .before .before .before .before .before .observe-refusal .ensures)
-    (c .before .before .before .before .before .if1 .left)
-
-cast-t32 : tie.Need-cast-t32
-cast-t32 c =
-    let at-observe-all = c .before .before .before .before .before .before .before .before .before .before .before .before in
-    let at-if1 = at-observe-all .before .before .before .before .before .before in
-    let at-observe-refusal = at-if1 .before in
-    record {
-      fits = observe-fits _ _ _ _ (at-observe-refusal .observe-refusal .ensures) (at-if1 .if1 .left) _ _ _ _ _ _ _
-          ((at-observe-all .observe-all .ensures .0) _, (at-observe-all .observe-all .ensures .1) _) .0;
-    }
-
-cast-t33 : tie.Need-cast-t33
-cast-t33 c =
-    let at-observe-all = c .before .before .before .before .before .before .before .before .before .before .before .before .before in
-    let at-if1 = at-observe-all .before .before .before .before .before .before in
-    let at-observe-refusal = at-if1 .before in
-    record {
-      fits = observe-fits _ _ _ _ (at-observe-refusal .observe-refusal .ensures) (at-if1 .if1 .left) _ _ _ _ _ _ _
-          ((at-observe-all .observe-all .ensures .0) _, (at-observe-all .observe-all .ensures .1) _) .1;
-    }
+known-observe-internal-vars-requires : tie.Need-known-observe-internal-vars-requires
+known-observe-internal-vars-requires c κs =
+    let at-if1 = c .before .before .before .before .before in
+    let at-is-sound = at-if1 .before in
+    (yes-of (at-is-sound .is-sound .ensures) (at-if1 .if1 .left), cursor-start _ _)
 
 same-length-4 : tie.Need-same-length-4
 same-length-4 c = search needs
@@ -59,24 +43,19 @@ same-length-8 c = search needs
 
 returns-2 : tie.Need-returns-2
 returns-2 c =
-    let at-observe-all = c .before .before .before .before .before .before .before .before .before .before .before .before .before in
-    let at-if1 = at-observe-all .before .before .before .before .before .before in
-    let at-observe-refusal = at-if1 .before in
-    observe-does _ _ _ _ (at-observe-refusal .observe-refusal .ensures) (at-if1 .if1 .left) _ _ _ _ _ _ _ _
-    ((at-observe-all .observe-all .ensures .0) _, (at-observe-all .observe-all .ensures .1) _)
+    let at-known-observe-internal-vars = c .before .before .before .before .before .before .before .before .before .before in
+    at-known-observe-internal-vars .known-observe-internal-vars .ensures
 
 pub observe-internal-vars-spec : {M : Type 1} → statement M
 observe-internal-vars-spec =
     tie.close
     (tie.spec
-    observe-refusal-requires
+    is-sound-requires
     same-length
     same-length-2
     same-length-3
     returns
-    observe-all-requires
-    cast-t32
-    cast-t33
+    known-observe-internal-vars-requires
     same-length-4
     same-length-5
     same-length-6

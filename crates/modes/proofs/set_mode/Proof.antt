@@ -20,16 +20,16 @@ returns c = λ gs a. same-does _ _ _ (there-live _ _ (c .before .before .before 
 hide-requires : tie.Need-hide-requires
 hide-requires c κs =
     let entry = c .before .before .before .before .before .before .before .before .before .before .before .before .before in
-    hide-asks _ _ _ _ (entry .pre .sets) (c .before .before .before .before .before .if1 .left) (c .before .before .before .before .if2 .taken)
+    hide-asks _ _ _ _ _ (entry .pre .sets) (c .before .before .before .before .before .if1 .left) (c .before .before .before .before .if2 .taken)
 
-cast-t29 : tie.Need-cast-t29
-cast-t29 c =
+cast-t30 : tie.Need-cast-t30
+cast-t30 c =
     let at-hide = c .before .before .before .before .before .before .before .before .before .before in
     let at-if2 = at-hide .before .before .before .before .before in
     let at-if1 = at-if2 .before in
     let entry = at-if1 .before .before .before .before .before .before .before .before in
     record {
-      fits = set-fits _ _ _ _ (entry .pre .sets) _ (hide-is _ _ _ (there-live _ _ (entry .pre .sets .there) .words) (at-if1 .if1 .left)
+      fits = set-fits _ _ _ _ _ (entry .pre .sets) _ (hide-is _ _ _ (there-live _ _ (entry .pre .sets .there) .words) (at-if1 .if1 .left)
           (at-if2 .if2 .taken)) _ _ _ _ ((at-hide .hide .ensures) _ _);
     }
 
@@ -56,18 +56,18 @@ returns-2 c =
 show-requires : tie.Need-show-requires
 show-requires c κs =
     let entry = c .before .before .before .before .before .before .before .before .before .before .before .before .before .before in
-    show-asks _ _ _ _ (entry .pre .sets) (c .before .before .before .before .before .before .if1 .left) (c .before .before .before .before .before .if2 .left)
+    show-asks _ _ _ _ _ (entry .pre .sets) (c .before .before .before .before .before .before .if1 .left) (c .before .before .before .before .before .if2 .left)
     (c .before .before .before .before .if3 .taken)
 
-cast-t39 : tie.Need-cast-t39
-cast-t39 c =
+cast-t40 : tie.Need-cast-t40
+cast-t40 c =
     let at-show = c .before .before .before .before .before .before .before .before .before .before .before in
     let at-if3 = at-show .before .before .before .before .before in
     let at-if2 = at-if3 .before in
     let at-if1 = at-if2 .before in
     let entry = at-if1 .before .before .before .before .before .before .before .before in
     record {
-      fits = set-fits _ _ _ _ (entry .pre .sets) _ (show-is _ _ _ (there-live _ _ (entry .pre .sets .there) .words) (at-if1 .if1 .left)
+      fits = set-fits _ _ _ _ _ (entry .pre .sets) _ (show-is _ _ _ (there-live _ _ (entry .pre .sets .there) .words) (at-if1 .if1 .left)
           (at-if2 .if2 .left) (at-if3 .if3 .taken)) _ _ _ _ ((at-show .show .ensures .0) _);
     }
 
@@ -96,7 +96,8 @@ returns-3 c =
 change-requires : tie.Need-change-requires
 change-requires c κs =
     let entry = c .before .before .before .before .before .before .before .before .before .before .before .before in
-    change-asks _ _ _ _ (entry .pre .sets) (c .before .before .before .before .if1 .left) (c .before .before .before .if2 .left) (c .before .before .if3 .left)
+    change-asks _ _ _ _ _ (entry .pre .sets) (c .before .before .before .before .if1 .left) (c .before .before .before .if2 .left)
+    (c .before .before .if3 .left)
 
 same-length-9 : tie.Need-same-length-9
 same-length-9 c = search needs
@@ -121,14 +122,14 @@ set-mode-spec =
     slice-read-was
     returns
     hide-requires
-    cast-t29
+    cast-t30
     same-length
     same-length-2
     same-length-3
     same-length-4
     returns-2
     show-requires
-    cast-t39
+    cast-t40
     same-length-5
     same-length-6
     same-length-7

@@ -1,10 +1,12 @@
-use Rattle.modes.proofs.SetModeLaws.{set-refused, set-asks, set-does}
+use Rattle.modes.proofs.SetModeLaws.{set-unsound}
+use Rattle.table.proofs.CheckLaws.{yes-of, no-of}
+use Rattle.scope.proofs.CursorLaws.{cursor-start}
 use borrow.Author.Needs.{needs}
 use Rattle.modes.proofs.set_sampling_mode.Statement.{statement}
 use Rattle.modes.proofs.set_sampling_mode.Tie as tie
 
-set-mode-refusal-requires : tie.Need-set-mode-refusal-requires
-set-mode-refusal-requires c κs = search needs
+is-sound-requires : tie.Need-is-sound-requires
+is-sound-requires c κs = search needs
 
 same-length : tie.Need-same-length
 same-length c = search needs
@@ -16,14 +18,13 @@ same-length-3 : tie.Need-same-length-3
 same-length-3 c = search needs
 
 returns : tie.Need-returns
-returns c = set-refused _ _ _ _ _ (c .before .set-mode-refusal .ensures) (c .if1 .taken)
+returns c = set-unsound _ _ _ _ (no-of (c .before .is-sound .ensures) (c .if1 .taken))
 
-mode-number-requires : tie.Need-mode-number-requires
-mode-number-requires c κs = search needs
-
-set-mode-requires : tie.Need-set-mode-requires
-set-mode-requires c κs = set-asks _ _ _ _ _ (c .before .before .before .before .before .before .set-mode-refusal .ensures)
-    (c .before .before .before .before .before .if1 .left) _ (c .before .before .before .before .mode-number .ensures)
+known-set-sampling-mode-requires : tie.Need-known-set-sampling-mode-requires
+known-set-sampling-mode-requires c κs =
+    let at-if1 = c .before .before .before .before in
+    let at-is-sound = at-if1 .before in
+    (yes-of (at-is-sound .is-sound .ensures) (at-if1 .if1 .left), cursor-start _ _)
 
 same-length-4 : tie.Need-same-length-4
 same-length-4 c = search needs
@@ -39,23 +40,19 @@ same-length-7 c = search needs
 
 returns-2 : tie.Need-returns-2
 returns-2 c =
-    let at-mode-number = c .before .before .before .before .before .before .before .before .before .before .before .before .before in
-    let at-if1 = at-mode-number .before in
-    let at-set-mode-refusal = at-if1 .before in
-    set-does _ _ _ _ _ (at-set-mode-refusal .set-mode-refusal .ensures) (at-if1 .if1 .left) _ _ _ _ _ (at-mode-number .mode-number .ensures)
-    (c .before .before .before .before .before .before .before .before .set-mode .ensures _ _)
+    let at-known-set-sampling-mode = c .before .before .before .before .before .before .before .before in
+    at-known-set-sampling-mode .known-set-sampling-mode .ensures
 
 pub set-sampling-mode-spec : {M : Type 1} → statement M
 set-sampling-mode-spec =
     tie.close
     (tie.spec
-    set-mode-refusal-requires
+    is-sound-requires
     same-length
     same-length-2
     same-length-3
     returns
-    mode-number-requires
-    set-mode-requires
+    known-set-sampling-mode-requires
     same-length-4
     same-length-5
     same-length-6

@@ -1,13 +1,12 @@
-use Rattle.naming.proofs.CallLaws.{map-refused, map-asks, map-few, map-done}
-use Rattle.naming.proofs.GapLaws.{up-asks, up-leaves}
+use Rattle.table.proofs.CheckLaws.{yes-of, no-of}
+use Rattle.naming.proofs.CallLaws.{map-unsound}
 use Rattle.scope.proofs.CursorLaws.{cursor-start}
-use Rattle.changes.proofs.LeavesLaws.{notes-fit}
 use borrow.Author.Needs.{needs}
 use Rattle.naming.proofs.global_from_user.Statement.{statement}
 use Rattle.naming.proofs.global_from_user.Tie as tie
 
-map-refusal-requires : tie.Need-map-refusal-requires
-map-refusal-requires c κs = search needs
+is-sound-requires : tie.Need-is-sound-requires
+is-sound-requires c κs = search needs
 
 same-length : tie.Need-same-length
 same-length c = search needs
@@ -19,27 +18,12 @@ same-length-3 : tie.Need-same-length-3
 same-length-3 c = search needs
 
 returns : tie.Need-returns
-returns c = map-refused _ _ _ _ _ (c .before .map-refusal .ensures) (c .if1 .taken)
+returns c = map-unsound _ _ _ _ (no-of (c .before .is-sound .ensures) (c .if1 .taken))
 
-map-up-requires : tie.Need-map-up-requires
-map-up-requires c κs = (
-  up-asks _ _ _ _ (map-asks _ _ _ _ _ (c .before .before .before .before .before .map-refusal .ensures) (c .before .before .before .before .if1 .left)),
-  cursor-start _ _,
-)
-
-counts-after-requires : tie.Need-counts-after-requires
-counts-after-requires c κs = search needs
-
-cast-t31 : tie.Need-cast-t31
-cast-t31 c =
-    let at-map-up = c .before .before .before .before .before .before .before .before .before .before .before in
-    let at-if1 = at-map-up .before .before .before .before .before in
-    let at-map-refusal = at-if1 .before in
-    record {
-      fits = notes-fit
-          ((up-leaves _ _ _ _ _ _ _ _ _ _ (map-asks _ _ _ _ _ (at-map-refusal .map-refusal .ensures) (at-if1 .if1 .left)) (at-map-up .map-up .ensures .0) (c .before .counts-after .ensures)) .1)
-          (map-few _ _ _ _ (map-asks _ _ _ _ _ (at-map-refusal .map-refusal .ensures) (at-if1 .if1 .left)));
-    }
+known-global-from-user-requires : tie.Need-known-global-from-user-requires
+known-global-from-user-requires c κs =
+    let at-if1 = c .before .before .before .before in
+    (yes-of (at-if1 .before .is-sound .ensures) (at-if1 .if1 .left), cursor-start _ _)
 
 same-length-4 : tie.Need-same-length-4
 same-length-4 c = search needs
@@ -54,25 +38,18 @@ same-length-7 : tie.Need-same-length-7
 same-length-7 c = search needs
 
 returns-2 : tie.Need-returns-2
-returns-2 c =
-    let at-map-up = c .before .before .before .before .before .before .before .before .before .before .before in
-    let at-if1 = at-map-up .before .before .before .before .before in
-    let at-map-refusal = at-if1 .before in
-    map-done _ _ _ _ _ _ _ _ _ (at-map-refusal .map-refusal .ensures) (at-if1 .if1 .left)
-    (up-leaves _ _ _ _ _ _ _ _ _ _ (map-asks _ _ _ _ _ (at-map-refusal .map-refusal .ensures) (at-if1 .if1 .left)) (at-map-up .map-up .ensures .0) (c .before .counts-after .ensures))
+returns-2 c = c .before .before .before .before .before .before .before .before .known-global-from-user .ensures
 
 pub global-from-user-spec : {M : Type 1} → statement M
 global-from-user-spec =
     tie.close
     (tie.spec
-    map-refusal-requires
+    is-sound-requires
     same-length
     same-length-2
     same-length-3
     returns
-    map-up-requires
-    counts-after-requires
-    cast-t31
+    known-global-from-user-requires
     same-length-4
     same-length-5
     same-length-6

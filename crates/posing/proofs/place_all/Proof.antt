@@ -3,7 +3,6 @@ use native.Mathlib.Omega.{arith}
 use lib.ListN.{length}
 use Rattle.scope.specs.Table.{tableOf}
 use Rattle.scope.specs.Cursor.{NoneFree}
-use Rattle.scope.proofs.CursorLaws.{cursor-start}
 use Rattle.naming.specs.Parts.{free}
 use Rattle.posing.proofs.AllLaws.{LitsDone, lits-start, turn-asks, turn-small, lits-more, lits-end, lits-sound, lits-sizes, lits-outs}
 use Rattle.posing.proofs.HeldLaws.{run-up, run-done, solvers-inside}
@@ -12,60 +11,60 @@ use Rattle.posing.proofs.place_all.Statement.{statement}
 use Rattle.posing.proofs.place_all.Tie as tie
 
 abbrev Inv-loop : tie.InvT-loop
-Inv-loop gu₀ ug₀ sg₀ gs₀ assignment₀ records₀ lits out₀ notes₀ cur₀ k₀ at₀ i₀ gu ug sg gs assignment records out notes cur k at i =
+Inv-loop gu₀ ug₀ sg₀ gs₀ assignment₀ records₀ lits from out₀ notes₀ cur₀ k₀ at₀ i₀ gu ug sg gs assignment records out notes cur k at i =
     LitsDone (tableOf cur₀ gu₀ ug₀ sg₀ gs₀ assignment₀ records₀) lits i at (tableOf cur gu ug sg gs assignment records) notes₀ notes out₀ out
     × NoneFree (free records) (cur .global) k
 
 abbrev μ-loop : tie.MeasureT-loop
-μ-loop gu₀ ug₀ sg₀ gs₀ assignment₀ records₀ lits out₀ notes₀ cur₀ k₀ at₀ i₀ gu ug sg gs assignment records out notes cur k at i =
+μ-loop gu₀ ug₀ sg₀ gs₀ assignment₀ records₀ lits from out₀ notes₀ cur₀ k₀ at₀ i₀ gu ug sg gs assignment records out notes cur k at i =
     length lits + 1 - i
 
 loop-holds : tie.Need-loop-holds Inv-loop μ-loop
-loop-holds c = (lits-start _ _ _ _, cursor-start _ _)
+loop-holds c = (lits-start _ _ _ _, c .before .before .before .before .before .before .before .before .before .pre .1)
 
 held-lits-requires : tie.Need-held-lits-requires Inv-loop μ-loop
 held-lits-requires c κs =
     let at-loop = c .before .before .before in
     let entry = at-loop .before .before .before .before .before .before .before .before .before .before in
-    let p = entry .pre .places in
+    let p = entry .pre .0 .places in
     let o = lits-outs _ _ _ _ _ _ _ _ _ (at-loop .loop .inv .0) in
-    (omega arith, solvers-inside _ (lits-sound _ _ _ _ _ _ _ _ _ _ (entry .pre) (at-loop .loop .inv .0)))
+    (omega arith, solvers-inside _ (lits-sound _ _ _ _ _ _ _ _ _ _ (entry .pre .0) (at-loop .loop .inv .0)))
 
 same-length : tie.Need-same-length Inv-loop μ-loop
 same-length c =
     let at-loop = c .before .before .before .before .before .before .before in
     let entry = at-loop .before .before .before .before .before .before .before .before .before .before in
-    lits-sizes _ _ _ _ _ _ _ _ _ _ (entry .pre) (at-loop .loop .inv .0) .globalFromUser
+    lits-sizes _ _ _ _ _ _ _ _ _ _ (entry .pre .0) (at-loop .loop .inv .0) .globalFromUser
 
 same-length-2 : tie.Need-same-length-2 Inv-loop μ-loop
 same-length-2 c =
     let at-loop = c .before .before .before .before .before .before .before in
     let entry = at-loop .before .before .before .before .before .before .before .before .before .before in
-    lits-sizes _ _ _ _ _ _ _ _ _ _ (entry .pre) (at-loop .loop .inv .0) .userFromGlobal
+    lits-sizes _ _ _ _ _ _ _ _ _ _ (entry .pre .0) (at-loop .loop .inv .0) .userFromGlobal
 
 same-length-3 : tie.Need-same-length-3 Inv-loop μ-loop
 same-length-3 c =
     let at-loop = c .before .before .before .before .before .before .before in
     let entry = at-loop .before .before .before .before .before .before .before .before .before .before in
-    lits-sizes _ _ _ _ _ _ _ _ _ _ (entry .pre) (at-loop .loop .inv .0) .solverFromGlobal
+    lits-sizes _ _ _ _ _ _ _ _ _ _ (entry .pre .0) (at-loop .loop .inv .0) .solverFromGlobal
 
 same-length-4 : tie.Need-same-length-4 Inv-loop μ-loop
 same-length-4 c =
     let at-loop = c .before .before .before .before .before .before .before in
     let entry = at-loop .before .before .before .before .before .before .before .before .before .before in
-    lits-sizes _ _ _ _ _ _ _ _ _ _ (entry .pre) (at-loop .loop .inv .0) .globalFromSolver
+    lits-sizes _ _ _ _ _ _ _ _ _ _ (entry .pre .0) (at-loop .loop .inv .0) .globalFromSolver
 
 same-length-5 : tie.Need-same-length-5 Inv-loop μ-loop
 same-length-5 c =
     let at-loop = c .before .before .before .before .before .before .before in
     let entry = at-loop .before .before .before .before .before .before .before .before .before .before in
-    lits-sizes _ _ _ _ _ _ _ _ _ _ (entry .pre) (at-loop .loop .inv .0) .assignment
+    lits-sizes _ _ _ _ _ _ _ _ _ _ (entry .pre .0) (at-loop .loop .inv .0) .assignment
 
 same-length-6 : tie.Need-same-length-6 Inv-loop μ-loop
 same-length-6 c =
     let at-loop = c .before .before .before .before .before .before .before in
     let entry = at-loop .before .before .before .before .before .before .before .before .before .before in
-    lits-sizes _ _ _ _ _ _ _ _ _ _ (entry .pre) (at-loop .loop .inv .0) .records
+    lits-sizes _ _ _ _ _ _ _ _ _ _ (entry .pre .0) (at-loop .loop .inv .0) .records
 
 same-length-7 : tie.Need-same-length-7 Inv-loop μ-loop
 same-length-7 c =
@@ -78,7 +77,7 @@ same-length-8 : tie.Need-same-length-8 Inv-loop μ-loop
 same-length-8 c =
     let at-loop = c .before .before .before .before .before .before .before in
     let entry = at-loop .before .before .before .before .before .before .before .before .before .before in
-    lits-sizes _ _ _ _ _ _ _ _ _ _ (entry .pre) (at-loop .loop .inv .0) .notes
+    lits-sizes _ _ _ _ _ _ _ _ _ _ (entry .pre .0) (at-loop .loop .inv .0) .notes
 
 returns : tie.Need-returns Inv-loop μ-loop
 returns c =
@@ -103,7 +102,7 @@ place-new-requires c κs =
     let at-loop = at-held-lits .before .before .before .before in
     let entry = at-loop .before .before .before .before .before .before .before .before .before .before in
     let d = run-done _ _ _ _ _ _ (at-held-lits .held-lits .ensures) (at-loop .loop .inv .0) in
-    (turn-asks _ _ _ _ _ _ _ _ _ _ (entry .pre) (at-if1 .if1 .left) d, at-loop .loop .inv .1)
+    (turn-asks _ _ _ _ _ _ _ _ _ _ (entry .pre .0) (at-if1 .if1 .left) d, at-loop .loop .inv .1)
 
 mul-out : tie.Need-mul-out Inv-loop μ-loop
 mul-out c =
@@ -114,7 +113,7 @@ mul-out c =
     let at-loop = at-held-lits .before .before .before .before in
     let entry = at-loop .before .before .before .before .before .before .before .before .before .before in
     let d = run-done _ _ _ _ _ _ (at-held-lits .held-lits .ensures) (at-loop .loop .inv .0) in
-    let v = turn-small _ _ _ _ _ _ _ _ _ _ _ (entry .pre) (at-if1 .if1 .left) d (at-place-new .place-new .ensures .0) in
+    let v = turn-small _ _ _ _ _ _ _ _ _ _ _ (entry .pre .0) (at-if1 .if1 .left) d (at-place-new .place-new .ensures .0) in
     omega arith
 
 add-out : tie.Need-add-out Inv-loop μ-loop
@@ -126,7 +125,7 @@ add-out c =
     let at-loop = at-held-lits .before .before .before .before in
     let entry = at-loop .before .before .before .before .before .before .before .before .before .before in
     let d = run-done _ _ _ _ _ _ (at-held-lits .held-lits .ensures) (at-loop .loop .inv .0) in
-    let v = turn-small _ _ _ _ _ _ _ _ _ _ _ (entry .pre) (at-if1 .if1 .left) d (at-place-new .place-new .ensures .0) in
+    let v = turn-small _ _ _ _ _ _ _ _ _ _ _ (entry .pre .0) (at-if1 .if1 .left) d (at-place-new .place-new .ensures .0) in
     omega arith
 
 mul-out-2 : tie.Need-mul-out-2 Inv-loop μ-loop
@@ -136,7 +135,7 @@ mul-out-2 c =
     let entry = at-if1 .before .before .before .before .before .before .before .before .before .before .before .before .before .before .before .before .before
     in
     let l = at-if1 .if1 .left in
-    let f = entry .pre .few in
+    let f = entry .pre .0 .few in
     omega arith
 
 slice-write-out : tie.Need-slice-write-out Inv-loop μ-loop
@@ -148,7 +147,7 @@ slice-write-out c =
     let entry = at-loop .before .before .before .before .before .before .before .before .before .before in
     let d = run-done _ _ _ _ _ _ (at-held-lits .held-lits .ensures) (at-loop .loop .inv .0) in
     let l = at-if1 .if1 .left in
-    let p = entry .pre .places in
+    let p = entry .pre .0 .places in
     let s = lits-outs _ _ _ _ _ _ _ _ _ d in
     omega arith
 
@@ -159,7 +158,7 @@ add-i c =
     let entry = at-if1 .before .before .before .before .before .before .before .before .before .before .before .before .before .before .before .before .before
     in
     let l = at-if1 .if1 .left in
-    let f = entry .pre .few in
+    let f = entry .pre .0 .few in
     omega arith
 
 loop-less : tie.Need-loop-less Inv-loop μ-loop

@@ -8,7 +8,7 @@ use Rattle.posing.proofs.pose_any.Tie as tie
 pose-refusal-requires : tie.Need-pose-refusal-requires
 pose-refusal-requires c κs =
     let entry = c .before .before .before .before .before .before .before .before .before .before .before .before .before .before .before in
-    entry .pre
+    (entry .pre .0, entry .pre .1 .0)
 
 same-length : tie.Need-same-length
 same-length c = search needs
@@ -37,7 +37,9 @@ place-all-requires : tie.Need-place-all-requires
 place-all-requires c κs =
     let at-if1 = c .before .before .before .before .before .before .before .before in
     let at-pose-refusal = at-if1 .before in
-    pose-asks _ _ _ _ _ _ (at-pose-refusal .pose-refusal .ensures) (at-if1 .if1 .left)
+    let entry = at-pose-refusal .before .before .before .before .before .before .before .before .before .before .before .before .before .before .before
+    .before in
+    (pose-asks _ _ _ _ _ _ (at-pose-refusal .pose-refusal .ensures) (at-if1 .if1 .left), entry .pre .1 .1)
 
 cast-filled : tie.Need-cast-filled
 cast-filled c =

@@ -1,17 +1,10 @@
 use native.Mathlib.Omega.{arith}
 use Rattle.base.proofs.Truth.{truth, false-of}
-use Rattle.removal.proofs.RefusalLaws.{remove-1, remove-unheld, remove-reads, remove-16, remove-2, remove-0}
-use borrow.Author.Tests.{not-true, not-false}
+use Rattle.removal.proofs.RefusalLaws.{remove-unheld, remove-reads, remove-16, remove-2, remove-0}
 use mathlib.Core.Path.{refl, sym, _∙_}
 use borrow.Author.Needs.{needs}
 use Rattle.removal.proofs.remove_refusal.Statement.{statement}
 use Rattle.removal.proofs.remove_refusal.Tie as tie
-
-is-sound-requires : tie.Need-is-sound-requires
-is-sound-requires c κs = search needs
-
-returns : tie.Need-returns
-returns c = remove-1 _ _ _ (sym (c .before .is-sound .ensures) ∙ not-true _ (c .if1 .taken))
 
 holder-requires : tie.Need-holder-requires
 holder-requires c κs = search needs
@@ -25,10 +18,11 @@ enum-told c = search needs
 held-refusal-requires : tie.Need-held-refusal-requires
 held-refusal-requires c κs = search needs
 
-returns-2 : tie.Need-returns-2
-returns-2 c = remove-unheld _ _ _ (sym (c .before .before .before .before .before .is-sound .ensures)
-    ∙ not-false _ (c .before .before .before .before .if1 .left)) (sym (c .before .enum-told .given .1) ∙ (c .before .before .before .holder .ensures)) _
-    (c .held-refusal .ensures _ refl)
+returns : tie.Need-returns
+returns c =
+    let at-holder = c .before .before .before in
+    let entry = at-holder .before .before .before .before .before .before .before in
+    remove-unheld _ _ _ (entry .pre) (sym (c .before .enum-told .given .1) ∙ at-holder .holder .ensures) _ (c .held-refusal .ensures _ refl)
 
 cast-user : tie.Need-cast-user
 cast-user c = search needs
@@ -39,10 +33,9 @@ mul-user c = search needs
 shared-slice-read-user : tie.Need-shared-slice-read-user
 shared-slice-read-user c =
     let at-global = c .before .before .before in
-    let at-sound = at-global .before .before .before .before in
-    let h = remove-reads _ _ _ (sym (at-global .global .given .1) ∙ at-global .before .before .holder .ensures)
-    (sym (at-sound .is-sound .ensures) ∙ not-false _ (at-global .before .before .before .if1 .left)) in
-    h .0
+    let at-holder = at-global .before .before in
+    let entry = at-holder .before .before .before .before .before .before .before in
+    remove-reads _ _ _ (sym (at-global .global .given .1) ∙ at-holder .holder .ensures) (entry .pre) .0
 
 cast-w : tie.Need-cast-w
 cast-w c = search needs
@@ -53,9 +46,9 @@ mul-w c = search needs
 shared-slice-read-w : tie.Need-shared-slice-read-w
 shared-slice-read-w c =
     let at-global = c .before .before .before .before .before in
-    let at-sound = at-global .before .before .before .before in
-    let h = remove-reads _ _ _ (sym (at-global .global .given .1) ∙ at-global .before .before .holder .ensures)
-    (sym (at-sound .is-sound .ensures) ∙ not-false _ (at-global .before .before .before .if1 .left)) in
+    let at-holder = at-global .before .before in
+    let entry = at-holder .before .before .before .before .before .before .before in
+    let h = remove-reads _ _ _ (sym (at-global .global .given .1) ∙ at-holder .holder .ensures) (entry .pre) in
     omega arith
 
 removal-notes-requires : tie.Need-removal-notes-requires
@@ -67,42 +60,41 @@ cast-words c = search needs
 mul-words : tie.Need-mul-words
 mul-words c = search needs
 
+returns-2 : tie.Need-returns-2
+returns-2 c =
+    let at-global = c .before .before .before .before .before .before .before in
+    let at-holder = at-global .before .before in
+    let entry = at-holder .before .before .before .before .before .before .before in
+    remove-16 _ _ _ (entry .pre) _ (sym (at-global .global .given .1) ∙ at-holder .holder .ensures)
+    (let k = simp truth at (c .if1 .taken) in simp truth (omega arith))
+
 returns-3 : tie.Need-returns-3
 returns-3 c =
-    let at-global = c .before .before .before .before .before .before .before in
-    let at-sound = at-global .before .before .before .before in
-    remove-16 _ _ _ (sym (at-sound .is-sound .ensures) ∙ not-false _ (at-global .before .before .before .if1 .left)) _
-    (sym (at-global .global .given .1) ∙ at-global .before .before .holder .ensures) (let k = simp truth at (c .if2 .taken) in simp truth (omega arith))
+    let at-global = c .before .before .before .before .before .before .before .before in
+    let at-holder = at-global .before .before in
+    let entry = at-holder .before .before .before .before .before .before .before in
+    remove-2 _ _ _ (entry .pre) _ (sym (at-global .global .given .1) ∙ at-holder .holder .ensures)
+    (false-of _ _ (λ h. let k = simp truth at h in simp truth (omega arith)) (c .before .if1 .left)) _ (c .before .before .removal-notes .ensures)
+    (let k = c .if2 .taken in omega arith)
 
 returns-4 : tie.Need-returns-4
 returns-4 c =
     let at-global = c .before .before .before .before .before .before .before .before in
-    let at-sound = at-global .before .before .before .before in
-    remove-2 _ _ _ (sym (at-sound .is-sound .ensures) ∙ not-false _ (at-global .before .before .before .if1 .left)) _
-    (sym (at-global .global .given .1) ∙ at-global .before .before .holder .ensures)
-    (false-of _ _ (λ h. let k = simp truth at h in simp truth (omega arith)) (c .before .if2 .left)) _ (c .before .before .removal-notes .ensures)
-    (let k = c .if3 .taken in omega arith)
-
-returns-5 : tie.Need-returns-5
-returns-5 c =
-    let at-global = c .before .before .before .before .before .before .before .before in
-    let at-sound = at-global .before .before .before .before in
-    remove-0 _ _ _ (sym (at-sound .is-sound .ensures) ∙ not-false _ (at-global .before .before .before .if1 .left)) _
-    (sym (at-global .global .given .1) ∙ at-global .before .before .holder .ensures)
-    (false-of _ _ (λ h. let k = simp truth at h in simp truth (omega arith)) (c .before .if2 .left)) _ (c .before .before .removal-notes .ensures)
-    (let k = c .if3 .left in omega arith)
+    let at-holder = at-global .before .before in
+    let entry = at-holder .before .before .before .before .before .before .before in
+    remove-0 _ _ _ (entry .pre) _ (sym (at-global .global .given .1) ∙ at-holder .holder .ensures)
+    (false-of _ _ (λ h. let k = simp truth at h in simp truth (omega arith)) (c .before .if1 .left)) _ (c .before .before .removal-notes .ensures)
+    (let k = c .if2 .left in omega arith)
 
 pub remove-refusal-spec : {M : Type 1} → statement M
 remove-refusal-spec =
     tie.close
     (tie.spec
-    is-sound-requires
-    returns
     holder-requires
     enum-known-global
     enum-told
     held-refusal-requires
-    returns-2
+    returns
     cast-user
     mul-user
     shared-slice-read-user
@@ -112,6 +104,6 @@ remove-refusal-spec =
     removal-notes-requires
     cast-words
     mul-words
+    returns-2
     returns-3
-    returns-4
-    returns-5)
+    returns-4)

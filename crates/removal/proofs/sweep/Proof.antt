@@ -1,10 +1,11 @@
-use Rattle.removal.proofs.SweepCallLaws.{sweep-refused, all-asks, all-fits, sweep-does}
+use Rattle.removal.proofs.SweepCallLaws.{sweep-unsound}
+use Rattle.table.proofs.CheckLaws.{yes-of, no-of}
 use borrow.Author.Needs.{needs}
 use Rattle.removal.proofs.sweep.Statement.{statement}
 use Rattle.removal.proofs.sweep.Tie as tie
 
-sweep-refusal-requires : tie.Need-sweep-refusal-requires
-sweep-refusal-requires c κs = search needs
+is-sound-requires : tie.Need-is-sound-requires
+is-sound-requires c κs = search needs
 
 same-length : tie.Need-same-length
 same-length c = search needs
@@ -16,17 +17,13 @@ same-length-3 : tie.Need-same-length-3
 same-length-3 c = search needs
 
 returns : tie.Need-returns
-returns c = sweep-refused _ _ _ (c .before .sweep-refusal .ensures) (c .if1 .taken)
+returns c = sweep-unsound _ _ (no-of (c .before .is-sound .ensures) (c .if1 .taken))
 
-sweep-all-requires : tie.Need-sweep-all-requires
-sweep-all-requires c κs = all-asks _ _ _ (c .before .before .before .before .before .sweep-refusal .ensures) (c .before .before .before .before .if1 .left)
-
-cast-t28 : tie.Need-cast-t28
-cast-t28 c =
-    let at-sweep-all = c .before .before .before .before .before .before .before .before .before .before in
-    let at-if1 = at-sweep-all .before .before .before .before .before in
-    let at-sweep-refusal = at-if1 .before in
-    record { fits = all-fits _ _ _ (at-sweep-refusal .sweep-refusal .ensures) (at-if1 .if1 .left) _ _ _ _ ((at-sweep-all .sweep-all .ensures) _) }
+known-sweep-requires : tie.Need-known-sweep-requires
+known-sweep-requires c κs =
+    let at-if1 = c .before .before .before .before in
+    let at-is-sound = at-if1 .before in
+    yes-of (at-is-sound .is-sound .ensures) (at-if1 .if1 .left)
 
 same-length-4 : tie.Need-same-length-4
 same-length-4 c = search needs
@@ -42,22 +39,19 @@ same-length-7 c = search needs
 
 returns-2 : tie.Need-returns-2
 returns-2 c =
-    let at-sweep-all = c .before .before .before .before .before .before .before .before .before .before in
-    let at-if1 = at-sweep-all .before .before .before .before .before in
-    let at-sweep-refusal = at-if1 .before in
-    sweep-does _ _ _ (at-sweep-refusal .sweep-refusal .ensures) (at-if1 .if1 .left) _ _ _ _ _ ((at-sweep-all .sweep-all .ensures) _)
+    let at-known-sweep = c .before .before .before .before .before .before .before .before in
+    at-known-sweep .known-sweep .ensures
 
 pub sweep-spec : {M : Type 1} → statement M
 sweep-spec =
     tie.close
     (tie.spec
-    sweep-refusal-requires
+    is-sound-requires
     same-length
     same-length-2
     same-length-3
     returns
-    sweep-all-requires
-    cast-t28
+    known-sweep-requires
     same-length-4
     same-length-5
     same-length-6

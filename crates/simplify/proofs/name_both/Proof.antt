@@ -1,4 +1,4 @@
-use Rattle.simplify.proofs.SimplifyLaws.{room-clause, room-rest}
+use Rattle.simplify.proofs.SimplifyLaws.{room-rest}
 use borrow.Author.Needs.{needs}
 use Rattle.simplify.proofs.name_both.Statement.{statement}
 use Rattle.simplify.proofs.name_both.Tie as tie
@@ -7,7 +7,7 @@ rename-lits-requires : tie.Need-rename-lits-requires
 rename-lits-requires c κs =
     let entry = c .before .before .before .before .before .before in (
       (entry .pre .0),
-      room-clause _ _ (entry .pre .0) (entry .args .clause .now) (entry .pre .1 .1),
+      (entry .pre .1 .1),
     )
 
 keep-rest-requires : tie.Need-keep-rest-requires

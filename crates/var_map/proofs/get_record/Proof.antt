@@ -1,5 +1,7 @@
+use mathlib.Core.Path.{refl}
 use Rattle.scope.specs.Lookup.{recordWordOf}
-use Rattle.var_map.proofs.LookupLaws.{lookup-1, lookup-told, no-word, a-word, record-word}
+use Rattle.table.proofs.CheckLaws.{yes-of, no-of}
+use Rattle.var_map.proofs.LookupLaws.{lookup-1, in-left, word-counts}
 use borrow.Author.Needs.{needs}
 use Rattle.var_map.proofs.get_record.Statement.{statement}
 use Rattle.var_map.proofs.get_record.Tie as tie
@@ -9,23 +11,15 @@ is-sound-requires c κs = search needs
 
 returns : tie.Need-returns
 unfolding recordWordOf
-returns c = lookup-1 _ _ _ _ (c .before .is-sound .ensures) (c .if1 .taken)
+returns c = lookup-1 _ _ _ (no-of (c .before .is-sound .ensures) (c .if1 .taken))
+
+record-in-requires : tie.Need-record-in-requires
+record-in-requires c κs = search needs
 
 returns-2 : tie.Need-returns-2
-unfolding recordWordOf
 returns-2 c =
-    lookup-told _ _ _ _ _ (c .before .before .before .before .is-sound .ensures) (c .before .before .before .if1 .left) (no-word _ _ _ (c .if2 .taken))
-
-word-at-requires : tie.Need-word-at-requires
-word-at-requires c κs = search needs
-
-returns-3 : tie.Need-returns-3
-unfolding recordWordOf
-returns-3 c =
-    lookup-told _ _ _ _ _ (c .before .before .before .before .before .is-sound .ensures) (c .before .before .before .before .if1 .left)
-    (a-word _ _ _ _ (c .before .if2 .left) (record-word _ _ _ _ (c .before .before .before .before .before .is-sound .ensures)
-    (c .before .before .before .before .if1 .left) (c .before .if2 .left) (c .word-at .ensures)))
+    in-left _ _ _ _ _ _ _ _ _ (word-counts (c .record-in .result) _)
+    (c .record-in .ensures _ (yes-of (c .before .before .is-sound .ensures) (c .before .if1 .left)) refl refl)
 
 pub get-record-spec : {M : Type 1} → statement M
-get-record-spec =
-    tie.close (tie.spec is-sound-requires returns returns-2 word-at-requires returns-3)
+get-record-spec = tie.close (tie.spec is-sound-requires returns record-in-requires returns-2)

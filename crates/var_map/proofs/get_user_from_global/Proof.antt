@@ -1,7 +1,7 @@
+use mathlib.Core.Path.{refl}
 use Rattle.scope.specs.Lookup.{userFromGlobalOf}
-use mathlib.Core.Path.{sym, _∙_}
-use Rattle.table.proofs.FoundLaws.{user-word}
-use Rattle.var_map.proofs.LookupLaws.{lookup-1, lookup-told, lookup-beyond, lookup-none, lookup-one}
+use Rattle.table.proofs.CheckLaws.{yes-of, no-of}
+use Rattle.var_map.proofs.LookupLaws.{lookup-1, in-left, user-counts}
 use borrow.Author.Needs.{needs}
 use Rattle.var_map.proofs.get_user_from_global.Statement.{statement}
 use Rattle.var_map.proofs.get_user_from_global.Tie as tie
@@ -11,46 +11,15 @@ is-sound-requires c κs = search needs
 
 returns : tie.Need-returns
 unfolding userFromGlobalOf
-returns c = lookup-1 _ _ _ _ (c .before .is-sound .ensures) (c .if1 .taken)
+returns c = lookup-1 _ _ _ (no-of (c .before .is-sound .ensures) (c .if1 .taken))
+
+user-from-global-in-requires : tie.Need-user-from-global-in-requires
+user-from-global-in-requires c κs = search needs
 
 returns-2 : tie.Need-returns-2
-unfolding userFromGlobalOf
 returns-2 c =
-    lookup-told _ _ _ _ _ (c .before .before .before .before .is-sound .ensures) (c .before .before .before .if1 .left) (lookup-beyond _ _ _ (c .if2 .taken))
-
-user-of-requires : tie.Need-user-of-requires
-user-of-requires c κs = search needs
-
-enum-known-found : tie.Need-enum-known-found
-enum-known-found c = search needs
-
-enum-told : tie.Need-enum-told
-enum-told c = search needs
-
-returns-3 : tie.Need-returns-3
-unfolding userFromGlobalOf
-returns-3 c =
-    lookup-told _ _ _ _ _ (c .before .before .before .before .before .before .before .is-sound .ensures)
-    (c .before .before .before .before .before .before .if1 .left)
-    (lookup-none _ _ _ (c .before .before .before .if2 .left) (user-word _ _ (sym (c .enum-told .given .1) ∙ (c .before .before .user-of .ensures))))
-
-returns-4 : tie.Need-returns-4
-unfolding userFromGlobalOf
-returns-4 c =
-    lookup-told _ _ _ _ _ (c .before .before .before .before .before .before .before .before .is-sound .ensures)
-    (c .before .before .before .before .before .before .before .if1 .left)
-    (lookup-one _ _ _ _ (c .before .before .before .before .if2 .left)
-    (user-word _ _ (sym (c .before .found .given .1) ∙ (c .before .before .before .user-of .ensures))))
+    in-left _ _ _ _ _ _ _ _ _ (user-counts (c .user-from-global-in .result) _)
+    (c .user-from-global-in .ensures _ (yes-of (c .before .before .is-sound .ensures) (c .before .if1 .left)) refl)
 
 pub get-user-from-global-spec : {M : Type 1} → statement M
-get-user-from-global-spec =
-    tie.close
-    (tie.spec
-    is-sound-requires
-    returns
-    returns-2
-    user-of-requires
-    enum-known-found
-    enum-told
-    returns-3
-    returns-4)
+get-user-from-global-spec = tie.close (tie.spec is-sound-requires returns user-from-global-in-requires returns-2)

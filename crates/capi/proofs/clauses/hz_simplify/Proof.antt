@@ -3,9 +3,8 @@ use lib.ListN.{length}
 use Rattle.scope.specs.Table.{Table, tableOf}
 use Rattle.scope.specs.Outcome.{Outcome}
 use Rattle.numbers.specs.Meant.{meantFormat}
-use Rattle.numbers.proofs.SurfaceLaws.{same-given, quiet-refused, numbered-given}
-use Rattle.capi.proofs.CodecLaws.{filled-same}
-use Rattle.capi.proofs.LineLaws.{simplify-is, no-simplify-format}
+use Rattle.numbers.proofs.SurfaceLaws.{same-given, quiet-refused, numbered-given, filled-same}
+use Rattle.numbers.proofs.LineLaws.{simplify-is, no-simplify-format}
 use borrow.Author.Needs.{needs}
 use Rattle.capi.proofs.clauses.hz_simplify.Statement.{statement}
 use Rattle.capi.proofs.clauses.hz_simplify.Tie as tie

@@ -2,7 +2,8 @@ use mathlib.Core.Path.{refl, sym, ap, _∙_}
 use lib.ListN.{length}
 use Rattle.drat.specs.Filled.{Filling}
 use Rattle.numbers.specs.Surface.{located}
-use Rattle.capi.proofs.CodecLaws.{read-is, no-read-format, filled-same, same-numbers}
+use Rattle.numbers.proofs.SurfaceLaws.{filled-same}
+use Rattle.capi.proofs.CodecLaws.{read-is, no-read-format, same-numbers}
 use Rattle.numbers.specs.Meant.{meantFormat}
 use borrow.Author.Needs.{needs}
 use Rattle.capi.proofs.codec.hz_read.Statement.{statement}

@@ -2,7 +2,8 @@ use mathlib.Core.Path.{refl, sym, ap, _∙_}
 use lib.ListN.{length}
 use Rattle.drat.specs.Writing.{Writing}
 use Rattle.numbers.specs.Surface.{plain}
-use Rattle.capi.proofs.CodecLaws.{write-clause-is, no-clause-format, no-clause-kind, filled-same, same-numbers}
+use Rattle.numbers.proofs.SurfaceLaws.{filled-same}
+use Rattle.capi.proofs.CodecLaws.{write-clause-is, no-clause-format, no-clause-kind, same-numbers}
 use Rattle.numbers.specs.Meant.{meantFormat, meantKind}
 use borrow.Author.Needs.{needs}
 use Rattle.capi.proofs.codec.hz_write_clause.Statement.{statement}

@@ -5,10 +5,9 @@ use Rattle.scope.specs.Outcome.{Outcome}
 use Rattle.numbers.specs.declared.HzStep.{HzStep}
 use Rattle.numbers.specs.Numbers.{known}
 use Rattle.numbers.specs.Meant.{meantStep}
-use Rattle.capi.specs.Lines.{stepGiven, wordsAt}
-use Rattle.numbers.proofs.SurfaceLaws.{same-given, quiet-refused, numbered-given}
-use Rattle.capi.proofs.CodecLaws.{filled-same}
-use Rattle.capi.proofs.LineLaws.{rename-is, no-rename-step, stepped-given}
+use Rattle.numbers.specs.Lines.{stepGiven, wordsAt}
+use Rattle.numbers.proofs.SurfaceLaws.{same-given, quiet-refused, numbered-given, filled-same}
+use Rattle.numbers.proofs.LineLaws.{rename-is, no-rename-step, stepped-given}
 use borrow.Author.Needs.{needs}
 use Rattle.capi.proofs.lines.hz_rename.Statement.{statement}
 use Rattle.capi.proofs.lines.hz_rename.Tie as tie

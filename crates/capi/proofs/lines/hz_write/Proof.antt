@@ -3,9 +3,8 @@ use lib.ListN.{length}
 use Rattle.scope.specs.Table.{Table, tableOf}
 use Rattle.scope.specs.Outcome.{Outcome}
 use Rattle.numbers.specs.Meant.{meantFormat, meantStep}
-use Rattle.numbers.proofs.SurfaceLaws.{same-given, quiet-refused, numbered-given}
-use Rattle.capi.proofs.CodecLaws.{filled-same}
-use Rattle.capi.proofs.LineLaws.{write-is, no-write-format, no-write-step}
+use Rattle.numbers.proofs.SurfaceLaws.{same-given, quiet-refused, numbered-given, filled-same}
+use Rattle.numbers.proofs.LineLaws.{write-is, no-write-format, no-write-step}
 use borrow.Author.Needs.{needs}
 use Rattle.capi.proofs.lines.hz_write.Statement.{statement}
 use Rattle.capi.proofs.lines.hz_write.Tie as tie

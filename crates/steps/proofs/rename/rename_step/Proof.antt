@@ -1,54 +1,20 @@
-use Rattle.steps.proofs.StepLaws.{rename-clear, step-nameable, literals-most, literals-fit, hashes-most, hashes-fit}
-use Rattle.steps.proofs.RenameLaws.{rename-refused, rename-done}
-use lib.Seq.{length-take-le}
-use mathlib.Core.Path.{sym}
+use Rattle.steps.proofs.RenameLaws.{rename-unsound}
+use Rattle.table.proofs.CheckLaws.{yes-of, no-of}
 use borrow.Author.Needs.{needs}
 use Rattle.steps.proofs.rename.rename_step.Statement.{statement}
 use Rattle.steps.proofs.rename.rename_step.Tie as tie
 
-rename-refusal-requires : tie.Need-rename-refusal-requires
-rename-refusal-requires c κs = search needs
+is-sound-requires : tie.Need-is-sound-requires
+is-sound-requires c κs = search needs
 
 returns : tie.Need-returns
 returns c =
-    let entry = c .before .before .before .before .before .before .before .before .before .before .before .before in
-    let z = rename-refused _ (entry .args .step) (entry .args .solvervars) (entry .args .lits .now) (entry .args .hashes .now) (entry .args .out .now)
-    (entry .args .hashout .now) _ (c .before .rename-refusal .ensures) (c .if1 .taken) in (z .does, (z .words, z .more))
+    let args = c .before .before .before .before .before .before .before .before .before .before .before .before .args in
+    let z = rename-unsound _ (args .step) (args .solvervars) (args .lits .now) (args .hashes .now) (args .out .now) (args .hashout .now)
+    (no-of (c .before .is-sound .ensures) (c .if1 .taken)) in (z .does, (z .words, z .more))
 
-carried-requires : tie.Need-carried-requires
-carried-requires c κs = search needs
-
-hashed-requires : tie.Need-hashed-requires
-hashed-requires c κs = search needs
-
-slice-aggregate-rename-lits : tie.Need-slice-aggregate-rename-lits
-slice-aggregate-rename-lits c =
-    let entry = c .before .before .before .before .before .before .before .before .before .before .before .before .before .before .before in
-    sym (length-take-le _ _ (literals-most (entry .args .step) (entry .args .lits .now) _ (c .before .before .carried .ensures)))
-
-rename-lits-requires : tie.Need-rename-lits-requires
-rename-lits-requires c κs =
-    let entry = c .before .before .before .before .before .before .before .before .before .before .before .before .before .before .before .before in
-    let k = rename-clear _ (entry .args .step) (entry .args .solvervars) (entry .args .lits .now) (entry .args .hashes .now) _ _ _
-    (c .before .before .before .before .before .rename-refusal .ensures) (c .before .before .before .before .if1 .left) in
-    let e = c .before .before .before .carried .ensures in (
-      step-nameable _ (entry .args .step) (entry .args .solvervars) (entry .args .lits .now) (entry .args .hashes .now) _ (k .clear) e,
-      literals-fit (entry .args .step) (entry .args .lits .now) _ _ e (k .room),
-    )
-
-slice-aggregate-copy-hashes : tie.Need-slice-aggregate-copy-hashes
-slice-aggregate-copy-hashes c =
-    let entry = c .before .before .before .before .before .before .before .before .before .before .before .before .before .before .before .before .before
-    .before .before .before in
-    sym (length-take-le _ _ (hashes-most (entry .args .step) (entry .args .hashes .now) _ (c .before .before .before .before .before .before .hashed .ensures)))
-
-copy-hashes-requires : tie.Need-copy-hashes-requires
-copy-hashes-requires c κs =
-    let at-rename-refusal = c .before .before .before .before .before .before .before .before .before .before in
-    let entry = at-rename-refusal .before .before .before .before .before .before .before .before .before .before .before in
-    hashes-fit (entry .args .step) (entry .args .hashes .now) _ _ (c .before .before .before .before .before .before .before .hashed .ensures)
-    ((rename-clear _ (entry .args .step) (entry .args .solvervars) (entry .args .lits .now) (entry .args .hashes .now) _ _ _
-    (at-rename-refusal .rename-refusal .ensures) (c .before .before .before .before .before .before .before .before .before .if1 .left)) .hashroom)
+known-rename-step-requires : tie.Need-known-rename-step-requires
+known-rename-step-requires c κs = yes-of (c .before .before .before .is-sound .ensures) (c .before .before .if1 .left)
 
 same-length : tie.Need-same-length
 same-length c = search needs
@@ -57,29 +23,15 @@ same-length-2 : tie.Need-same-length-2
 same-length-2 c = search needs
 
 returns-2 : tie.Need-returns-2
-returns-2 c =
-    let at-hashed = c .before .before .before .before .before .before .before .before .before .before in
-    let at-carried = at-hashed .before in
-    let at-if1 = at-carried .before in
-    let at-rename-refusal = at-if1 .before in
-    let entry = at-rename-refusal .before .before .before .before .before .before .before .before .before .before .before in
-    let z = rename-done _ (entry .args .step) (entry .args .solvervars) (entry .args .lits .now) (entry .args .hashes .now) (entry .args .out .now)
-    (entry .args .hashout .now) _ _ _ _ _ (at-rename-refusal .rename-refusal .ensures) (at-if1 .if1 .left) (at-carried .carried .ensures)
-    (at-hashed .hashed .ensures) (c .before .before .before .before .before .before .before .rename-lits .ensures)
-    (c .before .before .copy-hashes .ensures) in (z .does, (z .words, z .more))
+returns-2 c = c .before .before .before .before .known-rename-step .ensures
 
 pub rename-step-spec : {M : Type 1} → statement M
 rename-step-spec =
     tie.close
     (tie.spec
-    rename-refusal-requires
+    is-sound-requires
     returns
-    carried-requires
-    hashed-requires
-    slice-aggregate-rename-lits
-    rename-lits-requires
-    slice-aggregate-copy-hashes
-    copy-hashes-requires
+    known-rename-step-requires
     same-length
     same-length-2
     returns-2)

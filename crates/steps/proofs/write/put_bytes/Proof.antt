@@ -9,53 +9,29 @@ use borrow.Author.Needs.{needs}
 use Rattle.steps.proofs.write.put_bytes.Statement.{statement}
 use Rattle.steps.proofs.write.put_bytes.Tie as tie
 
-rule-of-requires : tie.Need-rule-of-requires
-rule-of-requires c κs = search needs
-
 enum-told : tie.Need-enum-told
 enum-told c = search needs
 
 put-step-requires : tie.Need-put-step-requires
-put-step-requires c κs = (
-  (c .before .before .before .before .before .before .pre .0),
-  omega (
-    arith,
-    ap length (bytes-add (c .before .before .before .before .before .before .args .f)
-        (c .before .before .before .before .before .before .args .step) _ (c .before .before .before .before .before .before .args .lits .now)
-        (c .before .before .before .rule-of .ensures) (c .before .enum-told .given .1)),
-    (c .before .before .before .before .before .before .pre .1),
-  ),
-)
+put-step-requires c κs =
+    let entry = c .before .before .before .before .before in
+    (entry .pre .0, omega (arith, ap length (bytes-add (entry .args .f) _ (entry .args .lits .now) (c .before .enum-told .given .1)), (entry .pre .1)))
 
 enum-told-2 : tie.Need-enum-told-2
 enum-told-2 c = search needs
 
 put-units-requires : tie.Need-put-units-requires
-put-units-requires c κs = (
-  (c .before .before .before .before .before .before .pre .0),
-  omega (
-    arith,
-    ap length (bytes-each (c .before .before .before .before .before .before .args .f)
-        (c .before .before .before .before .before .before .args .step) _ (c .before .before .before .before .before .before .args .lits .now)
-        (c .before .before .before .rule-of .ensures) (c .before .enum-told2 .given .1)),
-    (c .before .before .before .before .before .before .pre .1),
-  ),
-)
+put-units-requires c κs =
+    let entry = c .before .before .before .before .before in
+    (entry .pre .0, omega (arith, ap length (bytes-each (entry .args .f) _ (entry .args .lits .now) (c .before .enum-told2 .given .1)), (entry .pre .1)))
 
 enum-told-3 : tie.Need-enum-told-3
 enum-told-3 c = search needs
 
 put-step-requires-2 : tie.Need-put-step-requires-2
-put-step-requires-2 c κs = (
-  (c .before .before .before .before .before .before .pre .0),
-  omega (
-    arith,
-    ap length (bytes-delete (c .before .before .before .before .before .before .args .f)
-        (c .before .before .before .before .before .before .args .step) _ (c .before .before .before .before .before .before .args .lits .now)
-        (c .before .before .before .rule-of .ensures) (c .before .enum-told3 .given .1)),
-    (c .before .before .before .before .before .before .pre .1),
-  ),
-)
+put-step-requires-2 c κs =
+    let entry = c .before .before .before .before .before in
+    (entry .pre .0, omega (arith, ap length (bytes-delete (entry .args .f) _ (entry .args .lits .now) (c .before .enum-told3 .given .1)), (entry .pre .1)))
 
 enum-told-4 : tie.Need-enum-told-4
 enum-told-4 c = search needs
@@ -67,97 +43,54 @@ same-length : tie.Need-same-length
 same-length c = search needs
 
 returns : tie.Need-returns
-returns c = (
-  (c .before .before .put-step .ensures .0) ∙ ap (λ (bs : List ℕ).
-      (c .before .before .before .before .before .before .before .before .before .args .at) + length bs)
-      (sym (bytes-add (c .before .before .before .before .before .before .before .before .before .args .f)
-      (c .before .before .before .before .before .before .before .before .before .args .step) _
-      (c .before .before .before .before .before .before .before .before .before .args .lits .now)
-      (c .before .before .before .before .before .before .rule-of .ensures) (c .before .before .before .before .enum-told .given .1))),
-  (c .before .before .put-step .ensures .1) ∙ ap (λ (bs : List ℕ). sets
-      (c .before .before .before .before .before .before .before .before .before .args .out .now)
-      (c .before .before .before .before .before .before .before .before .before .args .at) bs)
-      (sym (bytes-add (c .before .before .before .before .before .before .before .before .before .args .f)
-      (c .before .before .before .before .before .before .before .before .before .args .step) _
-      (c .before .before .before .before .before .before .before .before .before .args .lits .now)
-      (c .before .before .before .before .before .before .rule-of .ensures) (c .before .before .before .before .enum-told .given .1))),
-)
+returns c =
+    let entry = c .before .before .before .before .before .before .before .before in
+    let e = sym (bytes-add (entry .args .f) _ (entry .args .lits .now) (c .before .before .before .before .enum-told .given .1)) in (
+      (c .before .before .put-step .ensures .0) ∙ ap (λ (bs : List ℕ). (entry .args .at) + length bs) e,
+      (c .before .before .put-step .ensures .1) ∙ ap (λ
+          (bs : List ℕ). sets (entry .args .out .now) (entry .args .at) bs) e,
+    )
 
 same-length-2 : tie.Need-same-length-2
 same-length-2 c = search needs
 
 returns-2 : tie.Need-returns-2
-returns-2 c = (
-  (c .before .before .put-units .ensures .0) ∙ ap (λ (bs : List ℕ).
-      (c .before .before .before .before .before .before .before .before .before .args .at) + length bs)
-      (sym (bytes-each (c .before .before .before .before .before .before .before .before .before .args .f)
-      (c .before .before .before .before .before .before .before .before .before .args .step) _
-      (c .before .before .before .before .before .before .before .before .before .args .lits .now)
-      (c .before .before .before .before .before .before .rule-of .ensures) (c .before .before .before .before .enum-told2 .given .1))),
-  (c .before .before .put-units .ensures .1) ∙ ap (λ (bs : List ℕ). sets
-      (c .before .before .before .before .before .before .before .before .before .args .out .now)
-      (c .before .before .before .before .before .before .before .before .before .args .at) bs)
-      (sym (bytes-each (c .before .before .before .before .before .before .before .before .before .args .f)
-      (c .before .before .before .before .before .before .before .before .before .args .step) _
-      (c .before .before .before .before .before .before .before .before .before .args .lits .now)
-      (c .before .before .before .before .before .before .rule-of .ensures) (c .before .before .before .before .enum-told2 .given .1))),
-)
+returns-2 c =
+    let entry = c .before .before .before .before .before .before .before .before in
+    let e = sym (bytes-each (entry .args .f) _ (entry .args .lits .now) (c .before .before .before .before .enum-told2 .given .1)) in (
+      (c .before .before .put-units .ensures .0) ∙ ap (λ (bs : List ℕ). (entry .args .at) + length bs) e,
+      (c .before .before .put-units .ensures .1) ∙ ap (λ
+          (bs : List ℕ). sets (entry .args .out .now) (entry .args .at) bs) e,
+    )
 
 same-length-3 : tie.Need-same-length-3
 same-length-3 c = search needs
 
 returns-3 : tie.Need-returns-3
-returns-3 c = (
-  (c .before .before .put-step2 .ensures .0) ∙ ap (λ (bs : List ℕ).
-      (c .before .before .before .before .before .before .before .before .before .args .at) + length bs)
-      (sym (bytes-delete (c .before .before .before .before .before .before .before .before .before .args .f)
-      (c .before .before .before .before .before .before .before .before .before .args .step) _
-      (c .before .before .before .before .before .before .before .before .before .args .lits .now)
-      (c .before .before .before .before .before .before .rule-of .ensures) (c .before .before .before .before .enum-told3 .given .1))),
-  (c .before .before .put-step2 .ensures .1) ∙ ap (λ (bs : List ℕ). sets
-      (c .before .before .before .before .before .before .before .before .before .args .out .now)
-      (c .before .before .before .before .before .before .before .before .before .args .at) bs)
-      (sym (bytes-delete (c .before .before .before .before .before .before .before .before .before .args .f)
-      (c .before .before .before .before .before .before .before .before .before .args .step) _
-      (c .before .before .before .before .before .before .before .before .before .args .lits .now)
-      (c .before .before .before .before .before .before .rule-of .ensures) (c .before .before .before .before .enum-told3 .given .1))),
-)
+returns-3 c =
+    let entry = c .before .before .before .before .before .before .before .before in
+    let e = sym (bytes-delete (entry .args .f) _ (entry .args .lits .now) (c .before .before .before .before .enum-told3 .given .1)) in (
+      (c .before .before .put-step2 .ensures .0) ∙ ap (λ (bs : List ℕ). (entry .args .at) + length bs) e,
+      (c .before .before .put-step2 .ensures .1) ∙ ap (λ
+          (bs : List ℕ). sets (entry .args .out .now) (entry .args .at) bs) e,
+    )
 
 returns-4 : tie.Need-returns-4
-returns-4 c = (
-  omega (
-    arith,
-    ap length (bytes-nothing (c .before .before .before .before .before .args .f)
-        (c .before .before .before .before .before .args .step) _ (c .before .before .before .before .before .args .lits .now)
-        (c .before .before .rule-of .ensures)
-        (c .enum-told4 .given .1)),
-  ),
-  sym
-      (ap (λ (bs : List ℕ). sets (c .before .before .before .before .before .args .out .now) (c .before .before .before .before .before .args .at) bs)
-      (bytes-nothing (c .before .before .before .before .before .args .f) (c .before .before .before .before .before .args .step) _
-      (c .before .before .before .before .before .args .lits .now) (c .before .before .rule-of .ensures) (c .enum-told4 .given .1))),
-)
+returns-4 c =
+    let entry = c .before .before .before .before in
+    let e = bytes-nothing (entry .args .f) _ (entry .args .lits .now) (c .enum-told4 .given .1) in
+    (omega (arith, ap length e), sym (ap (λ (bs : List ℕ). sets (entry .args .out .now) (entry .args .at) bs) e))
 
 returns-5 : tie.Need-returns-5
-returns-5 c = (
-  omega (
-    arith,
-    ap length (bytes-refused (c .before .before .before .before .before .args .f)
-        (c .before .before .before .before .before .args .step) _ (c .before .before .before .before .before .args .lits .now)
-        (c .before .before .rule-of .ensures)
-        (c .enum-told5 .given .1)),
-  ),
-  sym
-      (ap (λ (bs : List ℕ). sets (c .before .before .before .before .before .args .out .now) (c .before .before .before .before .before .args .at) bs)
-      (bytes-refused (c .before .before .before .before .before .args .f) (c .before .before .before .before .before .args .step) _
-      (c .before .before .before .before .before .args .lits .now) (c .before .before .rule-of .ensures) (c .enum-told5 .given .1))),
-)
+returns-5 c =
+    let entry = c .before .before .before .before in
+    let e = bytes-refused (entry .args .f) _ (entry .args .lits .now) (c .enum-told5 .given .1) in
+    (omega (arith, ap length e), sym (ap (λ (bs : List ℕ). sets (entry .args .out .now) (entry .args .at) bs) e))
 
 pub put-bytes-spec : {M : Type 1} → statement M
 put-bytes-spec =
     tie.close
     (tie.spec
-    rule-of-requires
     enum-told
     put-step-requires
     enum-told-2

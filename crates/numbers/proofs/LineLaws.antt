@@ -12,12 +12,12 @@ use Rattle.scope.specs.Outcome.{Outcome, refusal, unless}
 use Rattle.scope.specs.Write.{renameOf, writeOf}
 use Rattle.scope.specs.Simplify.{simplifyOf}
 use Rattle.scope.specs.Binary.{binaryOf}
 use Rattle.numbers.specs.declared.HzStep.{HzStep}
 use Rattle.numbers.specs.Numbers.{known, unknown, formatFor}
 use Rattle.numbers.specs.Surface.{stepped, Given}
 use Rattle.numbers.specs.Flat.{stepless}
-use Rattle.capi.specs.Lines.{stepGiven, renameAt, writeAt, simplifyAt, binaryAt}
+use Rattle.numbers.specs.Lines.{stepGiven, renameAt, writeAt, simplifyAt, binaryAt}
 use Rattle.numbers.proofs.NumberLaws.{known-is, unknown-is}
 
 module _ (format : ℕ) (step : HzStep) (t : Table) (solverVars : Bool) (lits hashes : List ℕ) (room : ℕ) where
   pub write-is : {f : Format} {s : ProofStep} → formatFor format ≡ known f → stepGiven step ≡ known s
