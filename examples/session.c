@@ -1,8 +1,9 @@
 /*
- * A session from C, from Open to Model. It prints one line if every answer is as expected.
+ * A session from C, from Open to Model, and a short one on a table that is known to be sound. It prints one line if every answer is as expected.
  *
  *     rt staticlib capi
- *     cc -std=c99 -Wall -Wextra -Werror -Iinclude examples/session.c target/staticlib/libcapi.a -o session
+ *     rt staticlib known
+ *     cc -std=c99 -Wall -Wextra -Werror -Iinclude examples/session.c target/staticlib/libknown.a target/staticlib/libcapi.a -o session
  */
 #include "hintzobar.h"
 
@@ -245,6 +246,66 @@ static void modelling(void) {
     expect(!hz_is_sound(c, TABLE) && hz_model(c, TABLE, globals, CAPACITY, users, CAPACITY).refusal == HZ_UNSOUND);
 }
 
+/* A table just opened is sound, and stays so through these calls, which do not test it: each is lent the same lists, with the counts that the one
+ * before answered. The cursors go along; a caller who does not want them gives 0. */
+static void knowing(void) {
+    uint32_t ufrom = 0, gfrom = 0;
+    uint32_t clause[2];
+    const uint32_t users[2] = {POS(2), NEG(1)};
+    hz_changed opened = hz_open(CAPACITY, TABLE);
+    expect(opened.refusal == HZ_ACCEPTED);
+    c = opened.counts;
+
+    hz_posed posed = hz_known_pose(c, TABLE, users, 2, false, gfrom, clause, 2, NOTES);
+    expect(posed.refusal == HZ_ACCEPTED && posed.filled == 2 && posed.notes == 5);
+    expect(clause[0] == POS(0) && clause[1] == NEG(1));
+    c = posed.counts;
+
+    /* What is mapped and held already is found in the lists, without a call on the table; box 0 holds no index yet, so that the call has to be made. */
+    hz_found mapped = hz_map_in(gu, CAPACITY, records, CAPACITY, 2, true);
+    hz_found held = hz_grant_in(sg, CAPACITY, 2);
+    expect(mapped.found && mapped.value == 2 && held.found && held.value == 0);
+    expect(!hz_grant_in(sg, CAPACITY, 0).found && !hz_map_in(gu, CAPACITY, records, CAPACITY, 3, false).found);
+    hz_granted granted = hz_known_grant(c, TABLE, 0, NOTES);
+    expect(granted.refusal == HZ_ACCEPTED && granted.solver == 2 && granted.notes == 1 && note(0, 1, 0, 3));
+    c = granted.counts;
+
+    /* Lookups, marks and values are lent only the lists that they touch; the counts stay. */
+    hz_found global = hz_global_from_solver_in(gs, CAPACITY, 1);
+    expect(global.found && global.value == 1 && !hz_global_from_solver_in(gs, CAPACITY, UINT32_MAX).found);
+    expect(hz_assign_in(gs, CAPACITY, assignment, CAPACITY, clause[1]) == HZ_ACCEPTED);
+    expect(hz_assign_in(gs, CAPACITY, assignment, CAPACITY, clause[1]) == HZ_HAS_VALUE);
+    expect(hz_mark_in(gs, CAPACITY, records, CAPACITY, HZ_USED, 0) == HZ_ACCEPTED);
+    expect(hz_mark_in(gs, CAPACITY, records, CAPACITY, HZ_USED, 3) == HZ_NOT_HELD);
+    expect(hz_mark_in(gs, CAPACITY, records, CAPACITY, 9, 0) == HZ_UNKNOWN);
+    hz_found value = hz_assignment_in(c.solver, assignment, CAPACITY, 1), record = hz_record_in(c.global, records, CAPACITY, 2);
+    expect(value.found && value.value == 1 && record.found && record.value == 0);
+
+    /* User 3 comes: all users up to it are mapped. Box 1 is hidden and loses its index, and user 1 and global 1 are free: the cursors go back to them. */
+    hz_new_mapped fresh = hz_known_new_user(c, TABLE, ufrom, gfrom, NOTES);
+    expect(fresh.refusal == HZ_ACCEPTED && fresh.user == 3 && fresh.global == 3);
+    c = fresh.counts;
+    ufrom = fresh.user + 1;
+    hz_mode_set hidden = hz_known_set_mode(c, TABLE, 1, HZ_HIDE, ufrom, NOTES);
+    expect(hidden.refusal == HZ_ACCEPTED && hidden.notes == 1 && note(0, 0, 1, 0));
+    c = hidden.counts;
+    ufrom = 1;
+    hz_noted removed = hz_known_remove(c, TABLE, 1, NOTES);
+    expect(removed.refusal == HZ_ACCEPTED && removed.notes == 2 && note(1, 2, 1, 0));
+    c = removed.counts;
+    gfrom = gfrom < 1 ? gfrom : 1;
+    fresh = hz_known_new_user(c, TABLE, ufrom, gfrom, NOTES);
+    expect(fresh.refusal == HZ_ACCEPTED && fresh.user == 1 && fresh.global == 1);
+    c = fresh.counts;
+
+    const hz_step step = {HZ_AT_CLAUSE, 0, 0};
+    const uint64_t no_hashes[1] = {0};
+    uint8_t line[8];
+    hz_written text = hz_known_write(c, TABLE, HZ_TEXT, step, true, clause, 1, no_hashes, 0, line, sizeof line);
+    expect(text.refusal == HZ_ACCEPTED && text.bytes == 4 && memcmp(line, "3 0\n", 4) == 0);
+    expect(hz_is_sound(c, TABLE));
+}
+
 int main(void) {
     uint32_t clause[3];
     uint8_t proof[64];
@@ -257,6 +318,7 @@ int main(void) {
     reading(proof, length);
     clauses();
     modelling();
+    knowing();
     printf("session.c: a session from Open to Model, every answer as expected\n");
     return 0;
 }

@@ -1,6 +1,7 @@
 /*
  * Hintzobar: variable names, notes, DRAT proof lines and DIMACS CNF files (documents 01 and 02), for C and Rust.
- * Built by `rt staticlib capi`, which writes target/staticlib/libcapi.a.
+ * Built by `rt staticlib capi` and `rt staticlib known`, which write target/staticlib/libcapi.a and target/staticlib/libknown.a; the second has the
+ * calls of the last section, those named hz_known_ and _in, and is linked only where they are used.
  *
  * The caller owns all memory. A table is an hz_counts, six numbers, and six lists of `capacity` words, lent in this order:
  *     gu, ug        global from user, user from global      (0 for none, else index + 1)
@@ -9,12 +10,13 @@
  *     records       a word for each global: mode (0 Sample, 1 Witness, 2 Hide) + 3 * unit + 9 if isolated + 18 if assumed + 36 if deleted
  * A list is a pointer and its length in elements. A pointer is aligned and not null, also where the length is 0, and a list that a call may
  * change overlaps no other list lent to it.
- * An index, a literal code (twice the index, one more if negated) and a length may be any number, and a list may hold any words.
- * Stack, beside the caller's own: hz_simplify_binary takes 192 KB, hz_simplify 64 KB, hz_pose 36 KB and hz_write 32 KB, whatever they are
- * given, the others a few. A thread of 256 KB is enough for any call, one of 128 KB for any but hz_simplify_binary; one of 64 KB is too small
- * for hz_simplify.
+ * An index, a literal code (twice the index, one more if negated) and a length may be any number, and a list may hold any words; only calls named
+ * hz_known_ assume more of the table, see there.
+ * Stack, beside the caller's own: hz_simplify_binary takes 193 KB, hz_simplify up to 99 KB, hz_pose 37 KB and hz_write 35 KB, also for a short
+ * clause, the others a few. A thread of 256 KB is enough for any call, one of 128 KB for any but hz_simplify_binary; one of 64 KB is too small
+ * for hz_simplify. A call named hz_known_ takes no more than the call without known.
  *
- * Every answer begins with `refusal`: 0 if the call was accepted, else one of the numbers below or HZ_UNKNOWN. A refused call changes no
+ * Every answer that is a struct begins with `refusal`: 0 if the call was accepted, else one of the numbers below or HZ_UNKNOWN. A refused call changes no
  * memory, its counts are those given (of hz_open: the capacity given and five times 0), and its other fields are 0 or false unless said
  * otherwise. After an accepted call the table is the same six lists with the counts that came back. A note takes three words: its kind
  * (0 U, 1 S, 2 D, 3 C), the global, and what is told of it: an index + 1, or 0 where it is withdrawn; of C 1 for Sample, else 0; of D 0.
@@ -86,8 +88,8 @@ enum hz_kind {
  *     next    the least solver index that no global holds: the least s below `solver` with gs[s] = 0, else `solver`. A global that gets an
  *             index gets this one; it is `capacity` where all are held
  * hz_open sets both to 0, and the calls that map, grant, delete or remove keep them true. They may be given as any number, but a table in which
- * either differs from the recount is not sound: hz_is_sound answers false, and every other call that takes an hz_counts refuses it with 1, unless the
- * answer is HZ_UNKNOWN.
+ * either differs from the recount is not sound: hz_is_sound answers false, and every other call that takes an hz_counts, but those named
+ * hz_known_, refuses it with 1, unless the answer is HZ_UNKNOWN.
  *
  * This struct had only its first four fields in earlier versions. A program built against that header must be compiled anew: the struct and every
  * answer that holds it have another size. A table kept from an earlier version is brought up to date by counting the two numbers, as said above;
@@ -338,6 +340,76 @@ hz_cnf hz_read_cnf(const uint8_t *bytes, size_t bytes_len, uint32_t *codes, size
 /* ---- the model: a word for each global below its watermark, and the user literals: 1, 2 */
 
 hz_modelled hz_model(hz_counts c, HZ_TABLE_CONST, uint32_t *globals, size_t globals_len, uint32_t *users, size_t users_len);
+
+/* ---- known tables, in libknown.a
+ *
+ * Each call above that takes an hz_counts reads the whole table first, to refuse one that is not sound with 1. The calls below do not.
+ *
+ * A call named hz_known_ does what the call without known does on a sound table, with the same answer, notes and refusals but 1. The table must be
+ * sound: opened by an accepted hz_open or found sound by hz_is_sound, and since then changed by nothing but calls of this library that were lent it as
+ * their table: the same six lists, in order, with the counts that were answered last; of an _in call the lists that it takes, each in its place. None of
+ * the lists is ever lent as a slice to be filled. The cursors must be true of the table. Otherwise anything may happen: memory that was not lent may be
+ * read or written. No call leaves a sound table unsound.
+ *
+ * Cursors say from where on to look, so that what is known to be taken is not read again; 0 is always right.
+ *     ufrom    every user index below it is mapped, and it is at most the user watermark
+ *     gfrom    no global below it is deleted (its record is below 36), and it is at most the global watermark
+ * A cursor stays right through every call but these, if they are accepted:
+ *     hz_set_mode to Hide of a global that had the user u: ufrom is to be u where that is less
+ *     a call with a note D of a global g (Set mode to Hide, Remove, Sweep): gfrom is to be g where that is less
+ *     hz_open: both are to be 0
+ * To look less, a caller may set ufrom to u + 1 after New user answered u, and gfrom to g after Map or New user of u, with a note, answered a global g
+ * that is not u.
+ *
+ * A call named _in is lent only the lists that it touches; any words are allowed, as everywhere else. Its answer, and what it makes of the lists, are
+ * the call's on every sound table that has these lists, whose counts and other lists the call leaves alone. Of lists that no sound table has, it may be
+ * anything, also 1; only what was lent is touched. hz_mark_in and hz_assign_in answer the refusal alone, 0 for none: 8, or HZ_UNKNOWN for the mark; 8, 9.
+ * hz_rename_in may be refused; the other structs have the refusal 0. `watermark` is the global one for records, the solver one for assignment. Where hz_map_in or hz_grant_in finds something, the call is accepted with that global, or solver index,
+ * makes no note and changes nothing; where nothing is found, the call is refused or has more to do: make it. hz_pose_in is true where hz_pose is
+ * accepted and makes no note: then the solver literals are filled, as many as were given; where it is false nothing is filled: make the call.
+ * hz_rename_in is hz_rename, with its refusals 3, 8, 2, of the solver literals of a step that carries literals, with no hashes; of HZ_UNIT_CLAUSES
+ * only with no literals. */
+
+typedef struct {
+    uint32_t refusal;
+    size_t lits;
+} hz_renamed_in;
+
+hz_found hz_global_from_user_in(const uint32_t *gu, size_t gu_len, uint32_t user);
+hz_found hz_user_from_global_in(const uint32_t *ug, size_t ug_len, uint32_t global);
+hz_found hz_solver_from_global_in(const uint32_t *sg, size_t sg_len, uint32_t global);
+hz_found hz_global_from_solver_in(const uint32_t *gs, size_t gs_len, uint32_t solver);
+hz_found hz_record_in(uint32_t watermark, const uint32_t *records, size_t records_len, uint32_t global);
+hz_found hz_assignment_in(uint32_t watermark, const uint32_t *assignment, size_t assignment_len, uint32_t solver);
+
+hz_found hz_map_in(const uint32_t *gu, size_t gu_len, const uint32_t *records, size_t records_len, uint32_t user, bool sampling);
+hz_found hz_grant_in(const uint32_t *sg, size_t sg_len, uint32_t global);
+bool hz_pose_in(const uint32_t *gu, size_t gu_len, const uint32_t *sg, size_t sg_len, const uint32_t *records, size_t records_len,
+                const uint32_t *lits, size_t lits_len, bool sampling, uint32_t *out, size_t out_len);
+hz_renamed_in hz_rename_in(const uint32_t *gs, size_t gs_len, const uint32_t *lits, size_t lits_len, uint32_t *out, size_t out_len);
+uint32_t hz_mark_in(const uint32_t *gs, size_t gs_len, uint32_t *records, size_t records_len, uint32_t mark, uint32_t solver);
+uint32_t hz_assign_in(const uint32_t *gs, size_t gs_len, uint32_t *assignment, size_t assignment_len, uint32_t lit);
+
+hz_mapped hz_known_map(hz_counts c, HZ_TABLE, uint32_t user, bool sampling, uint32_t gfrom, HZ_NOTES);
+hz_new_mapped hz_known_new_user(hz_counts c, HZ_TABLE, uint32_t ufrom, uint32_t gfrom, HZ_NOTES);
+hz_posed hz_known_pose(hz_counts c, HZ_TABLE, const uint32_t *lits, size_t lits_len, bool sampling, uint32_t gfrom, uint32_t *out,
+                       size_t out_len, HZ_NOTES);
+hz_granted hz_known_grant(hz_counts c, HZ_TABLE, uint32_t global, HZ_NOTES);
+hz_mode_set hz_known_set_mode(hz_counts c, HZ_TABLE, uint32_t global, uint32_t mode, uint32_t ufrom, HZ_NOTES);
+hz_posed hz_known_observe(hz_counts c, HZ_TABLE, uint32_t ufrom, uint32_t *out, size_t out_len, HZ_NOTES);
+hz_noted hz_known_remove(hz_counts c, HZ_TABLE, uint32_t solver, HZ_NOTES);
+hz_noted hz_known_sweep(hz_counts c, HZ_TABLE, HZ_NOTES);
+
+hz_simplified hz_known_simplify(hz_counts c, HZ_TABLE_CONST, uint32_t format, const uint32_t *lits, size_t lits_len, bool redundant,
+                                uint32_t *out, size_t out_len, uint8_t *proof, size_t proof_len);
+hz_thinned hz_known_simplify_binary(hz_counts c, HZ_TABLE_CONST, uint32_t format, const uint32_t *lists, size_t lists_len, uint32_t *out,
+                                    size_t out_len, uint8_t *proof, size_t proof_len);
+hz_renamed hz_known_rename(hz_counts c, HZ_TABLE_CONST, hz_step step, bool solver_vars, const uint32_t *lits, size_t lits_len,
+                           const uint64_t *hashes, size_t hashes_len, uint32_t *out, size_t out_len, uint64_t *hash_out,
+                           size_t hash_out_len);
+hz_written hz_known_write(hz_counts c, HZ_TABLE_CONST, uint32_t format, hz_step step, bool solver_vars, const uint32_t *lits,
+                          size_t lits_len, const uint64_t *hashes, size_t hashes_len, uint8_t *proof, size_t proof_len);
+hz_modelled hz_known_model(hz_counts c, HZ_TABLE_CONST, uint32_t *globals, size_t globals_len, uint32_t *users, size_t users_len);
 
 #ifdef __cplusplus
 }

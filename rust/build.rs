@@ -1,4 +1,5 @@
-//! Links the static library that `rt staticlib capi` writes: from the folder $HINTZOBAR_LIB, or else target/staticlib of the repository.
+//! Links the static libraries that `rt staticlib capi` and `rt staticlib known` write: from the folder $HINTZOBAR_LIB, or else target/staticlib of the
+//! repository.
 use std::{env, path::PathBuf};
 
 fn main() {
@@ -8,11 +9,13 @@ fn main() {
         Ok(folder) => PathBuf::from(folder),
         Err(_) => here.join("../target/staticlib"),
     };
-    let archive = folder.join("libcapi.a");
-    println!("cargo:rerun-if-changed={}", archive.display());
-    if !archive.exists() {
-        println!("cargo:warning={} is not there: run `rt staticlib capi` in the repository first", archive.display());
-    }
     println!("cargo:rustc-link-search=native={}", folder.display());
-    println!("cargo:rustc-link-lib=static=capi");
+    for name in ["known", "capi"] {
+        let archive = folder.join(format!("lib{name}.a"));
+        println!("cargo:rerun-if-changed={}", archive.display());
+        if !archive.exists() {
+            println!("cargo:warning={} is not there: run `rt staticlib {name}` in the repository first", archive.display());
+        }
+        println!("cargo:rustc-link-lib=static={name}");
+    }
 }

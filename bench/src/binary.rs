@@ -12,7 +12,7 @@ use crate::{
     bulk::oracle,
     random::Random,
     report::{ratio, time, Report},
-    sound, tables,
+    tables,
     timing::{race, span, Side},
 };
 
@@ -103,7 +103,7 @@ fn crossed(report: &Report) {
     let [library] = race(BUDGET, [Box::new(|| span(|| case.library(Format::Text)))]);
     let name = String::from("two stars of 4,000 pairs, shuffled");
     let none = || String::from("none");
-    report.row(&[name, String::from("4096"), time(library), share(&case.table, library), none(), String::new(), none()]);
+    report.row(&[name, String::from("4096"), time(library), none(), String::new(), none()]);
 }
 
 /// How the time grows with a star, at a capacity that grows along: nanoseconds a pair.
@@ -123,13 +123,8 @@ fn growth(report: &Report) {
     report.row(&cells);
 }
 
-/// How much of the time the soundness test takes.
-fn share(table: &Table, library: f64) -> String {
-    format!("{:.0} %", 100.0 * (sound::cost(table) / library).min(1.0))
-}
-
 pub fn lists(report: &Report) {
-    let columns = ["lists", "capacity", "library", "of it soundness", "varisat", "ratio", "goal"];
+    let columns = ["lists", "capacity", "library", "varisat", "ratio", "goal"];
     report.table("Binary clauses, half of the indices with a value", &columns);
     let rows = [
         ("4,096 random pairs", 4096, random_pairs(4096, 4096)),
@@ -142,8 +137,7 @@ pub fn lists(report: &Report) {
         let mut case = Case::new(capacity, pairs);
         let [library, varisat] = case.time();
         let goal = String::from("none: varisat tests no mirrors");
-        let share = share(&case.table, library);
-        report.row(&[name.into(), capacity.to_string(), time(library), share, time(varisat), ratio(library, varisat), goal]);
+        report.row(&[name.into(), capacity.to_string(), time(library), time(varisat), ratio(library, varisat), goal]);
     }
     crossed(report);
     growth(report);

@@ -1,4 +1,4 @@
-//! Calls that do much at once: soundness is tested once for all of it.
+//! Calls that do much at once, on tables that are known to be sound.
 use std::time::Duration;
 
 use hintzobar::{Lit, Table, User};

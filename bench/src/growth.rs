@@ -27,7 +27,7 @@ fn time_growth(call: fn(u32) -> Option<Call>, start: fn(u32) -> Table) -> [f64; 
             span(|| {
                 tables.iter_mut().for_each(|table| match &call {
                     Some(call) => drop(library(call, table, &mut lent)),
-                    None => assert!(table.is_sound()),
+                    None => assert!(table.parts().is_sound()),
                 });
             })
         })

@@ -4,6 +4,8 @@
 
 mod binary;
 mod bulk;
+#[path = "../../oracle/src/calls.rs"]
+mod calls;
 mod cnf;
 mod codec;
 mod growth;
@@ -12,6 +14,7 @@ mod plain;
 mod random;
 mod real;
 mod report;
+mod session;
 mod single;
 mod sound;
 mod tables;
@@ -24,7 +27,7 @@ type Part = (&'static str, fn(&report::Report));
 /// All parts, or those named on the command line.
 fn main() {
     let report = report::Report::default();
-    let parts: [Part; 11] = [
+    let parts: [Part; 12] = [
         ("writers", codec::writers),
         ("readers", codec::readers),
         ("broken", codec::broken_lines),
@@ -35,6 +38,7 @@ fn main() {
         ("binary", binary::lists),
         ("users", users::counts),
         ("single", single::table),
+        ("session", session::table),
         ("growth", growth::table),
     ];
     let asked: Vec<String> = std::env::args().skip(1).collect();

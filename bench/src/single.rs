@@ -1,9 +1,9 @@
-//! Every public call by itself, on a table half full. Each tests soundness first, so that its time goes with the capacity.
+//! Every call by itself, on a table half full: on a table that is known to be sound, beside varisat; and on its parts, which are tested first.
 use std::{hint::black_box, time::Duration};
 
 use hintzobar::{
-    first_step, read, write_clause, write_proof, Format, Global, Lit, Lits, Made, Mark, Mode, Name, Refusal, Solver, Step, Table,
-    User,
+    first_step, read, write_clause, write_proof, Format, Global, Lit, Lits, Made, Mark, Mode, Name, Parts, Refusal, Solver, Step,
+    Table, User,
 };
 use varisat_unchanged::drive::{
     self,
@@ -12,6 +12,7 @@ use varisat_unchanged::drive::{
 
 use crate::{
     bulk::oracle,
+    calls::Calls,
     lent::Lent,
     plain::reader::{self, Proof},
     report::{ratio, time, Report},
@@ -20,33 +21,89 @@ use crate::{
 };
 
 const BUDGET: Duration = Duration::from_millis(60);
+const CAPACITIES: [u32; 2] = [64, 4096];
 const SIMPLIFY: &str = "Simplify, 4 literals, one goes";
 const LINE: &[u8] = b"1 -20 300 0\n";
 
-/// A call with its index among the calls of a round, and what it answers.
-type Library = fn(&mut Table, &mut Lent, u32) -> u32;
-type Rust = fn(&mut Bare, u32) -> u32;
+/// What is asked of a single call, and of those that pass over the whole table.
+const SINGLE: (&str, f64) = ("single call", 2.0);
+const WHOLE: (&str, f64) = ("Model, Observe", 1.2);
 
-struct Row {
-    name: &'static str,
-    table: fn(u32) -> Table,
-    /// A call that changes nothing is repeated within a round.
-    repeats: u32,
-    library: Library,
-    rust: Option<Rust>,
+/// Varisat, and its clause to fill.
+struct Varisat {
+    side: Bare,
+    lits: Vec<measure::Lit>,
 }
 
-/// A call that changes nothing, on the table half full.
-fn ask(name: &'static str, library: Library, rust: Option<Rust>) -> Row {
-    Row { name, table: tables::half, repeats: 100, library, rust }
+impl Varisat {
+    fn new(table: &Table) -> Varisat {
+        Varisat { side: Bare::new(oracle(table), drive::Format::Text), lits: vec![] }
+    }
+}
+
+/// A call with its index among the calls of a round, and what it answers.
+type Once<S> = Box<dyn Fn(&mut S, u32) -> u32>;
+/// So many calls, so often. The call is compiled into the loop: one through a pointer would add to what takes two nanoseconds.
+type Round<S> = Box<dyn Fn(&mut S, u32, u32)>;
+
+struct Call<S> {
+    once: Once<S>,
+    round: Round<S>,
+}
+
+impl<S> Call<S> {
+    fn new(call: impl Fn(&mut S, u32) -> u32 + Copy + 'static) -> Call<S> {
+        let round = move |side: &mut S, calls: u32, repeats: u32| {
+            for _ in 0..repeats {
+                for i in 0..calls {
+                    black_box(call(side, i));
+                }
+            }
+        };
+        Call { once: Box::new(call), round: Box::new(round) }
+    }
+}
+
+/// A table, and what it fills.
+type Library<T> = (T, Lent);
+
+struct Row<T> {
+    name: &'static str,
+    table: fn(u32) -> Table,
+    /// How many calls there are for a table of this capacity.
+    calls: fn(u32) -> u32,
+    /// A call that may be made again is repeated within a round.
+    repeats: u32,
+    library: Call<Library<T>>,
+    rust: Option<Call<Varisat>>,
+}
+
+/// A call that may be made again and again, on the table half full.
+fn ask<T: Calls>(
+    name: &'static str,
+    library: impl Fn(&mut T, &mut Lent, u32) -> u32 + Copy + 'static,
+    rust: impl Fn(&mut Varisat, u32) -> u32 + Copy + 'static,
+) -> Row<T> {
+    Row { repeats: 100, ..change(name, tables::half, library, rust) }
 }
 
 /// A call that changes the table.
-fn change(name: &'static str, table: fn(u32) -> Table, library: Library, rust: Rust) -> Row {
-    Row { name, table, repeats: 1, library, rust: Some(rust) }
+fn change<T: Calls>(
+    name: &'static str,
+    table: fn(u32) -> Table,
+    library: impl Fn(&mut T, &mut Lent, u32) -> u32 + Copy + 'static,
+    rust: impl Fn(&mut Varisat, u32) -> u32 + Copy + 'static,
+) -> Row<T> {
+    let library = Call::new(move |(table, lent): &mut Library<T>, i| library(table, lent, i));
+    Row { name, table, calls: few, repeats: 1, library, rust: Some(Call::new(rust)) }
 }
 
 // ---- tables and arguments
+
+/// An eighth of the capacity, so that three indices for each are in use.
+fn few(capacity: u32) -> u32 {
+    64.min(capacity / 8)
+}
 
 /// Half of the users mapped, no solver index given.
 fn ungranted(capacity: u32) -> Table {
@@ -56,12 +113,23 @@ fn ungranted(capacity: u32) -> Table {
     table
 }
 
+/// Half full, and one user more. So neither side does here what it does now and then: varisat's lists have just grown, and the first New user on a
+/// table made of lists has looked through all users that are mapped.
+fn begun(capacity: u32) -> Table {
+    let mut table = tables::half(capacity);
+    let mut notes = table.notes();
+    table.new_user(&mut notes).unwrap();
+    table
+}
+
+/// Half full, without any value.
+fn unvalued(capacity: u32) -> Table {
+    tables::changed(&tables::half(capacity), |lists| lists.assignment.fill(0))
+}
+
 /// Half full, all in use and without a value: Sweep finds nothing.
 fn busy(capacity: u32) -> Table {
-    tables::changed(&tables::half(capacity), |lists| {
-        lists.records[..capacity as usize / 2].fill(0);
-        lists.assignment.fill(0);
-    })
+    tables::changed(&unvalued(capacity), |lists| lists.records[..capacity as usize / 2].fill(0))
 }
 
 /// Three codes whose variables are in use and have no value.
@@ -102,168 +170,216 @@ macro_rules! none {
     }};
 }
 
-fn write(table: &Table, lent: &mut Lent, format: Format, i: u32) -> u32 {
-    table.write(format, Step::AtClause(true), Lits::Solver(&lits(codes(i))), &[], &mut lent.bytes).unwrap() as u32
-}
-
-fn simplify(table: &Table, lent: &mut Lent, i: u32) -> u32 {
-    let all = lits(with_false(i));
-    let made = table.simplify(Format::Text, &all, true, &mut lent.solver_lits, &mut lent.bytes).unwrap();
-    assert!(made.made == Made::Shortened);
-    made.bytes as u32
-}
-
 // ---- the calls
 
-fn lookups() -> Vec<Row> {
+fn lookups<T: Calls>() -> Vec<Row<T>> {
     vec![
-        ask("Lookup, global of a user", |t, _, i| some(t.global_from_user(User(i))), Some(|r, i| word(r.global_from_user(i)))),
-        ask("Lookup, user of a global", |t, _, i| some(t.user_from_global(Global(i))), Some(|r, i| word(r.user_from_global(i)))),
+        ask(
+            "Lookup, global of a user",
+            |t: &mut T, _, i| some(t.global_from_user(User(i))),
+            |r, i| word(r.side.global_from_user(i)),
+        ),
+        ask(
+            "Lookup, user of a global",
+            |t: &mut T, _, i| some(t.user_from_global(Global(i))),
+            |r, i| word(r.side.user_from_global(i)),
+        ),
         ask(
             "Lookup, solver index of a global",
-            |t, _, i| some(t.solver_from_global(Global(i))),
-            Some(|r, i| word(r.solver_from_global(i))),
+            |t: &mut T, _, i| some(t.solver_from_global(Global(i))),
+            |r, i| word(r.side.solver_from_global(i)),
         ),
         ask(
             "Lookup, global of a solver index",
-            |t, _, i| some(t.global_from_solver(Solver(i))),
-            Some(|r, i| word(r.global_from_solver(i))),
+            |t: &mut T, _, i| some(t.global_from_solver(Solver(i))),
+            |r, i| word(r.side.global_from_solver(i)),
         ),
         ask(
             "Lookup, record",
-            |t, _, i| t.record(Global(i)).unwrap().map_or(0, |record| record / 9 % 2),
-            Some(|r, i| r.isolated(i) as u32),
+            |t: &mut T, _, i| t.record(Global(i)).unwrap().map_or(0, |record| record / 9 % 2),
+            |r, i| r.side.isolated(i) as u32,
         ),
         ask(
             "Lookup, assignment",
-            |t, _, i| t.assignment(Solver(i)).unwrap().unwrap_or(0),
-            Some(|r, i| r.value(i).map_or(0, |value| 1 + value as u32)),
+            |t: &mut T, _, i| t.assignment(Solver(i)).unwrap().unwrap_or(0),
+            |r, i| r.side.value(i).map_or(0, |value| 1 + value as u32),
         ),
     ]
 }
 
-fn pose_rust(side: &mut Bare, i: u32) -> u32 {
-    let mut posed = Vec::with_capacity(3);
-    side.pose(&mut posed, &codes(i).map(measure::lit));
-    posed.len() as u32
-}
-
-fn pose(table: &mut Table, lent: &mut Lent, i: u32) -> u32 {
-    table.pose(&lits(codes(i)), false, &mut lent.solver_lits, &mut lent.notes).unwrap() as u32
-}
-
-fn map(table: &mut Table, lent: &mut Lent, user: u32) -> u32 {
-    table.map(User(user), false, &mut lent.notes).unwrap().0
-}
-
-fn grant(table: &mut Table, lent: &mut Lent, global: u32) -> u32 {
-    table.grant(Global(global), &mut lent.notes).unwrap().0
-}
-
-fn names() -> Vec<Row> {
+fn names<T: Calls>() -> Vec<Row<T>> {
+    let map = |t: &mut T, l: &mut Lent, user: u32| t.map(User(user), false, &mut l.notes).unwrap().0;
+    let grant = |t: &mut T, l: &mut Lent, global: u32| t.grant(Global(global), &mut l.notes).unwrap().0;
+    let pose = |t: &mut T, l: &mut Lent, i: u32| t.pose(&lits(codes(i)), false, &mut l.solver_lits, &mut l.notes).unwrap() as u32;
+    let pose_rust = |r: &mut Varisat, i: u32| {
+        r.side.pose(&mut r.lits, &codes(i).map(measure::lit));
+        r.lits.len() as u32
+    };
     vec![
-        ask("Map, mapped already", map, Some(|r, i| r.map(i).index() as u32)),
-        change("Map, the next user", tables::half, |t, l, _| map(t, l, t.counts().user), |r, _| r.map_next().index() as u32),
-        change("New user", tables::half, |t, l, _| t.new_user(&mut l.notes).unwrap().0 .0, |r, _| r.new_user().index() as u32),
-        ask("Pose, 3 literals", pose, Some(pose_rust)),
-        ask("Grant, held already", grant, Some(|r, i| r.grant(i).index() as u32)),
-        change("Grant, a new index", ungranted, grant, |r, i| r.grant(i).index() as u32),
+        ask("Map, mapped already", map, |r, i| r.side.map(i).index() as u32),
+        change(
+            "Map, the next user",
+            begun,
+            move |t: &mut T, l, _| map(t, l, t.parts().counts.user),
+            |r, _| r.side.map_next().index() as u32,
+        ),
+        change(
+            "New user",
+            begun,
+            |t: &mut T, l, _| t.new_user(&mut l.notes).unwrap().0 .0,
+            |r, _| r.side.new_user().index() as u32,
+        ),
+        ask("Pose, 3 literals", pose, pose_rust),
+        ask("Grant, held already", grant, |r, i| r.side.grant(i).index() as u32),
+        change("Grant, a new index", ungranted, grant, |r, i| r.side.grant(i).index() as u32),
     ]
 }
 
-fn set_mode(table: &mut Table, lent: &mut Lent, global: u32, mode: Mode) -> u32 {
-    some(table.set_mode(Global(global), mode, &mut lent.notes))
-}
-
-fn observe(table: &mut Table, lent: &mut Lent, _: u32) -> u32 {
-    table.observe(&mut lent.users, &mut lent.notes).unwrap() as u32
-}
-
-fn model(table: &mut Table, lent: &mut Lent, _: u32) -> u32 {
-    table.model(&mut lent.words, &mut lent.user_lits).unwrap().1 as u32
-}
-
-fn modes_and_marks() -> Vec<Row> {
-    let sweep = change("Sweep, nothing to do", busy, |t, l, _| done(t.sweep(&mut l.notes)), |r, _| none!(r.unit_simplify()));
+fn modes_and_marks<T: Calls>() -> Vec<Row<T>> {
+    let set = |t: &mut T, l: &mut Lent, global: u32, mode: Mode| some(t.set_mode(Global(global), mode, &mut l.notes));
+    // one for each index that is held
+    let assign = change(
+        "Assign",
+        unvalued,
+        |t: &mut T, _, i| done(t.assign(Lit::from_code(2 * i + i % 2))),
+        |r, i| none!(r.side.assign(2 * i + i % 2)),
+    );
+    let observe = ask(
+        "Observe, nothing hidden",
+        |t: &mut T, l, _| t.observe(&mut l.users, &mut l.notes).unwrap() as u32,
+        |r, _| r.side.observe().len() as u32,
+    );
+    let model = ask(
+        "Model",
+        |t: &mut T, l, _| t.model(&mut l.words, &mut l.user_lits).unwrap().1 as u32,
+        |r, _| r.side.model().len() as u32,
+    );
     vec![
-        change("Set mode, to Witness", tables::half, |t, l, i| set_mode(t, l, i, Mode::Witness), |r, i| word(r.set_mode(i, 1))),
-        change("Set mode, to Hide", tables::half, |t, l, i| set_mode(t, l, i, Mode::Hide), |r, i| word(r.set_mode(i, 2))),
-        ask("Observe, nothing hidden", observe, Some(|r, _| r.observe().len() as u32)),
-        change("Mark, used", tables::half, |t, _, i| done(t.mark(Mark::Used, Solver(i))), |r, i| none!(r.used(i))),
-        change("Assign", tables::half, |t, _, i| done(t.assign(Lit::from_code(6 * i))), |r, i| none!(r.assign(6 * i))),
-        change("Remove", tables::half, |t, l, i| done(t.remove(Solver(3 * i), &mut l.notes)), |r, i| none!(r.remove(3 * i))),
-        Row { repeats: 20, ..sweep },
-        ask("Model", model, Some(|r, _| r.model().len() as u32)),
+        change(
+            "Set mode, to Witness",
+            tables::half,
+            move |t: &mut T, l, i| set(t, l, i, Mode::Witness),
+            |r, i| word(r.side.set_mode(i, 1)),
+        ),
+        change(
+            "Set mode, to Hide",
+            tables::half,
+            move |t: &mut T, l, i| set(t, l, i, Mode::Hide),
+            |r, i| word(r.side.set_mode(i, 2)),
+        ),
+        Row { repeats: 1, ..observe },
+        ask("Mark, used", |t: &mut T, _, i| done(t.mark(Mark::Used, Solver(i))), |r, i| none!(r.side.used(i))),
+        Row { calls: |capacity| capacity / 2, ..assign },
+        change(
+            "Remove",
+            tables::half,
+            |t: &mut T, l, i| done(t.remove(Solver(3 * i), &mut l.notes)),
+            |r, i| none!(r.side.remove(3 * i)),
+        ),
+        change("Sweep, nothing to do", busy, |t: &mut T, l, _| done(t.sweep(&mut l.notes)), |r, _| none!(r.side.unit_simplify())),
+        Row { repeats: 1, ..model },
     ]
 }
 
-fn lines() -> Vec<Row> {
-    let rename: Library = |t, l, i| {
+fn lines<T: Calls>() -> Vec<Row<T>> {
+    let rename = |t: &mut T, l: &mut Lent, i: u32| {
         let all = lits(codes(i));
         t.rename(Step::AtClause(true), Lits::Solver(&all), &[], &mut l.global_lits, &mut []).unwrap().lits as u32
     };
+    let write = |t: &mut T, l: &mut Lent, i: u32| {
+        let all = lits(codes(i));
+        t.write(Format::Text, Step::AtClause(true), Lits::Solver(&all), &[], &mut l.bytes).unwrap() as u32
+    };
+    let simplify = |t: &mut T, l: &mut Lent, i: u32| {
+        let all = lits(with_false(i));
+        let made = t.simplify(Format::Text, &all, true, &mut l.solver_lits, &mut l.bytes).unwrap();
+        assert!(made.made == Made::Shortened);
+        made.bytes as u32
+    };
     vec![
-        ask("Rename, 3 literals", rename, None),
-        ask(
-            "Write, 3 literals, text",
-            |t, l, i| write(t, l, Format::Text, i),
-            Some(|r, i| none!(r.write(&codes(i).map(measure::lit)))),
-        ),
-        ask(SIMPLIFY, |t, l, i| simplify(t, l, i), None),
-        ask("Soundness", |t, _, _| t.is_sound() as u32, None),
-        ask("Open", |t, _, _| t.reopen(t.counts().capacity).map_or(1, |_| 0), None),
+        ask("Rename, 3 literals", rename, |r, i| r.side.rename(&codes(i).map(measure::lit)) as u32),
+        ask("Write, 3 literals, text", write, |r, i| none!(r.side.write(&codes(i).map(measure::lit)))),
+        Row { rust: None, ..ask(SIMPLIFY, simplify, |_, _| 0) },
     ]
+}
+
+/// What varisat has no function for.
+fn tests() -> Vec<Row<Parts>> {
+    vec![
+        ask("Soundness", |t: &mut Parts, _, _| t.is_sound() as u32, |_, _| 0),
+        ask("Open", |t: &mut Parts, _, _| done(t.reopen(t.counts.capacity)), |_, _| 0),
+    ]
+}
+
+fn rows<T: Calls>() -> Vec<Row<T>> {
+    [lookups(), names(), modes_and_marks(), lines()].into_iter().flatten().collect()
 }
 
 // ---- timing
 
-/// How many calls a round makes: at most an eighth of the capacity, so that three indices for each are in use.
-fn calls(capacity: u32) -> u32 {
-    64.min(capacity / 8)
-}
-
 /// Both sides answer the same and leave the same table. Of Write the lines are compared instead.
-fn same_results(row: &Row, table: &Table, rust: Rust) {
-    let (mut left, mut lent) = (table.clone(), Lent::new(table));
-    let mut side = Bare::new(oracle(table), drive::Format::Text);
-    for i in 0..calls(table.counts().capacity) {
-        let answers = [(row.library)(&mut left, &mut lent, i), rust(&mut side, i)];
+fn same_results(row: &Row<Table>, table: &Table, rust: &Call<Varisat>) {
+    let mut library = (table.clone(), Lent::new(table));
+    let mut varisat = Varisat::new(table);
+    for i in 0..(row.calls)(table.counts().capacity) {
+        let answers = [(row.library.once)(&mut library, i), (rust.once)(&mut varisat, i)];
         if !row.name.starts_with("Write") {
             assert_eq!(answers[0], answers[1], "{}", row.name);
             continue;
         }
         let step = drive::Step::AtClause(true, &codes(i), &[]);
         let line = oracle(table).step(step, true, Some(drive::Format::Text)).bytes;
-        assert_eq!(line, lent.bytes[..answers[0] as usize]);
+        assert_eq!(line, library.1.bytes[..answers[0] as usize]);
     }
-    assert_eq!(tables::state(&left), side.state(), "{}", row.name);
+    assert_eq!(tables::state(&library.0), varisat.side.state(), "{}", row.name);
 }
 
-/// Nanoseconds of one call of the library, and of varisat where it has the call.
-fn time_row(row: &Row, table: &Table) -> (f64, Option<f64>) {
-    let calls = calls(table.counts().capacity);
-    let mut lent = Lent::new(table);
-    let library = || {
-        let mut table = table.clone();
-        span(|| (0..calls).map(|i| black_box((row.library)(&mut table, &mut lent, i))).max())
-    };
-    let Some(rust) = row.rust else {
-        let [library] = race(BUDGET, [Box::new(library)]);
-        return ((library - idle()) / f64::from(calls), None);
+/// How many tables a round has: where a call may be made but once for each index, several small ones.
+fn copies<T>(row: &Row<T>, capacity: u32) -> u32 {
+    if row.repeats == 1 {
+        8.min(4096 / capacity)
+    } else {
+        1
+    }
+}
+
+/// Rounds of so many calls, so often, on copies of a table.
+fn library_round<'a, T: Calls>(row: &'a Row<T>, table: &'a Table, calls: u32, repeats: u32) -> impl FnMut() -> Duration + 'a {
+    let capacity = table.counts().capacity;
+    let mut sides: Vec<Library<T>> = (0..copies(row, capacity)).map(|_| (T::from(table.clone()), Lent::new(table))).collect();
+    move || {
+        sides.iter_mut().for_each(|side| side.0 = T::from(table.clone()));
+        span(|| sides.iter_mut().for_each(|side| (row.library.round)(side, calls, repeats)))
+    }
+}
+
+fn varisat_round<'a>(row: &'a Row<Table>, table: &'a Table, rust: &'a Call<Varisat>) -> impl FnMut() -> Duration + 'a {
+    let capacity = table.counts().capacity;
+    let calls = (row.calls)(capacity);
+    move || {
+        let mut sides: Vec<Varisat> = (0..copies(row, capacity)).map(|_| Varisat::new(table)).collect();
+        span(|| sides.iter_mut().for_each(|side| (rust.round)(side, calls, row.repeats)))
+    }
+}
+
+/// Nanoseconds of one call of the library and of varisat.
+fn time_row(row: &Row<Table>, table: &Table) -> [f64; 2] {
+    let capacity = table.counts().capacity;
+    let calls = (row.calls)(capacity);
+    let library = Box::new(library_round(row, table, calls, row.repeats));
+    let calls = f64::from(row.repeats * copies(row, capacity) * calls);
+    let Some(rust) = &row.rust else {
+        let [library] = race(BUDGET, [library]);
+        return [(library - idle()) / calls, time_rust_simplify(table)];
     };
     same_results(row, table, rust);
-    let varisat = || {
-        let mut side = Bare::new(oracle(table), drive::Format::Text);
-        span(|| (0..row.repeats * calls).map(|i| black_box(rust(&mut side, i % calls))).max())
-    };
-    let [library, varisat] = race(BUDGET, [Box::new(library), Box::new(varisat)]);
-    let one = |ns: f64, calls: u32| (ns - idle()) / f64::from(calls);
-    (one(library, calls), Some(one(varisat, row.repeats * calls)))
+    race(BUDGET, [library, Box::new(varisat_round(row, table, rust))]).map(|ns| (ns - idle()) / calls)
 }
 
 /// Nanoseconds of one clause in `unit_simplify`, its share of the last loop included.
 fn time_rust_simplify(table: &Table) -> f64 {
-    let clauses: Vec<_> = (0..2048).map(|i| with_false(i % 64).map(measure::lit).to_vec()).collect();
+    let calls = few(table.counts().capacity);
+    let clauses: Vec<_> = (0..2048).map(|i| with_false(i % calls).map(measure::lit).to_vec()).collect();
     let round = || {
         let mut side = Bare::new(oracle(table), drive::Format::Text);
         side.set_clauses(&clauses);
@@ -273,52 +389,73 @@ fn time_rust_simplify(table: &Table) -> f64 {
     least / clauses.len() as f64
 }
 
-/// Nanoseconds of a row: the library at capacity 64 and 4,096, the soundness test and varisat at 4,096; infinite where there is none.
-fn times(row: &Row) -> [f64; 4] {
-    let large = (row.table)(4096);
-    let (small, _) = time_row(row, &(row.table)(64));
-    let (library, varisat) = time_row(row, &large);
-    let varisat = match row.name {
-        SIMPLIFY => time_rust_simplify(&large),
-        _ => varisat.unwrap_or(f64::INFINITY),
-    };
-    [small, library, sound::cost(&large), varisat]
+/// Nanoseconds of one call on a table's parts.
+fn time_tested(row: &Row<Parts>, table: &Table) -> f64 {
+    let capacity = table.counts().capacity;
+    let calls = few(capacity);
+    let [least] = race(BUDGET, [Box::new(library_round(row, table, calls, 1))]);
+    (least - idle()) / f64::from(copies(row, capacity) * calls)
 }
 
-pub fn table(report: &Report) {
-    let columns = ["call", "capacity 64", "4,096", "of it soundness", "varisat, 4,096", "ratio, 4,096"];
-    report.table("Single calls, table half full", &columns);
-    let rows: Vec<Row> = [lookups(), names(), modes_and_marks(), lines()].into_iter().flatten().collect();
-    // Four passes over all rows: a slow moment of the machine then falls on no row alone.
-    let mut least = vec![[f64::INFINITY; 4]; rows.len()];
+/// The least times of each row in four passes over all of them: a slow moment of the machine then falls on no row alone.
+fn passes<R, const K: usize>(rows: &[R], times: impl Fn(&R) -> [f64; K]) -> Vec<[f64; K]> {
+    let mut least = vec![[f64::INFINITY; K]; rows.len()];
     for _ in 0..4 {
         for (row, least) in rows.iter().zip(&mut least) {
             let times = times(row);
             *least = std::array::from_fn(|k| times[k].min(least[k]));
         }
     }
-    for (row, [small, library, sound, varisat]) in rows.iter().zip(least) {
-        let share = match row.name {
-            "Open" => String::from("not tested"),
-            _ => format!("{:.0} %", 100.0 * (sound / library).min(1.0)),
-        };
-        let (rust, ratio) = match varisat.is_finite() {
-            true => (time(varisat), ratio(library, varisat)),
-            false => (String::from("none"), String::new()),
-        };
-        report.row(&[row.name.into(), time(small), time(library), share, rust, ratio]);
+    least
+}
+
+pub fn table(report: &Report) {
+    let columns = ["call", "capacity 64", "varisat", "ratio", "4,096", "varisat", "ratio", "goal"];
+    report.table("Single calls on a table known to be sound, half full", &columns);
+    let rows = rows::<Table>();
+    let times = passes(&rows, |row| {
+        let [[a, b], [c, d]] = CAPACITIES.map(|capacity| time_row(row, &(row.table)(capacity)));
+        [a, b, c, d]
+    });
+    for (row, [small, varisat_small, large, varisat]) in rows.iter().zip(times) {
+        let (goal, most) = if row.name.starts_with("Model") || row.name.starts_with("Observe") { WHOLE } else { SINGLE };
+        let goals = [small / varisat_small, large / varisat].map(|ratio| report.goal(goal, ratio, most));
+        // both capacities hold it, or the row does not
+        let goal = goals.iter().find(|goal| goal.ends_with("missed")).unwrap_or(&goals[0]).clone();
+        let ratios = [ratio(small, varisat_small), ratio(large, varisat)];
+        let [small, varisat_small, large, varisat] = [small, varisat_small, large, varisat].map(time);
+        let [first, second] = ratios;
+        report.row(&[row.name.into(), small, varisat_small, first, large, varisat, second, goal]);
     }
+    tested(report);
     without_table(report);
 }
 
+/// The same calls on the parts of a table: what refusal 1 costs.
+fn tested(report: &Report) {
+    report.table("The same calls, each with the test for refusal 1", &["call", "capacity 64", "4,096", "of it soundness"]);
+    let mut rows = rows::<Parts>();
+    rows.extend(tests());
+    let times = passes(&rows, |row| {
+        let large = (row.table)(4096);
+        [time_tested(row, &(row.table)(64)), time_tested(row, &large), sound::cost(&large)]
+    });
+    for (row, [small, large, sound]) in rows.iter().zip(times) {
+        let share = match row.name {
+            "Open" => String::from("not tested"),
+            _ => format!("{:.0} %", 100.0 * (sound / large).min(1.0)),
+        };
+        report.row(&[row.name.into(), time(small), time(large), share]);
+    }
+}
 // ---- calls without a table
 
-type Call<'a> = &'a mut dyn FnMut() -> usize;
+type Short<'a> = &'a mut dyn FnMut() -> usize;
 
 /// A thousand calls of each side in turn, which answer the same.
-fn short_row(report: &Report, name: &str, most: Option<f64>, library: Call, rust: Call) {
+fn short_row(report: &Report, name: &str, most: Option<f64>, library: Short, rust: Short) {
     assert_eq!(library(), rust());
-    let many = |side: Call| span(|| (0..1000).map(|_| side()).sum::<usize>());
+    let many = |side: Short| span(|| (0..1000).map(|_| side()).sum::<usize>());
     let [library, rust] = race(BUDGET, [Box::new(|| many(library)), Box::new(|| many(rust))]).map(|ns| ns / 1000.0);
     let goal = most.map_or("none".into(), |most| report.goal(name, library / rust, most));
     report.row(&[name.into(), time(library), time(rust), ratio(library, rust), goal]);

@@ -1,7 +1,7 @@
 //! Soundness: what refusal 1 costs.
 use std::{hint::black_box, time::Duration};
 
-use hintzobar::{Counts, Lists, Table};
+use hintzobar::{Counts, Lists, Parts, Table};
 
 use crate::{
     plain::sound,
@@ -13,8 +13,8 @@ use crate::{
 const BUDGET: Duration = Duration::from_millis(300);
 
 /// Nanoseconds of one call of the library, and of the plain loop in its two forms.
-fn time_sound(table: &Table) -> [f64; 3] {
-    let (c, l) = (table.counts(), table.lists());
+fn time_sound(table: &Parts) -> [f64; 3] {
+    let (c, l) = (table.counts, &table.lists);
     assert!(table.is_sound() && sound::by_index(c, l) && sound::by_iterators(c, l));
     let calls = 100_000 / c.capacity;
     let spans = race(
@@ -32,7 +32,7 @@ fn time_sound(table: &Table) -> [f64; 3] {
 fn same_answer(c: Counts, lists: &Lists) {
     let plain = sound::by_index(c, lists);
     assert_eq!(plain, sound::by_iterators(c, lists));
-    assert_eq!(plain, Table::from_parts(c, lists.clone()).is_sound());
+    assert_eq!(plain, Parts { counts: c, lists: lists.clone() }.is_sound());
 }
 
 /// Each word of each list spoilt in turn, with the stored numbers as they were and counted anew; and each stored number.
@@ -74,7 +74,7 @@ pub fn tables(report: &Report) {
         [("open", tables::open), ("half", tables::half), ("full", tables::full), ("shuffled", tables::shuffled)];
     for (name, shape) in shapes {
         for capacity in [64, 512, 4096] {
-            let [library, index, iterators] = time_sound(&shape(capacity));
+            let [library, index, iterators] = time_sound(shape(capacity).parts());
             let goal = match name {
                 "full" | "shuffled" => report.goal("soundness, full table", library / index.min(iterators), 1.0),
                 _ => String::from("none"),
@@ -89,7 +89,7 @@ pub fn tables(report: &Report) {
 /// Nanoseconds of the soundness test of one table, in a short run.
 pub fn cost(table: &Table) -> f64 {
     let calls = 100_000 / table.counts().capacity;
-    let round = || span(|| (0..calls).filter(|_| black_box(table).is_sound()).count());
+    let round = || span(|| (0..calls).filter(|_| black_box(table.parts()).is_sound()).count());
     let [least] = race(BUDGET / 10, [Box::new(round)]);
     least / f64::from(calls)
 }

@@ -70,9 +70,7 @@ pub fn changed(table: &Table, change: impl FnOnce(&mut Lists)) -> Table {
 
 /// With these lists, capacity and watermarks; the two stored numbers are counted.
 fn sound(counts: Counts, lists: Lists) -> Table {
-    let table = Table::from_parts(counts.recounted(&lists), lists);
-    assert!(table.is_sound());
-    table
+    Table::from_lists(counts.recounted(&lists), lists).unwrap()
 }
 
 /// The table as varisat's state: each list up to its watermark.

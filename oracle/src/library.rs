@@ -1,15 +1,22 @@
-//! The proved library, through the safe crate.
+//! The proved library, through the safe crate: the calls that test the table, and beside them, on a sound table, those that know it to be sound.
 use std::ops::Range;
 
 use crate::call::{Asked, Call, Cause, Format, Mark, ProofStep};
+use crate::calls::Calls;
 use crate::reading::{dimacs, drat::Filled, Counts, Outcome, Table};
-use hintzobar::{Global, Lists, Lit, Lits, Made, Mode, Name, Notes, Refusal, Solver, Step, User};
+use hintzobar::{Global, Lists, Lit, Lits, Made, Mode, Name, Notes, Parts, Refusal, Solver, Step, User};
 
 /// What lent memory holds before a call, so that words past what was filled are seen to stay.
 const BEFORE: u32 = 0xa5a5_a5a5;
 
 pub struct Library {
-    table: hintzobar::Table,
+    tested: Side<Parts>,
+    /// None where the table is not sound.
+    known: Option<Side<hintzobar::Table>>,
+}
+
+struct Side<T> {
+    table: T,
     format: Format,
 }
 
@@ -99,15 +106,36 @@ impl Library {
             assignment: t.assignment.clone(),
             records: t.records.clone(),
         };
-        Library { table: hintzobar::Table::from_parts(counts, lists), format }
+        let table = Parts { counts, lists };
+        let known = hintzobar::Table::try_from(table.clone()).ok();
+        Library { tested: Side { table, format }, known: known.map(|table| Side { table, format }) }
     }
 
     pub fn is_sound(&self) -> bool {
-        self.table.is_sound()
+        self.tested.table.is_sound()
     }
 
-    pub fn table(&self) -> Table {
-        let (c, l) = (self.table.counts(), self.table.lists());
+    /// Open in this memory, on each side.
+    pub fn open(t: &Table) -> Vec<Outcome> {
+        let Library { mut tested, known } = Library::load(Format::Text, t);
+        let mut outcomes = vec![tested.open(t.counts.capacity)];
+        outcomes.extend(known.map(|mut known| known.open(t.counts.capacity)));
+        outcomes
+    }
+
+    /// The call's outcome on each side, and its name.
+    pub fn call(&mut self, call: &Call) -> Result<Vec<(&'static str, Outcome)>, String> {
+        let mut outcomes = vec![("the library", self.tested.call(call)?)];
+        if let Some(known) = &mut self.known {
+            outcomes.push(("the library's known table", known.call(call)?));
+        }
+        Ok(outcomes)
+    }
+}
+
+impl<T: Calls> Side<T> {
+    fn table(&self) -> Table {
+        let Parts { counts: c, lists: l } = self.table.parts();
         Table {
             counts: Counts { capacity: c.capacity, user: c.user, global: c.global, solver: c.solver, used: c.used, next: c.next },
             global_from_user: l.global_from_user.clone(),
@@ -119,15 +147,13 @@ impl Library {
         }
     }
 
-    /// Open in this memory.
-    pub fn open(t: &Table) -> Outcome {
-        let mut library = Library::load(Format::Text, t);
-        let refusal = library.table.reopen(t.counts.capacity).err().map_or(0, Refusal::number);
-        Outcome { refusal, table: library.table(), ..Outcome::default() }
+    fn open(&mut self, capacity: u32) -> Outcome {
+        let refusal = self.table.reopen(capacity).err().map_or(0, Refusal::number);
+        Outcome { refusal, table: self.table(), ..Outcome::default() }
     }
 
     /// The call's outcome; every slice is lent with words of its own, and on a refusal none may have changed.
-    pub fn call(&mut self, call: &Call) -> Result<Outcome, String> {
+    fn call(&mut self, call: &Call) -> Result<Outcome, String> {
         let mut outcome = self.answer(call)?;
         outcome.table = self.table();
         Ok(outcome)
@@ -206,7 +232,7 @@ impl Library {
     fn noting(
         &mut self,
         room: usize,
-        call: impl FnOnce(&mut hintzobar::Table, &mut Notes) -> Result<Vec<u32>, Refusal>,
+        call: impl FnOnce(&mut T, &mut Notes) -> Result<Vec<u32>, Refusal>,
     ) -> Result<Outcome, String> {
         let mut notes = Notes::from(vec![BEFORE; room]);
         match call(&mut self.table, &mut notes) {

@@ -2,6 +2,8 @@
 #![deny(missing_docs)]
 
 mod call;
+#[cfg(feature = "library")]
+mod calls;
 mod cnf;
 mod compare;
 mod ledger;
@@ -32,6 +34,9 @@ fn sample(seed: u64, tally: &mut Tally) -> run::Verdict<()> {
     let tables = reachable::walk(1, 1, tally).map_err(run::told)?;
     println!("capacity 1: {} reachable tables", tables);
     run::sessions(&mut rng, 5_000_000, tally)?;
+    // the session that the benchmarks time at capacity 4,096, its first calls, and all of a small one
+    run::solver_session(4096, 20_000, 1, tally)?;
+    run::solver_session(64, 100_000, seed, tally)?;
     binary(&mut rng, 400_000, tally)?;
     let [unsound, miscounted] = run::damaged(&mut rng, 200_000, tally)?;
     println!("200000 damaged tables, {} of them unsound, {} of these by their stored numbers alone", unsound, miscounted);

@@ -281,6 +281,13 @@ pub fn binary(rng: &mut Rng, format: Format, t: &Table) -> Call {
     in_rooms(rng, format, t, call)
 }
 
+/// The call with just the rooms that it needs.
+pub fn roomed(format: Format, t: &Table, mut call: Call) -> Call {
+    let needed = call.filled(&call.read(format, t));
+    call.rooms().into_iter().zip(needed).for_each(|(room, needed)| *room = needed);
+    call
+}
+
 fn in_rooms(rng: &mut Rng, format: Format, t: &Table, mut call: Call) -> Call {
     let needed = call.filled(&call.read(format, t));
     let short = rng.one_in(10);

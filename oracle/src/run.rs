@@ -1,8 +1,9 @@
-//! The runs: random sessions, damaged tables, memory to open, and proofs to read.
-use crate::call::Format;
+//! The runs: random sessions, a session as a solver makes it, damaged tables, memory to open, and proofs to read.
+use crate::call::{Asked, Call, Format, Mark, ProofStep};
 use crate::compare::{random_session, Disagreement, Session, Tally};
 use crate::random::{self, Rng, Style};
 use crate::reading::{drat, names, Table};
+use varisat_unchanged::drive::session;
 
 /// A disagreement, told.
 pub type Verdict<T> = Result<T, String>;
@@ -29,6 +30,52 @@ pub fn sessions(rng: &mut Rng, calls: u64, tally: &mut Tally) -> Verdict<()> {
         random_session(rng, from.as_ref(), capacity, length, tally).map_err(told)?;
     }
     Ok(())
+}
+
+/// The session that the benchmarks time, so many calls of it: each is accepted.
+pub fn solver_session(capacity: u32, calls: usize, seed: u64, tally: &mut Tally) -> Verdict<()> {
+    let mut session = Session::open(Format::Text, capacity);
+    tally.sessions += 1;
+    for call in session::calls(capacity, calls, seed) {
+        let call = random::roomed(session.format, &session.table, solver_call(call));
+        let outcome = session.call(&call, tally).map_err(told)?;
+        if outcome.refusal != 0 {
+            return Err(format!("{:?} is refused with {}", call, outcome.refusal));
+        }
+    }
+    Ok(())
+}
+
+/// The call with room for anything.
+fn solver_call(call: session::Call) -> Call {
+    let all = usize::MAX;
+    let looked = |asked: Asked, index: u32| Call::Lookup { asked, index };
+    let step = ProofStep::AtClause(true);
+    match call {
+        session::Call::Lookup(0, user) => looked(Asked::GlobalFromUser, user),
+        session::Call::Lookup(1, global) => looked(Asked::UserFromGlobal, global),
+        session::Call::Lookup(2, global) => looked(Asked::SolverFromGlobal, global),
+        session::Call::Lookup(_, solver) => looked(Asked::GlobalFromSolver, solver),
+        session::Call::Record(global) => looked(Asked::Record, global),
+        session::Call::Value(solver) => looked(Asked::Assignment, solver),
+        session::Call::Map(user) => Call::Map { user, sampling: false, room: all },
+        session::Call::NewUser => Call::NewUser { room: all },
+        session::Call::Pose(lits) => Call::Pose { lits: lits.to_vec(), sampling: false, outs: all, room: all },
+        session::Call::Grant(global) => Call::Grant { global, room: all },
+        session::Call::SetMode(global, mode) => Call::SetMode { global, mode, room: all },
+        session::Call::Observe => Call::Observe { outs: all, room: all },
+        session::Call::Used(solver) => Call::Mark { mark: Mark::Used, solver },
+        session::Call::Assumed(solver, true) => Call::Mark { mark: Mark::Assumed, solver },
+        session::Call::Assumed(solver, false) => Call::Mark { mark: Mark::Released, solver },
+        session::Call::Assign(lit) => Call::Assign { lit },
+        session::Call::Remove(solver) => Call::Remove { solver, room: all },
+        session::Call::Sweep => Call::Sweep { room: all },
+        session::Call::Rename(lits) => {
+            Call::Rename { step, solver_vars: true, lits: lits.to_vec(), hashes: vec![], outs: all, hash_outs: all }
+        }
+        session::Call::Write(lits) => Call::Write { step, solver_vars: true, lits: lits.to_vec(), hashes: vec![], room: all },
+        session::Call::Model => Call::Model { globals: all, users: all },
+    }
 }
 
 /// Lists of binary clauses, a few on each of many sound tables. How many calls were accepted, and how many varisat answered too.
@@ -206,9 +253,10 @@ pub fn soundness(table: &Table) -> Verdict<()> {
 
 #[cfg(feature = "library")]
 pub fn open_in(memory: &Table, want: &crate::reading::Outcome) -> Verdict<()> {
-    let got = library::Library::open(memory);
-    if &got != want {
-        return Err(format!("Open of {:?}\n document 01: {:?}\n the library: {:?}", memory, want, got));
+    for got in library::Library::open(memory) {
+        if &got != want {
+            return Err(format!("Open of {:?}\n document 01: {:?}\n the library: {:?}", memory, want, got));
+        }
     }
     Ok(())
 }

@@ -59,5 +59,8 @@ fn main() {
     let root: String = roots.map(|file| format!("mod {};\n", file.trim_end_matches(".rs"))).collect();
     // The writer once more, by itself: in `proof` it is private, and it is measured apart from `add_step`.
     let writer = "#[path = \"proof/drat.rs\"]\npub mod drat;\n";
-    fs::write(out.join("root.rs"), root + writer).unwrap();
+    // So the renaming, in a module that has what it takes from the one above it.
+    let renamer = "use varisat_internal_proof::{ClauseHash, ProofStep};\n#[path = \"proof/map_step.rs\"]\npub mod map_step;\n";
+    fs::write(out.join("renaming.rs"), renamer).unwrap();
+    fs::write(out.join("root.rs"), root + writer + "pub mod renaming;\n").unwrap();
 }

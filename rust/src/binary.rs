@@ -1,7 +1,7 @@
 //! Lists of binary clauses.
 use std::iter;
 
-use crate::{Lit, Solver, Table};
+use crate::{Lit, Parts, Solver, Table};
 
 /// The answer of [`Table::simplify_binary`]: how many words and bytes were filled, and how many clauses are left.
 #[derive(Clone, Copy, PartialEq, Eq, Hash, Debug)]
@@ -33,8 +33,15 @@ impl Table {
     /// # Ok::<(), hintzobar::Refusal>(())
     /// ```
     pub fn binary_lists(&self, clauses: &[[Lit<Solver>; 2]]) -> Option<Vec<u32>> {
+        self.parts().binary_lists(clauses)
+    }
+}
+
+impl Parts {
+    /// [`Table::binary_lists`]. Whether the table is sound is not tested.
+    pub fn binary_lists(&self, clauses: &[[Lit<Solver>; 2]]) -> Option<Vec<u32>> {
         // No sound table has more sections than this.
-        let mut sections = vec![vec![]; 2 * self.counts().solver.min(4096) as usize];
+        let mut sections = vec![vec![]; 2 * self.counts.solver.min(4096) as usize];
         for &[a, b] in clauses {
             sections.get_mut((!a).code() as usize)?.push(b.code());
             sections.get_mut((!b).code() as usize)?.push(a.code());

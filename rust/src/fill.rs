@@ -1,5 +1,5 @@
 //! How full a table is: the two numbers that it keeps beside its lists.
-use crate::{Counts, Lists, Solver, Table};
+use crate::{Counts, Lists, Parts, Solver, Table};
 
 /// How full a table is, and which solver index comes next: the answer of [`Table::fill`].
 #[derive(Clone, Copy, PartialEq, Eq, Hash, Debug)]
@@ -16,9 +16,6 @@ pub struct Fill {
 
 impl Table {
     /// How full the table is, and which solver index comes next. Nothing is counted, only read.
-    ///
-    /// Whether the table is sound is not tested: of one that is not, these are the numbers it was given, and none are free where more are used than
-    /// there are.
     ///
     /// ```
     /// use hintzobar::{Fill, Global, Mode, Solver, Table, User};
@@ -38,19 +35,27 @@ impl Table {
     /// # Ok::<(), hintzobar::Refusal>(())
     /// ```
     pub fn fill(&self) -> Fill {
-        let Counts { capacity, used, next, .. } = self.counts();
+        self.parts().fill()
+    }
+}
+
+impl Parts {
+    /// [`Table::fill`]. Whether the table is sound is not tested: of one that is not, these are the numbers it was given, and none are free where
+    /// more are used than there are.
+    pub fn fill(&self) -> Fill {
+        let Counts { capacity, used, next, .. } = self.counts;
         Fill { used, free: capacity.saturating_sub(used), capacity, next: (next < capacity).then_some(Solver(next)) }
     }
 }
 
 impl Counts {
     /// The same capacity and watermarks, with `used` and `next` counted in these lists; what they were before does not matter. Any words are
-    /// allowed; whether a table is sound, [`Table::is_sound`] says.
+    /// allowed; whether they are a sound table, [`Parts::is_sound`] says.
     ///
     /// So a table that was saved before the counts had these numbers is brought up to date:
     ///
     /// ```
-    /// use hintzobar::{Counts, Lists, Table};
+    /// use hintzobar::{Counts, Lists, Refusal, Table};
     /// // saved: capacity 4, watermarks 3, 3 and 2; global 2 holds solver index 1, and index 0 is free again
     /// let lists = Lists {
     ///     global_from_user: vec![1, 2, 3, 0],
@@ -61,11 +66,11 @@ impl Counts {
     ///     records: vec![9, 9, 9, 47],
     /// };
     /// let saved = Counts { capacity: 4, user: 3, global: 3, solver: 2, ..Counts::default() };
-    /// assert!(!Table::from_parts(saved, lists.clone()).is_sound());
+    /// assert_eq!(Table::from_lists(saved, lists.clone()), Err(Refusal::Unsound));
     ///
     /// let counts = saved.recounted(&lists);
     /// assert_eq!((counts.used, counts.next), (3, 0));
-    /// assert!(Table::from_parts(counts, lists).is_sound());
+    /// assert!(Table::from_lists(counts, lists).is_ok());
     /// ```
     pub fn recounted(self, lists: &Lists) -> Counts {
         let used = lists.records.iter().filter(|&&record| record < 36).count() as u32;

@@ -1,7 +1,7 @@
 //! Proof lines: formats, steps, and the reader.
 use std::ops::Range;
 
-use crate::{ffi, Global, Lit, Name, Refusal, Solver, User};
+use crate::{ffi, names::codes, Global, Lit, Name, Refusal, Solver, User};
 
 /// The format of a DRAT proof.
 #[derive(Clone, Copy, PartialEq, Eq, Hash, Debug)]
@@ -75,6 +75,14 @@ fn word<N: Name>(name: Option<N>) -> u32 {
 }
 
 impl Step {
+    /// Whether it carries literals, any number of hashes beside them.
+    #[inline]
+    pub(crate) fn is_clause(self) -> bool {
+        use Step::*;
+        matches!(self, AddClause | AtClause(_) | DeleteClause(_) | Model | Assumptions | FailedAssumptions)
+    }
+
+    #[inline]
     pub(crate) fn words(self) -> ffi::Step {
         let (kind, a, b) = match self {
             Step::AddClause => (0, 0, 0),
@@ -135,6 +143,17 @@ pub enum Lits<'a> {
     Solver(&'a [Lit<Solver>]),
     /// They go as given.
     Global(&'a [Lit<Global>]),
+}
+
+impl<'a> Lits<'a> {
+    /// Whether they are solver literals, and their codes.
+    #[inline]
+    pub(crate) fn codes(self) -> (bool, &'a [u32]) {
+        match self {
+            Lits::Solver(lits) => (true, codes(lits)),
+            Lits::Global(lits) => (false, codes(lits)),
+        }
+    }
 }
 
 /// What Read filled.
@@ -225,7 +244,7 @@ pub fn write_clause(
     proof: &mut [u8],
     at: usize,
 ) -> Result<usize, Refusal> {
-    let answer = ffi::write_clause(format.number(), delete.into(), crate::names::codes(lits), a, b, proof, at);
+    let answer = ffi::write_clause(format.number(), delete.into(), codes(lits), a, b, proof, at);
     Refusal::check(answer.refusal, 0)?;
     Ok(answer.bytes)
 }
@@ -247,7 +266,7 @@ pub fn write_clause(
 /// # Ok::<(), Refusal>(())
 /// ```
 pub fn write_proof(format: Format, lits: &[Lit<Global>], ends: &[u64], kinds: &[u8], proof: &mut [u8]) -> Result<usize, Refusal> {
-    let answer = ffi::write_proof(format.number(), crate::names::codes(lits), ends, kinds, proof);
+    let answer = ffi::write_proof(format.number(), codes(lits), ends, kinds, proof);
     Refusal::check(answer.refusal, 0)?;
     Ok(answer.bytes)
 }

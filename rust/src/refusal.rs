@@ -35,7 +35,7 @@ impl fmt::Display for Place {
 #[derive(Clone, Copy, PartialEq, Eq, Hash, Debug)]
 #[non_exhaustive]
 pub enum Refusal {
-    /// 1: the table is not sound: its lists and its counts do not fit together.
+    /// 1: the table is not sound: its lists and its counts do not fit together. Of [`Parts`](crate::Parts) and what is made of them alone.
     Unsound,
     /// 2: a lent output is shorter than this call fills.
     Short,
@@ -76,9 +76,17 @@ pub enum Refusal {
 
 impl Refusal {
     /// `Ok` for 0, which is no refusal. The place goes with number 17; for 13 see `check_proof`.
+    #[inline]
     pub(crate) fn check(number: u32, place: usize) -> Result<(), Refusal> {
-        Err(match number {
-            0 => return Ok(()),
+        match number {
+            0 => Ok(()),
+            _ => Err(Refusal::of(number, place)),
+        }
+    }
+
+    #[cold]
+    fn of(number: u32, place: usize) -> Refusal {
+        match number {
             1 => Refusal::Unsound,
             2 => Refusal::Short,
             3 => Refusal::OutOfRange,
@@ -97,7 +105,7 @@ impl Refusal {
             16 => Refusal::StillAssumed,
             17 => Refusal::BadCnf(place),
             other => Refusal::Other(other),
-        })
+        }
     }
 
     /// The same for a call that reads a proof.

@@ -1,5 +1,5 @@
 //! How many users of a clause are still to be named.
-use crate::{ffi, names::codes, Lit, Refusal, Table, User};
+use crate::{ffi, names::codes, Lit, Parts, Refusal, Table, User};
 
 /// What [`Table::pose`] would do for a clause. Where it is accepted it fills `users + grants` notes.
 #[derive(Clone, Copy, PartialEq, Eq, Hash, Debug)]
@@ -15,8 +15,8 @@ impl Table {
     /// Counts, with a mark for each user seen, the users that [`Table::pose`] would map and grant. Refusal: 3, for a user of 4,096 or more, or
     /// more than 8,192 literals.
     ///
-    /// Only the user watermark, the user map and the solver indices of the globals are read, and whether the table is sound is not tested. A user
-    /// from the capacity up is counted, though `pose` refuses it.
+    /// Only the user watermark, the user map and the solver indices of the globals are read. A user from the capacity up is counted, though `pose`
+    /// refuses it.
     ///
     /// ```
     /// use hintzobar::{Lit, Table, User};
@@ -27,15 +27,27 @@ impl Table {
     /// # Ok::<(), hintzobar::Refusal>(())
     /// ```
     pub fn users_to_map(&self, lits: &[Lit<User>]) -> Result<UsersToMap, Refusal> {
-        let l = self.lists();
-        counted(ffi::users_to_map(self.counts().user, &l.global_from_user, &l.solver_from_global, codes(lits)))
+        self.parts().users_to_map(lits)
     }
 
     /// The same answer, where each literal's user is looked for among the literals before it: the plain count that [`Table::users_to_map`] is
     /// proved equal to. Its time grows with the square of the number of literals.
     pub fn users_to_map_plain(&self, lits: &[Lit<User>]) -> Result<UsersToMap, Refusal> {
-        let l = self.lists();
-        counted(ffi::users_to_map_plain(self.counts().user, &l.global_from_user, &l.solver_from_global, codes(lits)))
+        self.parts().users_to_map_plain(lits)
+    }
+}
+
+impl Parts {
+    /// [`Table::users_to_map`]. Whether the table is sound is not tested. Refusal: 3.
+    pub fn users_to_map(&self, lits: &[Lit<User>]) -> Result<UsersToMap, Refusal> {
+        let l = &self.lists;
+        counted(ffi::users_to_map(self.counts.user, &l.global_from_user, &l.solver_from_global, codes(lits)))
+    }
+
+    /// [`Table::users_to_map_plain`], likewise. Refusal: 3.
+    pub fn users_to_map_plain(&self, lits: &[Lit<User>]) -> Result<UsersToMap, Refusal> {
+        let l = &self.lists;
+        counted(ffi::users_to_map_plain(self.counts.user, &l.global_from_user, &l.solver_from_global, codes(lits)))
     }
 }
 

@@ -1,7 +1,7 @@
 //! Bad input gives the refusal, never a panic, and changes nothing.
 use hintzobar::{
-    first_step, read, write_clause, write_proof, Cause, Counts, Format, Global, Lists, Lit, Lits, Mark, Mode, Notes, Refusal,
-    Solver, Step, Table, User,
+    first_step, read, write_clause, write_proof, Cause, Counts, Format, Global, Lists, Lit, Lits, Mark, Mode, Notes, Parts,
+    Refusal, Solver, Step, Table, User,
 };
 
 const WILD: [u32; 6] = [8, 9, 4096, 1 << 31, u32::MAX - 1, u32::MAX];
@@ -38,8 +38,9 @@ fn indices() {
         assert_eq!(table.remove(Solver(index), &mut notes), Err(Refusal::NotHeld));
         assert_eq!(table.mark(Mark::Used, Solver(index)), Err(Refusal::NotHeld));
         assert_eq!(table.assign(Lit::negative(Solver(index))), Err(Refusal::NotHeld));
-        assert_eq!(table.global_from_user(User(index)), Ok(None));
-        assert_eq!(table.record(Global(index)), Ok(None));
+        assert_eq!((table.global_from_user(User(index)), table.user_from_global(Global(index))), (None, None));
+        assert_eq!((table.solver_from_global(Global(index)), table.global_from_solver(Solver(index))), (None, None));
+        assert_eq!((table.record(Global(index)), table.assignment(Solver(index))), (None, None));
         let lits = [Lit::positive(User(index))];
         assert_eq!(table.pose(&lits, false, &mut [Lit::from_code(0); 4], &mut notes), Err(Refusal::OutOfRange));
         let lits = [Lit::negative(Global(index))];
@@ -76,7 +77,7 @@ fn assumed_indices() {
         assert_eq!(&line, b"-3 0\n");
         table.mark(Mark::Released, Solver(0)).unwrap();
         table.remove(Solver(0), &mut notes).unwrap();
-        assert_eq!(table.global_from_solver(Solver(0)), Ok(None));
+        assert_eq!(table.global_from_solver(Solver(0)), None);
     }
     let said = Refusal::StillAssumed.to_string();
     assert_eq!(said, "refusal 16: the global that holds the solver index is assumed");
@@ -214,7 +215,7 @@ fn any_table() {
                 records: vec![word; 3],
                 ..Lists::default()
             };
-            let mut table = Table::from_parts(counts, lists);
+            let mut table = Parts { counts, lists };
             let before = table.clone();
             let mut notes = table.notes();
             assert!(!table.is_sound());
@@ -226,6 +227,7 @@ fn any_table() {
             assert_eq!(table.model(&mut [], &mut []), Err(Refusal::Unsound));
             assert_eq!(table.solver_from_global(Global(word)), Err(Refusal::Unsound));
             assert_eq!(table, before);
+            assert_eq!(Table::try_from(table), Err(before));
         }
     }
 }

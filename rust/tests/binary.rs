@@ -1,5 +1,5 @@
 //! Binary clauses before the sweep: what is left, what is written, each refusal, and what is enough to lend.
-use hintzobar::{Format, Lists, Lit, Refusal, Solver, Table, Thinned, User};
+use hintzobar::{Format, Lit, Refusal, Solver, Table, Thinned, User};
 
 const FORMATS: [Format; 2] = [Format::Text, Format::Binary];
 
@@ -89,11 +89,13 @@ fn no_sections() {
 #[test]
 fn not_sound() {
     let table = table();
-    let mut words: Lists = table.lists().clone();
-    words.assignment[4] = 1;
-    let unsound = Table::from_parts(table.counts(), words);
-    assert_eq!(refusal(&unsound, &lists(&table)), Some(Refusal::Unsound));
-    assert_eq!(refusal(&unsound, &[]), Some(Refusal::Unsound));
+    let mut unsound = table.parts().clone();
+    unsound.lists.assignment[4] = 1;
+    for (format, lists) in FORMATS.into_iter().flat_map(|format| [(format, lists(&table)), (format, vec![])]) {
+        let (mut out, mut proof) = ([77; 99], [77; 999]);
+        assert_eq!(unsound.simplify_binary(format, &lists, &mut out, &mut proof), Err(Refusal::Unsound));
+        assert_eq!((out, proof), ([77; 99], [77; 999]));
+    }
 }
 
 #[test]

@@ -1,11 +1,11 @@
 //! The number of undeleted globals and the least unmapped solver index: what calls make of them, and tables in which they are wrong.
-use hintzobar::{Counts, Fill, Format, Global, Lists, Lit, Lits, Mark, Mode, Notes, Refusal, Solver, Step, Table, User};
+use hintzobar::{Counts, Fill, Format, Global, Lists, Lit, Lits, Mark, Mode, Notes, Parts, Refusal, Solver, Step, Table, User};
 
 /// `used` and `next`, which are to be what the lists say.
 fn numbers(table: &Table) -> (u32, u32) {
     let counts = table.counts();
     assert_eq!(counts, counts.recounted(table.lists()));
-    assert!(table.is_sound());
+    assert!(table.parts().is_sound());
     (counts.used, counts.next)
 }
 
@@ -150,7 +150,7 @@ fn wrong(counts: Counts) -> Vec<Counts> {
 }
 
 /// Every call that is lent the table, with room for all; each is refused with 1.
-fn all_unsound(t: &mut Table) {
+fn all_unsound(t: &mut Parts) {
     let unsound = Refusal::Unsound;
     let notes = &mut t.notes();
     assert!(!t.is_sound());
@@ -184,17 +184,18 @@ fn all_unsound(t: &mut Table) {
 #[test]
 fn wrong_numbers_are_refused() {
     for table in tables() {
-        let (counts, lists) = (table.counts(), table.lists());
+        let (counts, lists) = (table.counts(), table.lists().clone());
         let wrong = wrong(counts);
         assert!(wrong.len() > 9);
         for other in wrong {
-            let mut damaged = Table::from_parts(other, lists.clone());
+            let mut damaged = Parts { counts: other, lists: lists.clone() };
             all_unsound(&mut damaged);
-            assert_eq!((damaged.counts(), damaged.lists()), (other, lists));
+            assert_eq!((damaged.counts, &damaged.lists), (other, &lists));
+            assert_eq!(Table::from_lists(other, lists.clone()), Err(Refusal::Unsound));
             // Open looks at none of them, and a recount mends them
-            assert_eq!(Table::from_parts(other.recounted(lists), lists.clone()), table);
+            assert_eq!(Table::from_lists(other.recounted(&lists), lists.clone()).as_ref(), Ok(&table));
             damaged.reopen(counts.capacity).unwrap();
-            assert_eq!(damaged, Table::open(counts.capacity).unwrap());
+            assert_eq!(&damaged, Table::open(counts.capacity).unwrap().parts());
         }
     }
 }
@@ -204,7 +205,7 @@ fn wrong_numbers_are_refused() {
 fn fill_of_any_counts() {
     for number in [0, 1, 3, 4, u32::MAX] {
         let counts = Counts { capacity: 3, used: number, next: number, ..Counts::default() };
-        let fill = Table::from_parts(counts, Lists::default()).fill();
+        let fill = Parts { counts, lists: Lists::default() }.fill();
         assert_eq!((fill.used, fill.free, fill.capacity), (number, 3 - number.min(3), 3));
         assert_eq!(fill.next, Some(Solver(number)).filter(|_| number < 3));
     }

@@ -1,5 +1,5 @@
-//! The stack that Pose, Write, Simplify and simplify_binary are said to need is enough, for the longest clauses and the most sections there may be. A
-//! thread with too little is killed with the whole process, so that only the good case is tested.
+//! The stack that Pose, Write, Simplify and simplify_binary are said to need is enough, for the longest clauses and the most sections there may be, on
+//! tables and on their parts. A thread with too little is killed with the whole process, so that only the good case is tested.
 use std::thread::Builder;
 
 use hintzobar::{Format, Lit, Lits, Made, Solver, Step, Table, User};
@@ -7,6 +7,25 @@ use hintzobar::{Format, Lit, Lits, Made, Solver, Step, Table, User};
 /// What the documents of the methods say.
 const ENOUGH: usize = 128 * 1024;
 const ENOUGH_FOR_LISTS: usize = 256 * 1024;
+
+/// The calls on a clause of 8,192 literals, of which the solver's are given.
+macro_rules! on_clauses {
+    ($table:ident, $users:ident, $clause:ident, $notes:ident) => {{
+        let mut again = vec![Lit::from_code(0); 8192];
+        assert_eq!($table.pose(&$users, false, &mut again, &mut $notes), Ok(8192));
+        assert_eq!((&again, $table.users_to_map(&$users).unwrap().users), (&$clause, 0));
+        let (mut rest, mut proof, hashes) = (vec![Lit::from_code(0); 8192], vec![0; Format::Text.room_for(8192)], vec![0; 8192]);
+        for format in [Format::Text, Format::Binary] {
+            let made = $table.simplify(format, &$clause, true, &mut rest, &mut proof).unwrap();
+            assert_eq!((made.made, made.lits), (Made::Shortened, 8190));
+            let mut dropped = $clause.clone();
+            dropped[8191] = Lit::negative(Solver(0));
+            assert_eq!($table.simplify(format, &dropped, true, &mut rest, &mut proof).unwrap().made, Made::Dropped);
+            assert!($table.write(format, Step::AtClause(true), Lits::Solver(&$clause), &[], &mut proof).is_ok());
+            assert!($table.write(format, Step::UnitClauses, Lits::Solver(&$clause), &hashes, &mut proof).is_ok());
+        }
+    }};
+}
 
 #[test]
 fn a_thread_of_128_kilobytes() {
@@ -16,17 +35,10 @@ fn a_thread_of_128_kilobytes() {
     let mut clause = vec![Lit::from_code(0); 8192];
     table.pose(&users, false, &mut clause, &mut notes).unwrap();
     table.assign(Lit::negative(Solver(0))).unwrap();
+    let mut parts = table.clone().into_parts();
     let calls = move || {
-        let mut again = vec![Lit::from_code(0); 8192];
-        assert_eq!(table.pose(&users, false, &mut again, &mut notes), Ok(8192));
-        assert_eq!((&again, table.users_to_map(&users).unwrap().users), (&clause, 0));
-        let (mut rest, mut proof, hashes) = (vec![Lit::from_code(0); 8192], vec![0; Format::Text.room_for(8192)], vec![0; 8192]);
-        for format in [Format::Text, Format::Binary] {
-            let made = table.simplify(format, &clause, true, &mut rest, &mut proof).unwrap();
-            assert_eq!((made.made, made.lits), (Made::Shortened, 8190));
-            assert!(table.write(format, Step::AtClause(true), Lits::Solver(&clause), &[], &mut proof).is_ok());
-            assert!(table.write(format, Step::UnitClauses, Lits::Solver(&clause), &hashes, &mut proof).is_ok());
-        }
+        on_clauses!(table, users, clause, notes);
+        on_clauses!(parts, users, clause, notes);
     };
     Builder::new().stack_size(ENOUGH).spawn(calls).unwrap().join().unwrap();
 }
@@ -47,10 +59,12 @@ fn a_thread_of_256_kilobytes() {
     let calls = move || {
         let (mut out, mut proof) = (vec![0; lists.len()], vec![0; 8 * lists.len()]);
         for format in [Format::Text, Format::Binary] {
-            let thinned = table.simplify_binary(format, &lists, &mut out, &mut proof).unwrap();
-            assert_eq!((thinned.words, thinned.half), (8192, 0));
-            let thinned = table.simplify_binary(format, &crossed, &mut out, &mut proof).unwrap();
-            assert_eq!((thinned.words, thinned.half), (8200, 4));
+            let thinned = table.simplify_binary(format, &lists, &mut out, &mut proof);
+            assert_eq!(thinned.map(|thinned| (thinned.words, thinned.half)), Ok((8192, 0)));
+            assert_eq!(table.parts().simplify_binary(format, &lists, &mut out, &mut proof), thinned);
+            let thinned = table.simplify_binary(format, &crossed, &mut out, &mut proof);
+            assert_eq!(thinned.map(|thinned| (thinned.words, thinned.half)), Ok((8200, 4)));
+            assert_eq!(table.parts().simplify_binary(format, &crossed, &mut out, &mut proof), thinned);
         }
     };
     Builder::new().stack_size(ENOUGH_FOR_LISTS).spawn(calls).unwrap().join().unwrap();

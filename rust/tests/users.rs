@@ -1,5 +1,5 @@
 //! The users that Pose would map and grant: the count in one pass, the plain count, and what Pose then does.
-use hintzobar::{Global, Lit, Mode, Refusal, Solver, Table, User, UsersToMap};
+use hintzobar::{Counts, Global, Lit, Mode, Parts, Refusal, Solver, Table, User, UsersToMap};
 
 /// Capacity 16. Users 0 to 9 were mapped; 0 and 1 hold solver indices, 2 and 3 are mapped, the rest are unmapped again.
 fn table() -> Table {
@@ -17,6 +17,10 @@ fn table() -> Table {
 
 /// Both counts, which are to be the same.
 fn counted(table: &Table, codes: &[u32]) -> Result<(u32, u32), Refusal> {
+    counted_in(table.parts(), codes)
+}
+
+fn counted_in(table: &Parts, codes: &[u32]) -> Result<(u32, u32), Refusal> {
     let lits: Vec<_> = codes.iter().map(|&code| Lit::from_code(code)).collect();
     let answer = table.users_to_map(&lits);
     assert_eq!(answer, table.users_to_map_plain(&lits));
@@ -59,9 +63,9 @@ fn bad_input() {
     assert_eq!(left.pose(&[Lit::from_code(32)], false, &mut posed, &mut table.notes()), Err(Refusal::OutOfRange));
     assert_eq!((left, posed), (table, [Lit::from_code(0)]));
     // The counts are of any words: no map, and a watermark above every user.
-    let unsound = Table::from_parts(hintzobar::Counts { user: u32::MAX, ..Default::default() }, Default::default());
-    assert_eq!(counted(&unsound, &[0, 1, 8190]), Ok((2, 2)));
-    assert_eq!(counted(&Table::default(), &[4, 5]), Ok((3, 1)));
+    let unsound = Parts { counts: Counts { user: u32::MAX, ..Counts::default() }, ..Parts::default() };
+    assert_eq!(counted_in(&unsound, &[0, 1, 8190]), Ok((2, 2)));
+    assert_eq!(counted_in(&Parts::default(), &[4, 5]), Ok((3, 1)));
 }
 
 /// Clauses of users that all have solver indices are looked up, by way of lists of three lengths: about the lengths where these change, and with a

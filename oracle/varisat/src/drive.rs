@@ -23,6 +23,7 @@ use crate::{
 
 pub mod measure;
 pub mod pairs;
+pub mod session;
 
 /// The state, coded as document 01 codes it, each list up to its watermark.
 #[derive(Clone, PartialEq, Eq, Debug)]

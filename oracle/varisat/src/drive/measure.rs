@@ -16,6 +16,7 @@ use crate::{
     drat::{write_binary_step, write_step},
     model::reconstruct_global_model,
     proof::{self, Proof, ProofFormat},
+    renaming::map_step::MapStep,
     solver::Solver,
     unit_simplify::unit_simplify,
     variables,
@@ -87,8 +88,8 @@ fn whole(format: Format, target: &mut impl Write, lits: &[Lit], parts: &[(usize,
 
 // ---- a context
 
-/// A context whose steps go to a DRAT proof and nowhere else.
-pub struct Bare(Oracle);
+/// A context whose steps go to a DRAT proof and nowhere else, and a renamer of its own.
+pub struct Bare(Oracle, MapStep);
 
 impl Bare {
     /// This context, with a new proof that goes nowhere.
@@ -100,7 +101,7 @@ impl Bare {
             Format::Binary => ProofFormat::BinaryDrat,
         };
         oracle.ctx.proof.write_proof(io::sink(), format);
-        Bare(oracle)
+        Bare(oracle, MapStep::default())
     }
 
     /// What the context holds.
@@ -193,6 +194,12 @@ impl Bare {
         self.0.ctx.variables.var_data_solver_mut(var(solver)).isolated = false;
     }
 
+    /// Sets or clears assumed.
+    #[inline(never)]
+    pub fn assumed(&mut self, solver: u32, set: bool) {
+        self.0.ctx.variables.var_data_solver_mut(var(solver)).assumed = set;
+    }
+
     /// `assign_lit`.
     #[inline(never)]
     pub fn assign(&mut self, code: u32) {
@@ -231,6 +238,17 @@ impl Bare {
     #[inline(never)]
     pub fn simplify_binary(&mut self) {
         simplify_binary(self.0.ctx.into_partial_ref_mut())
+    }
+
+    /// `MapStep::map` for an add of solver literals, as in `add_step`: how many literals it has then.
+    #[inline(never)]
+    pub fn rename(&mut self, clause: &[Lit]) -> usize {
+        let names = self.0.ctx.variables.global_from_solver();
+        let under = |var| names.get(var).expect("no existing global var for solver var");
+        match self.1.map(&step(false, clause), under, |hash| hash) {
+            ProofStep::AtClause { clause, .. } => clause.len(),
+            _ => unreachable!(),
+        }
     }
 
     /// `add_step` for an add of solver literals: renamed and written.
