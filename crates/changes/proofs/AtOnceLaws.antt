@@ -4,13 +4,18 @@ use mathlib.Core.Path.{_≡_, refl, sym, ap, _∙_, subst}
 use mathlib.Core.List.{List, [], _∷_, _++_}
 use native.Mathlib.Omega.{arith}
 use lib.ListN.{length}
-use Rattle.base.specs.Answer.{accepted}
+use Rattle.base.specs.Answer.{Answer, accepted}
 use Rattle.scope.specs.Table.{Table}
 use Rattle.scope.specs.Notes.{notesWords}
 use Rattle.scope.specs.Outcome.{Result, Outcome, stay, unless, noting}
 use Rattle.scope.specs.Contract.{Does}
 use Rattle.scope.proofs.ResultLaws.{unless-none, unless-some}
-use Rattle.changes.specs.AtOnce.{atOnce, AtOnce}
+use Rattle.changes.specs.AtOnce.{valueAtOnce, atOnce, AtOnce}
+
+-- Where the call is accepted with no note, its value is said: nothing is said only of a call that is refused or makes a note.
+pub at-once-says : {call : ℕ → Outcome} {t : Table} {vs : List ℕ} → AtOnce call t vs → (room v : ℕ) → call room .answer ≡ accepted (v ∷ 0 ∷ [])
+    → vs ≡ v ∷ []
+at-once-says h room v e = h .value room ∙ ap (λ (a : Answer). valueAtOnce a) e
 
 -- a call whose operation answers one index
 abbrev called : (ℕ → ℕ) → Table → Result ℕ → ℕ → Outcome
