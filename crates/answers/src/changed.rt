@@ -8,7 +8,7 @@ use marks::Changed;
 use scope::Counts;
 
 #[repr(C)]
-#[derive(Drop)]
+#[derive(Clone, Copy)]
 pub struct HzChanged {
     pub refusal: u32,
     pub counts: Counts,

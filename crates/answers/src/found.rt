@@ -10,7 +10,7 @@ use var_map::{GotGlobal, GotSolver, GotUser, GotWord};
 
 // Whether there is something, and what.
 #[repr(C)]
-#[derive(Drop)]
+#[derive(Clone, Copy)]
 pub struct HzFound {
     pub refusal: u32,
     pub found: bool,

@@ -8,7 +8,7 @@ use granting::Granted;
 use scope::Counts;
 
 #[repr(C)]
-#[derive(Drop)]
+#[derive(Clone, Copy)]
 pub struct HzGranted {
     pub refusal: u32,
     pub counts: Counts,

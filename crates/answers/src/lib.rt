@@ -1,4 +1,6 @@
 // The answers of the C surface on tables and names: flat structs. How their contracts read: crates/numbers/specs/Flat.antt and Surface.antt.
+#![tactic(auto)]
+
 pub mod changed;
 pub mod found;
 pub mod granted;

@@ -8,7 +8,7 @@ use naming::UserMapped;
 use scope::Counts;
 
 #[repr(C)]
-#[derive(Drop)]
+#[derive(Clone, Copy)]
 pub struct HzMapped {
     pub refusal: u32,
     pub counts: Counts,

@@ -10,7 +10,7 @@ use scope::Counts;
 
 // Whether a user was granted, and which.
 #[repr(C)]
-#[derive(Drop)]
+#[derive(Clone, Copy)]
 pub struct HzModeSet {
     pub refusal: u32,
     pub counts: Counts,

@@ -8,7 +8,7 @@ use naming::NewUser;
 use scope::Counts;
 
 #[repr(C)]
-#[derive(Drop)]
+#[derive(Clone, Copy)]
 pub struct HzNewMapped {
     pub refusal: u32,
     pub counts: Counts,

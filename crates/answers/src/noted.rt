@@ -8,7 +8,7 @@ use removal::Removed;
 use scope::Counts;
 
 #[repr(C)]
-#[derive(Drop)]
+#[derive(Clone, Copy)]
 pub struct HzNoted {
     pub refusal: u32,
     pub counts: Counts,

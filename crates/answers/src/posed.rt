@@ -9,7 +9,7 @@ use scope::Counts;
 
 // How many literals, or users, were filled.
 #[repr(C)]
-#[derive(Drop)]
+#[derive(Clone, Copy)]
 pub struct HzPosed {
     pub refusal: u32,
     pub counts: Counts,

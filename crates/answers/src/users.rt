@@ -7,7 +7,7 @@ use distinct::UsersCounted;
 
 // How many users are to be mapped, and how many to be granted a solver index.
 #[repr(C)]
-#[derive(Drop)]
+#[derive(Clone, Copy)]
 pub struct HzUsers {
     pub refusal: u32,
     pub users: u32,

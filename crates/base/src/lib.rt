@@ -1,1 +1,2 @@
 // The vocabulary of the contracts is in specs/, its laws in proofs/. No code.
+#![tactic(auto)]

@@ -1,6 +1,6 @@
 // The delete steps of the clauses that go, each once, under global names.
 ghost use Rattle.std.specs.Prelude.{◌≡◌, List, ℕ, ◌+◌, ◌≤◌, length};
-ghost use Rattle.base.specs.Lent.{old, new, Fills};
+ghost use Rattle.base.specs.Lent.{Fills, change};
 ghost use Rattle.base.specs.Bounded.{any_of};
 ghost use Rattle.drat.specs.Grammar.{encode_step, encode};
 ghost use Rattle.scope.specs.Binary.{sections_of, filled_codes};
@@ -20,7 +20,7 @@ use table::{FoundGlobal, holder};
 // Whether a section that is not empty is of an index with no holder.
 pub(crate) fn any_unheld(gs: &[u32], place: &[usize], n: usize) -> bool
     requires { Rising n place.now }
-    ensures { (lists : List ℕ) → Placed lists n (old place) → result ≡ any_of (unheld_by (old gs)) (filled_codes (sections_of n lists)) }
+    ensures { (lists : List ℕ) → Placed lists n place.now → result ≡ any_of (unheld_by gs.now) (filled_codes (sections_of n lists)) }
 {
     let mut l: usize = 0;
     while l < n {
@@ -37,7 +37,7 @@ pub(crate) fn any_unheld(gs: &[u32], place: &[usize], n: usize) -> bool
 
 // Whether the entry m under l has a delete step, where x is not l.
 fn goes(assignment: &[u32], l: u32, x: u32, m: u32) -> bool
-    ensures { result ≡ goes_as (old assignment) l x m }
+    ensures { result ≡ goes_as assignment.now l x m }
 {
     if m <= x {
         return false;
@@ -48,7 +48,7 @@ fn goes(assignment: &[u32], l: u32, x: u32, m: u32) -> bool
 // How many bytes the delete step of the clause x or m takes.
 fn delete_len(gs: &[u32], f: Format, x: u32, m: u32) -> usize
     requires { Pair gs.now x m }
-    ensures { result ≡ length (encode_step f (clause_by (old gs) x m)) }
+    ensures { result ≡ length (encode_step f (clause_by gs.now x m)) }
 {
     let pair = [rename_lit(gs, true, x), rename_lit(gs, true, m)];
     step_len(f, Kind::Delete, &pair)
@@ -58,8 +58,8 @@ fn delete_len(gs: &[u32], f: Format, x: u32, m: u32) -> usize
 fn put_delete(gs: &[u32], f: Format, x: u32, m: u32, bytes: &mut [u8], at: usize) -> usize
     requires pair { Pair gs.now x m }
     requires m_in_bounds { at + length (encode_step f (clause_by gs.now x m)) ≤ length bytes.old }
-    ensures value { result ≡ at + length (encode_step f (clause_by (old gs) x m)) }
-    ensures fills { Fills bytes at (encode_step f (clause_by (old gs) x m)) }
+    ensures value { result ≡ at + length (encode_step f (clause_by gs.now x m)) }
+    ensures fills { Fills (change bytes.old bytes.new) at (encode_step f (clause_by gs.now x m)) }
 {
     let pair = [rename_lit(gs, true, x), rename_lit(gs, true, m)];
     put_step(f, Kind::Delete, &pair, bytes, at)
@@ -75,7 +75,7 @@ fn section_len(
     room: usize,
 ) -> Recorded
     requires { Named gs.now l es.now }
-    ensures { result ≡ laid (encode f (deletes_by (old gs) (old assignment) l (old es))) room }
+    ensures { result ≡ laid (encode f (deletes_by gs.now assignment.now l es.now)) room }
 {
     let x = not_lit(l);
     let mut used: usize = 0;
@@ -106,7 +106,7 @@ pub(crate) fn deletes_len(
 ) -> Recorded
     requires placed { Placed lists.now n place.now }
     requires all_named { AllNamed gs.now (sections_of n lists.now) }
-    ensures { result ≡ laid (bytes_by f (old gs) (old assignment) (sections_of n (old lists))) room }
+    ensures { result ≡ laid (bytes_by f gs.now assignment.now (sections_of n lists.now)) room }
 {
     let mut used: usize = 0;
     let mut l: usize = 0;
@@ -135,8 +135,8 @@ fn put_section(
 ) -> usize
     requires named { Named gs.now l es.now }
     requires es_in_bounds { at + length (encode f (deletes_by gs.now assignment.now l es.now)) ≤ length bytes.old }
-    ensures value { result ≡ at + length (encode f (deletes_by (old gs) (old assignment) l (old es))) }
-    ensures fills { Fills bytes at (encode f (deletes_by (old gs) (old assignment) l (old es))) }
+    ensures value { result ≡ at + length (encode f (deletes_by gs.now assignment.now l es.now)) }
+    ensures fills { Fills (change bytes.old bytes.new) at (encode f (deletes_by gs.now assignment.now l es.now)) }
 {
     let x = not_lit(l);
     let mut p = at;
@@ -164,7 +164,7 @@ pub(crate) fn put_deletes(
     requires placed { Placed lists.now n place.now }
     requires all_named { AllNamed gs.now (sections_of n lists.now) }
     requires lists_in_bounds { length (bytes_by f gs.now assignment.now (sections_of n lists.now)) ≤ length bytes.old }
-    ensures { Fills bytes 0 (bytes_by f (old gs) (old assignment) (sections_of n (old lists))) }
+    ensures { Fills (change bytes.old bytes.new) 0 (bytes_by f gs.now assignment.now (sections_of n lists.now)) }
 {
     let mut at = 0;
     let mut l: usize = 0;

@@ -1,6 +1,6 @@
 // What stays of the lists: the entries of which neither literal has a value.
 ghost use Rattle.std.specs.Prelude.{◌≡◌, ◌+◌, ◌≤◌, ◌<◌, length};
-ghost use Rattle.base.specs.Lent.{old, new, Fills};
+ghost use Rattle.base.specs.Lent.{Fills, change};
 ghost use Rattle.scope.specs.Binary.{sections_of, section_words};
 ghost use Rattle.sections.specs.Places.{Placed};
 ghost use Rattle.binary.specs.Entries.{stays_by, kept_by, words_by, entries_by};
@@ -9,14 +9,14 @@ use table::word_at;
 
 // Whether the clause of the entry m under l stays.
 pub(crate) fn stays(assignment: &[u32], l: u32, m: u32) -> bool
-    ensures { result ≡ stays_by (old assignment) l m }
+    ensures { result ≡ stays_by assignment.now l m }
 {
     (word_at(assignment, l / 2) == 0) & (word_at(assignment, m / 2) == 0)
 }
 
 // How many entries of the section of l stay.
 fn count_kept(assignment: &[u32], l: u32, es: &[u32]) -> usize
-    ensures { result ≡ length (kept_by (old assignment) l (old es)) }
+    ensures { result ≡ length (kept_by assignment.now l es.now) }
 {
     let mut k = 0;
     let mut i = 0;
@@ -32,8 +32,8 @@ fn count_kept(assignment: &[u32], l: u32, es: &[u32]) -> usize
 // What stays of the section of l, from the place `at` on; the place after it.
 fn put_entries(assignment: &[u32], l: u32, es: &[u32], out: &mut [u32], at: usize) -> usize
     requires { at + length (kept_by assignment.now l es.now) ≤ length out.old }
-    ensures value { result ≡ at + length (kept_by (old assignment) l (old es)) }
-    ensures fills { Fills out at (kept_by (old assignment) l (old es)) }
+    ensures value { result ≡ at + length (kept_by assignment.now l es.now) }
+    ensures fills { Fills (change out.old out.new) at (kept_by assignment.now l es.now) }
 {
     let mut k = at;
     let mut i = 0;
@@ -52,8 +52,8 @@ fn put_entries(assignment: &[u32], l: u32, es: &[u32], out: &mut [u32], at: usiz
 fn put_section(assignment: &[u32], l: u32, es: &[u32], out: &mut [u32], at: usize) -> usize
     requires es_len_bound { length es.now < 4294967296 }
     requires es_in_bounds { at + length (section_words (kept_by assignment.now l es.now)) ≤ length out.old }
-    ensures value { result ≡ at + length (section_words (kept_by (old assignment) l (old es))) }
-    ensures fills { Fills out at (section_words (kept_by (old assignment) l (old es))) }
+    ensures value { result ≡ at + length (section_words (kept_by assignment.now l es.now)) }
+    ensures fills { Fills (change out.old out.new) at (section_words (kept_by assignment.now l es.now)) }
 {
     let end = put_entries(assignment, l, es, out, at + 1);
     out[at] = (end - at - 1) as u32;
@@ -63,8 +63,8 @@ fn put_section(assignment: &[u32], l: u32, es: &[u32], out: &mut [u32], at: usiz
 // How many entries of all sections stay.
 pub(crate) fn count_all(assignment: &[u32], lists: &[u32], place: &[usize], n: usize) -> usize
     requires { Placed lists.now n place.now }
-    ensures value { result ≡ length (entries_by (old assignment) (sections_of n (old lists))) }
-    ensures upper_bound { result ≤ length (old lists) }
+    ensures value { result ≡ length (entries_by assignment.now (sections_of n lists.now)) }
+    ensures upper_bound { result ≤ length lists.now }
 {
     let mut k = 0;
     let mut l: usize = 0;
@@ -87,7 +87,7 @@ pub(crate) fn put_lists(
 )
     requires placed { Placed lists.now n place.now }
     requires lists_in_bounds { length (words_by assignment.now (sections_of n lists.now)) ≤ length out.old }
-    ensures { Fills out 0 (words_by (old assignment) (sections_of n (old lists))) }
+    ensures { Fills (change out.old out.new) 0 (words_by assignment.now (sections_of n lists.now)) }
 {
     let mut at = 0;
     let mut l: usize = 0;

@@ -1,12 +1,14 @@
 // Binary clauses before the sweep: those with a literal that has a value go, and the delete steps that say so are written.
+#![tactic(auto)]
+
 mod deletes;
 mod keep;
 
 ghost use Rattle.std.specs.Prelude.{◌≡◌, true, length};
-ghost use Rattle.base.specs.Lent.{old, new, Fills};
+ghost use Rattle.base.specs.Lent.{Fills, change};
 ghost use Rattle.scope.specs.Table.{Table};
 ghost use Rattle.scope.specs.Sound.{soundb};
-ghost use Rattle.scope.specs.Contract.{given, before, quiet, Meets};
+ghost use Rattle.scope.specs.Contract.{given, Meets, reads};
 ghost use Rattle.scope.specs.Binary.{sections_of, binary_of};
 ghost use Rattle.sections.specs.Places.{Placed};
 ghost use Rattle.binary.specs.Answers.{thinned, thinned_by, fills_words, fills_bytes};
@@ -21,7 +23,7 @@ use steps::write::Recorded;
 use table::is_sound;
 
 // How many words the lists have, half the number of their entries, and how many bytes were filled.
-#[derive(Drop)]
+#[derive(Clone, Copy)]
 pub enum Thinned {
     Done(usize, usize, usize),
     Refused(u32),
@@ -40,18 +42,18 @@ fn thin_placed(
 ) -> Thinned
     requires placed { Placed lists.now n place.now }
     requires all_named { AllNamed gs.now (sections_of n lists.now) }
-    ensures fact_1 { let ss = sections_of n (old lists) in
-        let ws = words_by (old assignment) ss in
-        let bs = bytes_by f (old gs) (old assignment) ss in
-        result ≡ thinned_by ws (entries_by (old assignment) ss) bs (length (old out)) (length (old bytes)) }
-    ensures fact_2 { let ss = sections_of n (old lists) in
-        let ws = words_by (old assignment) ss in
-        let bs = bytes_by f (old gs) (old assignment) ss in
-        Fills out 0 (fills_words ws bs (length (old out)) (length (old bytes))) }
-    ensures fact_3 { let ss = sections_of n (old lists) in
-        let ws = words_by (old assignment) ss in
-        let bs = bytes_by f (old gs) (old assignment) ss in
-        Fills bytes 0 (fills_bytes ws bs (length (old out)) (length (old bytes))) }
+    ensures value { let ss = sections_of n lists.now in
+        let ws = words_by assignment.now ss in
+        let bs = bytes_by f gs.now assignment.now ss in
+        result ≡ thinned_by ws (entries_by assignment.now ss) bs (length out.old) (length bytes.old) }
+    ensures out { let ss = sections_of n lists.now in
+        let ws = words_by assignment.now ss in
+        let bs = bytes_by f gs.now assignment.now ss in
+        Fills (change out.old out.new) 0 (fills_words ws bs (length out.old) (length bytes.old)) }
+    ensures bytes { let ss = sections_of n lists.now in
+        let ws = words_by assignment.now ss in
+        let bs = bytes_by f gs.now assignment.now ss in
+        Fills (change bytes.old bytes.new) 0 (fills_bytes ws bs (length out.old) (length bytes.old)) }
 {
     let kept = count_all(assignment, lists, place, n);
     let words = n + kept;
@@ -78,9 +80,9 @@ fn thin_lists(
     bytes: &mut [u8],
 ) -> Thinned
     requires { Small solver gs.now }
-    ensures { (t : Table) → soundb t ≡ true → t.counts.solver ≡ solver → t.global_from_solver ≡ old gs → t.assignment ≡ old assignment →
-        let o = binary_of f t (old lists) (length (old out)) (length (old bytes)) in
-        ((thinned result t.counts).answer ≡ o.answer) × (Fills out 0 o.words × Fills bytes 0 o.bytes) }
+    ensures { (t : Table) → soundb t ≡ true → t.counts.solver ≡ solver → t.global_from_solver ≡ gs.now → t.assignment ≡ assignment.now →
+        let o = binary_of f t lists.now (length out.old) (length bytes.old) in
+        ((thinned result t.counts).answer ≡ o.answer) × (Fills (change out.old out.new) 0 o.words × Fills (change bytes.old bytes.new) 0 o.bytes) }
 {
     let n = 2 * solver as usize;
     let mut place = [0usize; 8193];
@@ -111,12 +113,12 @@ pub fn simplify_binary(
     out: &mut [u32],
     bytes: &mut [u8],
 ) -> Thinned
-    ensures meets { Meets (λ t room. binary_of f t (old lists) (length (old out)) (length (old bytes))) (thinned result c)
-        (quiet c gu ug sg gs assignment records) }
-    ensures out { Fills out 0
-        (binary_of f (before c gu ug sg gs assignment records) (old lists) (length (old out)) (length (old bytes))).words }
-    ensures bytes { Fills bytes 0
-        (binary_of f (before c gu ug sg gs assignment records) (old lists) (length (old out)) (length (old bytes))).bytes }
+    ensures meets { Meets (λ t room. binary_of f t lists.now (length out.old) (length bytes.old)) (thinned result c)
+        (reads c gu.now ug.now sg.now gs.now assignment.now records.now) }
+    ensures out { Fills (change out.old out.new) 0
+        (binary_of f (given c gu.now ug.now sg.now gs.now assignment.now records.now) lists.now (length out.old) (length bytes.old)).words }
+    ensures bytes { Fills (change bytes.old bytes.new) 0
+        (binary_of f (given c gu.now ug.now sg.now gs.now assignment.now records.now) lists.now (length out.old) (length bytes.old)).bytes }
 {
     if !is_sound(c, gu, ug, sg, gs, assignment, records) {
         return Thinned::Refused(1);
@@ -139,13 +141,13 @@ pub fn known_simplify_binary(
     out: &mut [u32],
     bytes: &mut [u8],
 ) -> Thinned
-    requires { soundb (given c gu ug sg gs assignment records) ≡ true }
-    ensures meets { Meets (λ t room. binary_of f t (old lists) (length (old out)) (length (old bytes))) (thinned result c)
-        (quiet c gu ug sg gs assignment records) }
-    ensures out { Fills out 0
-        (binary_of f (before c gu ug sg gs assignment records) (old lists) (length (old out)) (length (old bytes))).words }
-    ensures bytes { Fills bytes 0
-        (binary_of f (before c gu ug sg gs assignment records) (old lists) (length (old out)) (length (old bytes))).bytes }
+    requires { soundb (given c gu.now ug.now sg.now gs.now assignment.now records.now) ≡ true }
+    ensures meets { Meets (λ t room. binary_of f t lists.now (length out.old) (length bytes.old)) (thinned result c)
+        (reads c gu.now ug.now sg.now gs.now assignment.now records.now) }
+    ensures out { Fills (change out.old out.new) 0
+        (binary_of f (given c gu.now ug.now sg.now gs.now assignment.now records.now) lists.now (length out.old) (length bytes.old)).words }
+    ensures bytes { Fills (change bytes.old bytes.new) 0
+        (binary_of f (given c gu.now ug.now sg.now gs.now assignment.now records.now) lists.now (length out.old) (length bytes.old)).bytes }
 {
     thin_lists(c.solver, gs, assignment, f, lists, out, bytes)
 }

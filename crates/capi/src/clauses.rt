@@ -1,7 +1,7 @@
 // Simplify, and Simplify binary.
 ghost use Rattle.std.specs.Prelude.{◌≡◌, [], ◌∷◌, length};
-ghost use Rattle.base.specs.Lent.{old, new, Fills};
-ghost use Rattle.scope.specs.Contract.{before, quiet};
+ghost use Rattle.base.specs.Lent.{Fills, change};
+ghost use Rattle.scope.specs.Contract.{reads, given};
 ghost use Rattle.scope.specs.Steps.{flag};
 ghost use Rattle.numbers.specs.Surface.{plain, Gives};
 ghost use Rattle.numbers.specs.Lines.{simplify_at, binary_at};
@@ -27,13 +27,13 @@ pub extern "C" fn hz_simplify(
     out: &mut [u32],
     bytes: &mut [u8],
 ) -> HzSimplified
-    ensures gives { Gives (λ t room. simplify_at format t (old lits) redundant (length (old out)) (length (old bytes)))
+    ensures gives { Gives (λ t room. simplify_at format t lits.now redundant (length out.old) (length bytes.old))
         (plain 4) (result.refusal ∷ result.made ∷ result.lits ∷ flag result.redundant ∷ result.bytes ∷ []) c
-        (quiet c gu ug sg gs assignment records) }
-    ensures out { Fills out 0
-        (simplify_at format (before c gu ug sg gs assignment records) (old lits) redundant (length (old out)) (length (old bytes))).words }
-    ensures bytes { Fills bytes 0
-        (simplify_at format (before c gu ug sg gs assignment records) (old lits) redundant (length (old out)) (length (old bytes))).bytes }
+        (reads c gu.now ug.now sg.now gs.now assignment.now records.now) }
+    ensures out { Fills (change out.old out.new) 0
+        (simplify_at format (given c gu.now ug.now sg.now gs.now assignment.now records.now) lits.now redundant (length out.old) (length bytes.old)).words }
+    ensures bytes { Fills (change bytes.old bytes.new) 0
+        (simplify_at format (given c gu.now ug.now sg.now gs.now assignment.now records.now) lits.now redundant (length out.old) (length bytes.old)).bytes }
 {
     let FormatNumber::Known(f) = format_in(format) else {
         return HzSimplified {
@@ -65,12 +65,12 @@ pub extern "C" fn hz_simplify_binary(
     out: &mut [u32],
     bytes: &mut [u8],
 ) -> HzThinned
-    ensures gives { Gives (λ t room. binary_at format t (old lists) (length (old out)) (length (old bytes)))
-        (plain 3) (result.refusal ∷ result.words ∷ result.half ∷ result.bytes ∷ []) c (quiet c gu ug sg gs assignment records) }
-    ensures out { Fills out 0
-        (binary_at format (before c gu ug sg gs assignment records) (old lists) (length (old out)) (length (old bytes))).words }
-    ensures bytes { Fills bytes 0
-        (binary_at format (before c gu ug sg gs assignment records) (old lists) (length (old out)) (length (old bytes))).bytes }
+    ensures gives { Gives (λ t room. binary_at format t lists.now (length out.old) (length bytes.old))
+        (plain 3) (result.refusal ∷ result.words ∷ result.half ∷ result.bytes ∷ []) c (reads c gu.now ug.now sg.now gs.now assignment.now records.now) }
+    ensures out { Fills (change out.old out.new) 0
+        (binary_at format (given c gu.now ug.now sg.now gs.now assignment.now records.now) lists.now (length out.old) (length bytes.old)).words }
+    ensures bytes { Fills (change bytes.old bytes.new) 0
+        (binary_at format (given c gu.now ug.now sg.now gs.now assignment.now records.now) lists.now (length out.old) (length bytes.old)).bytes }
 {
     let FormatNumber::Known(f) = format_in(format) else {
         return HzThinned {

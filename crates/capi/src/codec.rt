@@ -1,7 +1,7 @@
 // The writer of one clause, and the reader.
 ghost use Rattle.std.specs.Prelude.{◌≡◌, [], ◌∷◌, ◌+◌, length};
 ghost use Rattle.drat.specs.Writing.{part};
-ghost use Rattle.base.specs.Lent.{old, Fills};
+ghost use Rattle.base.specs.Lent.{Fills, change};
 ghost use Rattle.numbers.specs.Surface.{plain, located, placed, part_of};
 ghost use Rattle.capi.specs.Codec.{write_clause_at, write_proof_at, read_at, first_at, first_place_at};
 
@@ -22,10 +22,10 @@ pub extern "C" fn hz_write_clause(
     out: &mut [u8],
     at: usize,
 ) -> HzWritten
-    ensures fact_1 { let w = write_clause_at format kind (old buf) a b (length (old out)) at in
+    ensures value { let w = write_clause_at format kind buf.now a b (length out.old) at in
         result.refusal ∷ result.bytes ∷ [] ≡ plain 1 w.answer }
-    ensures fact_2 { let w = write_clause_at format kind (old buf) a b (length (old out)) at in
-        Fills out at w.bytes }
+    ensures out { let w = write_clause_at format kind buf.now a b (length out.old) at in
+        Fills (change out.old out.new) at w.bytes }
 {
     let FormatNumber::Known(f) = format_in(format) else {
         return HzWritten {
@@ -52,10 +52,10 @@ pub extern "C" fn hz_write_proof(
     kinds: &[u8],
     out: &mut [u8],
 ) -> HzWritten
-    ensures fact_1 { let w = write_proof_at format (old codes) (old ends) (old kinds) (length (old out)) in
+    ensures value { let w = write_proof_at format codes.now ends.now kinds.now (length out.old) in
         result.refusal ∷ result.bytes ∷ [] ≡ plain 1 w.answer }
-    ensures fact_2 { let w = write_proof_at format (old codes) (old ends) (old kinds) (length (old out)) in
-        Fills out 0 w.bytes }
+    ensures out { let w = write_proof_at format codes.now ends.now kinds.now (length out.old) in
+        Fills (change out.old out.new) 0 w.bytes }
 {
     let FormatNumber::Known(f) = format_in(format) else {
         return HzWritten {
@@ -76,14 +76,14 @@ pub extern "C" fn hz_read(
     ends: &mut [u64],
     kinds: &mut [u8],
 ) -> HzReading
-    ensures fact_1 { let w = read_at format (old bytes) (length (old codes)) (length (old ends)) (length (old kinds)) in
+    ensures step { let w = read_at format bytes.now (length codes.old) (length ends.old) (length kinds.old) in
         result.refusal ∷ result.place ∷ result.lits ∷ result.steps ∷ [] ≡ located 2 w.answer }
-    ensures fact_2 { let w = read_at format (old bytes) (length (old codes)) (length (old ends)) (length (old kinds)) in
-        Fills codes 0 w.codes }
-    ensures fact_3 { let w = read_at format (old bytes) (length (old codes)) (length (old ends)) (length (old kinds)) in
-        Fills ends 0 w.ends }
-    ensures fact_4 { let w = read_at format (old bytes) (length (old codes)) (length (old ends)) (length (old kinds)) in
-        Fills kinds 0 w.kinds }
+    ensures codes { let w = read_at format bytes.now (length codes.old) (length ends.old) (length kinds.old) in
+        Fills (change codes.old codes.new) 0 w.codes }
+    ensures ends { let w = read_at format bytes.now (length codes.old) (length ends.old) (length kinds.old) in
+        Fills (change ends.old ends.new) 0 w.ends }
+    ensures kinds { let w = read_at format bytes.now (length codes.old) (length ends.old) (length kinds.old) in
+        Fills (change kinds.old kinds.new) 0 w.kinds }
 {
     let FormatNumber::Known(f) = format_in(format) else {
         return HzReading {
@@ -100,10 +100,10 @@ pub extern "C" fn hz_read(
 // The first step alone (13): `first_of`, and `first_token` for its place.
 #[unsafe(no_mangle)]
 pub extern "C" fn hz_first_step(format: u32, bytes: &[u8]) -> HzFirst
-    ensures fact_1 { let w = first_at format (old bytes) in
-        result.refusal ∷ result.place ∷ result.length ∷ [] ≡ placed (first_place_at format (old bytes)) w }
-    ensures fact_2 { let w = first_at format (old bytes) in
-        part result.place (result.place + result.length) (old bytes) ≡ part_of w }
+    ensures value { let w = first_at format bytes.now in
+        result.refusal ∷ result.place ∷ result.length ∷ [] ≡ placed (first_place_at format bytes.now) w }
+    ensures bytes { let w = first_at format bytes.now in
+        part result.place (result.place + result.length) bytes.now ≡ part_of w }
 {
     let FormatNumber::Known(f) = format_in(format) else {
         return HzFirst {

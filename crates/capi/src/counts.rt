@@ -1,6 +1,6 @@
 // Soundness.
 ghost use Rattle.std.specs.Prelude.{◌≡◌};
-ghost use Rattle.scope.specs.Contract.{before};
+ghost use Rattle.scope.specs.Contract.{given};
 ghost use Rattle.scope.specs.Sound.{soundb};
 
 use scope::Counts;
@@ -16,7 +16,7 @@ pub extern "C" fn hz_is_sound(
     assignment: &[u32],
     records: &[u32],
 ) -> bool
-    ensures { result ≡ soundb (before c gu ug sg gs assignment records) }
+    ensures { result ≡ soundb (given c gu.now ug.now sg.now gs.now assignment.now records.now) }
 {
     table::is_sound(c, gu, ug, sg, gs, assignment, records)
 }

@@ -1,5 +1,6 @@
 // Grant.
 ghost use Rattle.std.specs.Prelude.{[], ◌∷◌};
+ghost use Rattle.base.specs.Lent.{constant, change};
 ghost use Rattle.scope.specs.Contract.{lent};
 ghost use Rattle.scope.specs.Grant.{grant_of};
 ghost use Rattle.numbers.specs.Surface.{plain, Gives};
@@ -21,7 +22,8 @@ pub extern "C" fn hz_grant(
     notes: &mut [u32],
 ) -> HzGranted
     ensures { Gives (λ t room. grant_of t global room) (plain 2) (result.refusal ∷ result.solver ∷ result.notes ∷ []) result.counts
-        (lent c gu ug sg gs assignment records notes) }
+        (lent c (constant gu.now) (constant ug.now) (change sg.old sg.new) (change gs.old gs.new)
+            (change assignment.old assignment.new) (constant records.now) (change notes.old notes.new)) }
 {
     let r = granting::solver_from_global(
         c,

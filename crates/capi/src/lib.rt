@@ -1,4 +1,6 @@
 // The calls of document 01 for C and Rust: numbers, slices, and structs by value. The header is include/hintzobar.h.
+#![tactic(auto)]
+
 pub mod clauses;
 pub mod cnf;
 pub mod codec;

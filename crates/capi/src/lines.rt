@@ -1,7 +1,7 @@
 // Rename and Write.
 ghost use Rattle.std.specs.Prelude.{◌≡◌, [], ◌∷◌, length};
-ghost use Rattle.base.specs.Lent.{old, new, Fills};
-ghost use Rattle.scope.specs.Contract.{before, quiet};
+ghost use Rattle.base.specs.Lent.{Fills, change};
+ghost use Rattle.scope.specs.Contract.{reads, given};
 ghost use Rattle.numbers.specs.Surface.{plain, stepped, Gives};
 ghost use Rattle.numbers.specs.Lines.{step_given, words_at, rename_at, write_at};
 
@@ -27,14 +27,14 @@ pub extern "C" fn hz_rename(
     out: &mut [u32],
     hashout: &mut [u64],
 ) -> HzRenamed
-    ensures gives_1 { Gives (λ t room. rename_at step t solvervars (old lits) (old hashes) (length (old out)) (length (old hashout)))
+    ensures gives_1 { Gives (λ t room. rename_at step t solvervars lits.now hashes.now (length out.old) (length hashout.old))
         (stepped (words_at (step_given step))) (result.refusal ∷ result.lits ∷ result.hashes ∷ words_at (step_given result.step)) c
-        (quiet c gu ug sg gs assignment records) }
+        (reads c gu.now ug.now sg.now gs.now assignment.now records.now) }
     ensures gives_2 { result.step ≡ step }
-    ensures out { Fills out 0
-        (rename_at step (before c gu ug sg gs assignment records) solvervars (old lits) (old hashes) (length (old out)) (length (old hashout))).words }
-    ensures hashout { Fills hashout 0
-        (rename_at step (before c gu ug sg gs assignment records) solvervars (old lits) (old hashes) (length (old out)) (length (old hashout))).more }
+    ensures out { Fills (change out.old out.new) 0
+        (rename_at step (given c gu.now ug.now sg.now gs.now assignment.now records.now) solvervars lits.now hashes.now (length out.old) (length hashout.old)).words }
+    ensures hashout { Fills (change hashout.old hashout.new) 0
+        (rename_at step (given c gu.now ug.now sg.now gs.now assignment.now records.now) solvervars lits.now hashes.now (length out.old) (length hashout.old)).more }
 {
     let StepNumber::Known(s) = step_in(step) else {
         return HzRenamed {
@@ -67,10 +67,10 @@ pub extern "C" fn hz_write(
     hashes: &[u64],
     out: &mut [u8],
 ) -> HzWritten
-    ensures gives { Gives (λ t room. write_at format step t solvervars (old lits) (old hashes) (length (old out)))
-        (plain 1) (result.refusal ∷ result.bytes ∷ []) c (quiet c gu ug sg gs assignment records) }
-    ensures out { Fills out 0
-        (write_at format step (before c gu ug sg gs assignment records) solvervars (old lits) (old hashes) (length (old out))).bytes }
+    ensures gives { Gives (λ t room. write_at format step t solvervars lits.now hashes.now (length out.old))
+        (plain 1) (result.refusal ∷ result.bytes ∷ []) c (reads c gu.now ug.now sg.now gs.now assignment.now records.now) }
+    ensures out { Fills (change out.old out.new) 0
+        (write_at format step (given c gu.now ug.now sg.now gs.now assignment.now records.now) solvervars lits.now hashes.now (length out.old)).bytes }
 {
     let FormatNumber::Known(f) = format_in(format) else {
         return HzWritten {

@@ -1,5 +1,6 @@
 // Marks and Assign.
 ghost use Rattle.std.specs.Prelude.{[], ◌∷◌};
+ghost use Rattle.base.specs.Lent.{constant, change};
 ghost use Rattle.scope.specs.Contract.{quiet};
 ghost use Rattle.scope.specs.Marks.{mark_of, assign_of};
 ghost use Rattle.numbers.specs.Numbers.{for_known, mark_for};
@@ -23,7 +24,8 @@ pub extern "C" fn hz_mark(
     solver: u32,
 ) -> HzChanged
     ensures { Gives (λ t room. for_known (mark_for mark) t (λ m. mark_of t m solver)) (plain 0) (result.refusal ∷ []) result.counts
-        (quiet c gu ug sg gs assignment records) }
+        (quiet c (constant gu.now) (constant ug.now) (constant sg.now) (constant gs.now)
+            (constant assignment.now) (change records.old records.new)) }
 {
     let MarkNumber::Known(m) = mark_in(mark) else {
         return HzChanged {
@@ -48,7 +50,8 @@ pub extern "C" fn hz_assign(
     lit: u32,
 ) -> HzChanged
     ensures { Gives (λ t room. assign_of t lit) (plain 0) (result.refusal ∷ []) result.counts
-        (quiet c gu ug sg gs assignment records) }
+        (quiet c (constant gu.now) (constant ug.now) (constant sg.now) (constant gs.now)
+            (change assignment.old assignment.new) (constant records.now)) }
 {
     let r = marks::assign_lit(c, gu, ug, sg, gs, assignment, records, lit);
     changed_out(r, c)

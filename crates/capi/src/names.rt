@@ -1,5 +1,6 @@
 // Map and New user.
 ghost use Rattle.std.specs.Prelude.{[], ◌∷◌};
+ghost use Rattle.base.specs.Lent.{constant, change};
 ghost use Rattle.scope.specs.Contract.{lent};
 ghost use Rattle.scope.specs.Map.{map_of, new_user_of};
 ghost use Rattle.numbers.specs.Surface.{plain, Gives};
@@ -23,7 +24,8 @@ pub extern "C" fn hz_map(
     notes: &mut [u32],
 ) -> HzMapped
     ensures { Gives (λ t room. map_of t user sampling room) (plain 2) (result.refusal ∷ result.global ∷ result.notes ∷ []) result.counts
-        (lent c gu ug sg gs assignment records notes) }
+        (lent c (change gu.old gu.new) (change ug.old ug.new) (constant sg.now) (constant gs.now)
+            (constant assignment.now) (change records.old records.new) (change notes.old notes.new)) }
 {
     let r = naming::global_from_user(
         c,
@@ -53,7 +55,8 @@ pub extern "C" fn hz_new_user(
     notes: &mut [u32],
 ) -> HzNewMapped
     ensures { Gives (λ t room. new_user_of t room) (plain 3) (result.refusal ∷ result.user ∷ result.global ∷ result.notes ∷ []) result.counts
-        (lent c gu ug sg gs assignment records notes) }
+        (lent c (change gu.old gu.new) (change ug.old ug.new) (constant sg.now) (constant gs.now)
+            (constant assignment.now) (change records.old records.new) (change notes.old notes.new)) }
 {
     let r = naming::new_user_var(c, gu, ug, sg, gs, assignment, records, notes);
     new_mapped_out(r, c)

@@ -1,6 +1,7 @@
 // Open, and Lookup.
 ghost use Rattle.std.specs.Prelude.{[], ◌∷◌};
-ghost use Rattle.scope.specs.Contract.{quiet};
+ghost use Rattle.base.specs.Lent.{change};
+ghost use Rattle.scope.specs.Contract.{quiet, reads};
 ghost use Rattle.scope.specs.Open.{open_counts, open_of};
 ghost use Rattle.scope.specs.Lookup.{global_from_user_of, user_from_global_of, solver_from_global_of, global_from_solver_of, record_word_of, assignment_word_of};
 ghost use Rattle.scope.specs.Steps.{flag};
@@ -23,7 +24,8 @@ pub extern "C" fn hz_open(
     records: &mut [u32],
 ) -> HzChanged
     ensures { Gives (λ t room. open_of t) (plain 0) (result.refusal ∷ []) result.counts
-        (quiet (open_counts capacity) gu ug sg gs assignment records) }
+        (quiet (open_counts capacity) (change gu.old gu.new) (change ug.old ug.new) (change sg.old sg.new) (change gs.old gs.new)
+            (change assignment.old assignment.new) (change records.old records.new)) }
 {
     let c = Counts {
         capacity: capacity,
@@ -50,7 +52,7 @@ pub extern "C" fn hz_global_from_user(
     user: u32,
 ) -> HzFound
     ensures { Gives (λ t room. global_from_user_of t user) (optional 0) (result.refusal ∷ flag result.found ∷ result.value ∷ []) c
-        (quiet c gu ug sg gs assignment records) }
+        (reads c gu.now ug.now sg.now gs.now assignment.now records.now) }
 {
     let r = var_map::get_global_from_user(c, gu, ug, sg, gs, assignment, records, User(user));
     global_out(r)
@@ -68,7 +70,7 @@ pub extern "C" fn hz_user_from_global(
     global: u32,
 ) -> HzFound
     ensures { Gives (λ t room. user_from_global_of t global) (optional 0) (result.refusal ∷ flag result.found ∷ result.value ∷ []) c
-        (quiet c gu ug sg gs assignment records) }
+        (reads c gu.now ug.now sg.now gs.now assignment.now records.now) }
 {
     let r = var_map::get_user_from_global(c, gu, ug, sg, gs, assignment, records, Global(global));
     user_out(r)
@@ -86,7 +88,7 @@ pub extern "C" fn hz_solver_from_global(
     global: u32,
 ) -> HzFound
     ensures { Gives (λ t room. solver_from_global_of t global) (optional 0) (result.refusal ∷ flag result.found ∷ result.value ∷ []) c
-        (quiet c gu ug sg gs assignment records) }
+        (reads c gu.now ug.now sg.now gs.now assignment.now records.now) }
 {
     let r = var_map::get_solver_from_global(c, gu, ug, sg, gs, assignment, records, Global(global));
     solver_out(r)
@@ -104,7 +106,7 @@ pub extern "C" fn hz_global_from_solver(
     solver: u32,
 ) -> HzFound
     ensures { Gives (λ t room. global_from_solver_of t solver) (optional 0) (result.refusal ∷ flag result.found ∷ result.value ∷ []) c
-        (quiet c gu ug sg gs assignment records) }
+        (reads c gu.now ug.now sg.now gs.now assignment.now records.now) }
 {
     let r = var_map::get_global_from_solver(c, gu, ug, sg, gs, assignment, records, Solver(solver));
     global_out(r)
@@ -122,7 +124,7 @@ pub extern "C" fn hz_record(
     global: u32,
 ) -> HzFound
     ensures { Gives (λ t room. record_word_of t global) (optional 0) (result.refusal ∷ flag result.found ∷ result.value ∷ []) c
-        (quiet c gu ug sg gs assignment records) }
+        (reads c gu.now ug.now sg.now gs.now assignment.now records.now) }
 {
     let r = var_map::get_record(c, gu, ug, sg, gs, assignment, records, Global(global));
     word_out(r)
@@ -140,7 +142,7 @@ pub extern "C" fn hz_assignment(
     solver: u32,
 ) -> HzFound
     ensures { Gives (λ t room. assignment_word_of t solver) (optional 0) (result.refusal ∷ flag result.found ∷ result.value ∷ []) c
-        (quiet c gu ug sg gs assignment records) }
+        (reads c gu.now ug.now sg.now gs.now assignment.now records.now) }
 {
     let r = var_map::get_assignment(c, gu, ug, sg, gs, assignment, records, Solver(solver));
     word_out(r)

@@ -1,7 +1,7 @@
 // Pose.
 ghost use Rattle.std.specs.Prelude.{[], ◌∷◌, length};
-ghost use Rattle.base.specs.Lent.{old, new, Fills};
-ghost use Rattle.scope.specs.Contract.{before, lent};
+ghost use Rattle.base.specs.Lent.{Fills, change};
+ghost use Rattle.scope.specs.Contract.{lent, given};
 ghost use Rattle.scope.specs.Pose.{pose_of};
 ghost use Rattle.numbers.specs.Surface.{plain, Gives};
 
@@ -23,11 +23,12 @@ pub extern "C" fn hz_pose(
     out: &mut [u32],
     notes: &mut [u32],
 ) -> HzPosed
-    ensures gives { Gives (λ t room. pose_of t (old lits) sampling (length (old out)) room) (plain 2)
+    ensures gives { Gives (λ t room. pose_of t lits.now sampling (length out.old) room) (plain 2)
         (result.refusal ∷ result.filled ∷ result.notes ∷ []) result.counts
-        (lent c gu ug sg gs assignment records notes) }
-    ensures out { Fills out 0
-        (pose_of (before c gu ug sg gs assignment records) (old lits) sampling (length (old out)) (length (old notes))).words }
+        (lent c (change gu.old gu.new) (change ug.old ug.new) (change sg.old sg.new) (change gs.old gs.new)
+            (change assignment.old assignment.new) (change records.old records.new) (change notes.old notes.new)) }
+    ensures out { Fills (change out.old out.new) 0
+        (pose_of (given c gu.old ug.old sg.old gs.old assignment.old records.old) lits.now sampling (length out.old) (length notes.old)).words }
 {
     let r = posing::solver_from_user_lits(
         c, gu, ug, sg, gs, assignment, records, lits, sampling, out, notes,

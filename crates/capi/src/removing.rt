@@ -1,5 +1,6 @@
 // Remove and Sweep.
 ghost use Rattle.std.specs.Prelude.{[], ◌∷◌};
+ghost use Rattle.base.specs.Lent.{constant, change};
 ghost use Rattle.scope.specs.Contract.{lent};
 ghost use Rattle.scope.specs.Remove.{remove_of, sweep_of};
 ghost use Rattle.numbers.specs.Surface.{plain, Gives};
@@ -21,7 +22,8 @@ pub extern "C" fn hz_remove(
     notes: &mut [u32],
 ) -> HzNoted
     ensures { Gives (λ t room. remove_of t solver room) (plain 1) (result.refusal ∷ result.notes ∷ []) result.counts
-        (lent c gu ug sg gs assignment records notes) }
+        (lent c (constant gu.now) (constant ug.now) (change sg.old sg.new) (change gs.old gs.new)
+            (constant assignment.now) (change records.old records.new) (change notes.old notes.new)) }
 {
     let r = removal::remove_solver_var(
         c,
@@ -50,7 +52,8 @@ pub extern "C" fn hz_sweep(
     notes: &mut [u32],
 ) -> HzNoted
     ensures { Gives (λ t room. sweep_of t room) (plain 1) (result.refusal ∷ result.notes ∷ []) result.counts
-        (lent c gu ug sg gs assignment records notes) }
+        (lent c (constant gu.now) (constant ug.now) (change sg.old sg.new) (change gs.old gs.new)
+            (constant assignment.now) (change records.old records.new) (change notes.old notes.new)) }
 {
     let r = removal::sweep(c, gu, ug, sg, gs, assignment, records, notes);
     removed_out(r, c)

@@ -1,7 +1,7 @@
 // Set mode and Observe.
 ghost use Rattle.std.specs.Prelude.{[], ◌∷◌, length};
-ghost use Rattle.base.specs.Lent.{old, new, Fills};
-ghost use Rattle.scope.specs.Contract.{before, lent};
+ghost use Rattle.base.specs.Lent.{Fills, change, constant};
+ghost use Rattle.scope.specs.Contract.{lent, given};
 ghost use Rattle.scope.specs.Modes.{set_mode_of, observe_of};
 ghost use Rattle.numbers.specs.Numbers.{for_known, mode_for};
 ghost use Rattle.scope.specs.Steps.{flag};
@@ -29,7 +29,8 @@ pub extern "C" fn hz_set_mode(
 ) -> HzModeSet
     ensures { Gives (λ t room. for_known (mode_for mode) t (λ m. set_mode_of t global m room)) (optional 1)
         (result.refusal ∷ flag result.granted ∷ result.user ∷ result.notes ∷ []) result.counts
-        (lent c gu ug sg gs assignment records notes) }
+        (lent c (change gu.old gu.new) (change ug.old ug.new) (constant sg.now) (constant gs.now)
+            (constant assignment.now) (change records.old records.new) (change notes.old notes.new)) }
 {
     let ModeNumber::Known(m) = mode_in(mode) else {
         return HzModeSet {
@@ -68,10 +69,11 @@ pub extern "C" fn hz_observe(
     users: &mut [u32],
     notes: &mut [u32],
 ) -> HzPosed
-    ensures gives { Gives (λ t room. observe_of t (length (old users)) room) (plain 2) (result.refusal ∷ result.filled ∷ result.notes ∷ []) result.counts
-        (lent c gu ug sg gs assignment records notes) }
-    ensures users { Fills users 0
-        (observe_of (before c gu ug sg gs assignment records) (length (old users)) (length (old notes))).words }
+    ensures gives { Gives (λ t room. observe_of t (length users.old) room) (plain 2) (result.refusal ∷ result.filled ∷ result.notes ∷ []) result.counts
+        (lent c (change gu.old gu.new) (change ug.old ug.new) (constant sg.now) (constant gs.now)
+            (constant assignment.now) (change records.old records.new) (change notes.old notes.new)) }
+    ensures users { Fills (change users.old users.new) 0
+        (observe_of (given c gu.old ug.old sg.now gs.now assignment.now records.old) (length users.old) (length notes.old)).words }
 {
     let r = modes::observe_internal_vars(c, gu, ug, sg, gs, assignment, records, users, notes);
     observed_out(r, c)

@@ -1,6 +1,7 @@
 // What the calls that change a table share: what a change inside a call leaves, and the deletion of a global that is used no more.
+#![tactic(auto)]
+
 ghost use Rattle.std.specs.Prelude.{ℕ, List, length};
-ghost use Rattle.base.specs.Lent.{old, new};
 ghost use Rattle.scope.specs.Table.{table_of};
 ghost use Rattle.scope.specs.Modes.{delete_if_unused};
 ghost use Rattle.changes.specs.Leaves.{Leaves, Room};
@@ -10,7 +11,7 @@ use scope::{Counts, Global, Note};
 use table::put_note;
 
 // The counts after an operation inside a call, and the place after its notes.
-#[derive(Drop)]
+#[derive(Clone, Copy)]
 pub struct Passed {
     pub counts: Counts,
     pub at: usize,
@@ -30,8 +31,8 @@ pub fn delete_global_if_unused(
 ) -> Passed
     requires live { Live c ug.now sg.now records.old global.0 }
     requires by_index { (gu gs a : List ℕ) → Room (delete_if_unused global.0 (table_of c gu ug.now sg.now gs a records.old)) at (length notes.old) }
-    ensures { (gu gs a : List ℕ) → Leaves (delete_if_unused global.0 (table_of c gu (old ug) (old sg) gs a (old records))) at result.at
-        (table_of result.counts gu (old ug) (old sg) gs a (new records)) (old notes) (new notes) }
+    ensures { (gu gs a : List ℕ) → Leaves (delete_if_unused global.0 (table_of c gu ug.now sg.now gs a records.old)) at result.at
+        (table_of result.counts gu ug.now sg.now gs a records.new) notes.old notes.new }
 {
     let g = global.0 as usize;
     let r = records[g];

@@ -1,6 +1,8 @@
 // DIMACS CNF files: those that are published, what order 4 says is right, and what it says is wrong. Each file must give its clauses, or 17 at
 // the first wrong line and leave the lent words; each list of clauses must give its file. A vector that comes out otherwise is written
 // with its number; then there is a line for each group.
+#![tactic(auto)]
+
 ghost use Rattle.std.specs.Prelude.{◌≤◌};
 
 use dimacs::CnfRead;
@@ -10,7 +12,7 @@ use drat::Wrote;
 use std::num::wrapping_add_u64;
 
 // The vectors run, and those of them that came out otherwise.
-#[derive(Drop)]
+#[derive(Clone, Copy)]
 struct Score {
     run: u64,
     wrong: u64,

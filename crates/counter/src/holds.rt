@@ -7,7 +7,7 @@ use removal::{Removed, remove_solver_var, sweep};
 use scope::{Counts, Global, Mark, Solver};
 
 // Calls about solver indices.
-#[derive(Drop)]
+#[derive(Clone, Copy)]
 pub enum Holding {
     Grant(Global),
     Mark(Mark, Solver),

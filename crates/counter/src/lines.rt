@@ -8,7 +8,7 @@ use steps::rename::{Renamed, rename_step};
 use steps::write::{Recorded, write_step};
 
 // Calls about steps, of solver literals.
-#[derive(Drop)]
+#[derive(Clone, Copy)]
 pub enum Writing {
     Add,
     Delete,

@@ -1,5 +1,7 @@
 // A day at the counter of a maker of smart cash boxes: one session from Open to Model at capacity 8, then a short one at capacity 2.
 // Each call is made, and its answer, its notes and its bytes are printed, and how full the table then is. Nothing is decided here.
+#![tactic(auto)]
+
 mod holds;
 mod lines;
 mod names;
@@ -20,7 +22,7 @@ use telling::Sort;
 use var_map::{GotGlobal, Opened, get_global_from_user, open_table};
 
 // The counts, and where the next bytes of the proof go.
-#[derive(Drop)]
+#[derive(Clone, Copy)]
 struct Day {
     counts: Counts,
     end: usize,

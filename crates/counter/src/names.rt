@@ -6,7 +6,7 @@ use naming::{NewUser, UserMapped, global_from_user, new_user_var};
 use scope::{Counts, Global, SamplingMode, User};
 
 // Calls about users.
-#[derive(Drop)]
+#[derive(Clone, Copy)]
 pub enum Naming {
     Map(User),
     New,

@@ -5,7 +5,7 @@ use crate::names::Naming;
 use scope::{Global, Mark, SamplingMode, Solver, User};
 
 // A clause of at most three literals.
-#[derive(Drop)]
+#[derive(Clone, Copy)]
 pub struct Clause {
     pub len: usize,
     pub a: u32,
@@ -13,7 +13,7 @@ pub struct Clause {
     pub c: u32,
 }
 
-#[derive(Drop)]
+#[derive(Clone, Copy)]
 pub enum Call {
     Open(u32),
     Name(Naming),

@@ -59,7 +59,7 @@ fn value(i: u32, word: u32) {
 }
 
 // What a word is: the code of a literal of users, of globals or of solver indices; a user; the value of a global.
-#[derive(Drop)]
+#[derive(Clone, Copy)]
 pub enum Sort {
     UserLit,
     GlobalLit,

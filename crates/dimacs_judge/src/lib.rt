@@ -1,7 +1,8 @@
 // Judging by neighbours: whether the bytes from a place on are clause lines, and how many literals and clauses they then are.
 // No state goes from byte to byte, so that the loops take many bytes at once.
+#![tactic(auto)]
+
 ghost use Rattle.std.specs.Prelude.{◌≡◌, ◌&&◌, ℕ, ◌≤◌, length};
-ghost use Rattle.base.specs.Lent.{old};
 ghost use Rattle.drat.specs.declared.Scanned.TheVariants.{Whole};
 ghost use Rattle.dimacs.specs.Reading.{clauses_at};
 ghost use Rattle.dimacs.specs.Calls.{tallied};
@@ -14,7 +15,7 @@ use limit::{Limit, is_above, limit_of};
 mod limit;
 
 // Judged clause lines, with the numbers of literals and of clauses; or not.
-#[derive(Drop)]
+#[derive(Clone, Copy)]
 pub enum Judged {
     Counts(usize, usize),
     Unsure,
@@ -45,7 +46,7 @@ fn part_runs(t: Limit, s: &[u8], from: usize, to: usize) -> bool
     requires le_from { 4 ≤ from }
     requires from_le_to { from ≤ to }
     requires to_in_bounds { to ≤ length s.now }
-    ensures { result && runs_at t (old s) to ≡ runs_at t (old s) from }
+    ensures { result && runs_at t s.now to ≡ runs_at t s.now from }
 {
     let mut ok = true;
     let mut i = from;
@@ -61,7 +62,7 @@ fn lines_run(t: Limit, s: &[u8], from: usize) -> bool
     requires tens_bound { (t.tens ≤ 56) × (t.hundreds ≤ 56) × (t.thousands ≤ 56) }
     requires le_from { 4 ≤ from }
     requires from_in_bounds { from ≤ length s.now }
-    ensures { result ≡ runs_at t (old s) from }
+    ensures { result ≡ runs_at t s.now from }
 {
     let mut i = from;
     while 4096 < s.len() - i {
@@ -77,7 +78,7 @@ fn lines_run(t: Limit, s: &[u8], from: usize) -> bool
 // What is judged so is read so: each blank is a literal's, each line feed a clause's. Where it is unsure nothing is said of the lines.
 pub fn judge(s: &[u8], from: usize, v: u32) -> Judged
     requires { from ≤ length s.now }
-    ensures { (n m : ℕ) → result ≡ Counts n m → tallied (clauses_at (old s) v from) ≡ Whole n m }
+    ensures { (n m : ℕ) → result ≡ Counts n m → tallied (clauses_at s.now v from) ≡ Whole n m }
 {
     if from < 4 {
         return Judged::Unsure;

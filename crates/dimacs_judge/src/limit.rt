@@ -6,7 +6,7 @@ ghost use Rattle.dimacs_judge.specs.Limits.{LimitOf, raised, fits, above};
 use drat_judge::{in_range, is_near, one};
 
 // The largest number allowed: its last digit as a byte, and of the three digits before it the byte below.
-#[derive(Drop)]
+#[derive(Clone, Copy)]
 pub(crate) struct Limit {
     pub ones: u8,
     pub tens: u8,

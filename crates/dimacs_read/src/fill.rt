@@ -1,6 +1,5 @@
 // The fill: the codes and ends of lines that are right. It asks nothing of a byte that the judging has asked.
 ghost use Rattle.std.specs.Prelude.{length};
-ghost use Rattle.base.specs.Lent.{old, new};
 ghost use Rattle.dimacs.specs.Reading.{clauses_at};
 ghost use Rattle.dimacs.specs.Calls.{tallied, LineScan};
 ghost use Rattle.dimacs_read.specs.Known.{LinesFit};
@@ -10,7 +9,7 @@ use drat_read::literal::literal_at;
 // Fills all clauses; v is what the lines were judged by.
 pub(crate) fn fill(s: &[u8], from: usize, v: u32, codes: &mut [u32], ends: &mut [u64])
     requires { LinesFit s.now v from (length codes.old) (length ends.old) }
-    ensures { LineScan (old s) v from (old codes) (old ends) (new codes) (new ends) (tallied (clauses_at (old s) v from)) }
+    ensures { LineScan s.now v from codes.old ends.old codes.new ends.new (tallied (clauses_at s.now v from)) }
 {
     let mut at = from;
     let mut n: usize = 0;

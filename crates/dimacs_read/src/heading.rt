@@ -1,12 +1,11 @@
 // The header: where it stands, and its two numbers.
 ghost use Rattle.std.specs.Prelude.{◌≡◌, false, ◌||◌, ℕ, ◌+◌, ◌*◌, ◌≤◌, ◌<◌, eqb, length, get_or, drop};
-ghost use Rattle.base.specs.Lent.{old};
 ghost use Rattle.dimacs.specs.Cnf.{header_start};
 ghost use Rattle.dimacs.specs.Reading.{header_place, value_from, proper, starts_with, head_from};
 ghost use Rattle.dimacs_read.specs.Heading.{Capped, Headed, digits_at};
 
 // Whether there is a header, its V, its C capped, and the place after its line.
-#[derive(Drop)]
+#[derive(Clone, Copy)]
 pub(crate) struct Heading {
     pub found: bool,
     pub variables: u32,
@@ -15,7 +14,7 @@ pub(crate) struct Heading {
 }
 
 // The number of a run of digits, capped, and the place after them.
-#[derive(Drop)]
+#[derive(Clone, Copy)]
 struct Run {
     value: u64,
     next: usize,
@@ -36,9 +35,9 @@ fn passes(inside: bool, b: u8) -> bool
 
 // The place of the first line that does not start with `c`, or the file's end. No slice has 2^63 bytes or more.
 pub(crate) fn header_place(s: &[u8]) -> usize
-    ensures value { result ≡ header_place false 0 (old s) }
-    ensures upper_bound { result ≤ length (old s) }
-    ensures s_len_bound { length (old s) < 9223372036854775808 }
+    ensures value { result ≡ header_place false 0 s.now }
+    ensures upper_bound { result ≤ length s.now }
+    ensures s_len_bound { length s.now < 9223372036854775808 }
 {
     let mut inside = false;
     let mut i = 0;
@@ -67,9 +66,9 @@ fn capped_digit(v: u64, d: u64) -> u64
 // The digits from a place on.
 fn run_at(s: &[u8], from: usize) -> Run
     requires { from ≤ length s.now }
-    ensures next_value { result.next ≡ from + length (digits_at (old s) from) }
-    ensures next_in_bounds { result.next ≤ length (old s) }
-    ensures capped { Capped result.value (value_from 0 (digits_at (old s) from)) }
+    ensures next_value { result.next ≡ from + length (digits_at s.now from) }
+    ensures next_in_bounds { result.next ≤ length s.now }
+    ensures capped { Capped result.value (value_from 0 (digits_at s.now from)) }
 {
     let mut value: u64 = 0;
     let mut i = from;
@@ -91,7 +90,7 @@ fn run_at(s: &[u8], from: usize) -> Run
 fn is_proper(s: &[u8], from: usize, next: usize) -> bool
     requires next_value { next ≡ from + length (digits_at s.now from) }
     requires next_in_bounds { next ≤ length s.now }
-    ensures { result ≡ proper (digits_at (old s) from) }
+    ensures { result ≡ proper (digits_at s.now from) }
 {
     if next == from {
         return false;
@@ -108,7 +107,7 @@ fn is_proper(s: &[u8], from: usize, next: usize) -> bool
 // Whether a byte stands at a place.
 fn stands(s: &[u8], at: usize, b: u8) -> bool
     requires { 0 < b }
-    ensures { result ≡ eqb (get_or (old s) at 0) b }
+    ensures { result ≡ eqb (get_or s.now at 0) b }
 {
     if at < s.len() { s[at] == b } else { false }
 }
@@ -116,7 +115,7 @@ fn stands(s: &[u8], at: usize, b: u8) -> bool
 // Whether `p cnf ` stands at a place.
 fn header_starts(s: &[u8], at: usize) -> bool
     requires { at ≤ length s.now }
-    ensures { result ≡ starts_with header_start (drop at (old s)) }
+    ensures { result ≡ starts_with header_start (drop at s.now) }
 {
     stands(s, at, 112)
         & (stands(s, at + 1, 32)
@@ -139,7 +138,7 @@ fn headless() -> Heading
 // The header at a place.
 pub(crate) fn head_at(s: &[u8], at: usize) -> Heading
     requires { at ≤ length s.now }
-    ensures { Headed (head_from at (drop at (old s))) result.found result.variables result.clauses result.next }
+    ensures { Headed (head_from at (drop at s.now)) result.found result.variables result.clauses result.next }
 {
     if !header_starts(s, at) {
         return headless();

@@ -1,6 +1,8 @@
 // Read CNF: the clauses of a DIMACS CNF file.
+#![tactic(auto)]
+
 ghost use Rattle.std.specs.Prelude.{◌≡◌, length};
-ghost use Rattle.base.specs.Lent.{old, Fills};
+ghost use Rattle.base.specs.Lent.{Fills, change};
 ghost use Rattle.dimacs.specs.Calls.{read_cnf_of, cnf_read};
 
 use dimacs::CnfRead;
@@ -17,12 +19,12 @@ mod place;
 // 17, with the place of the first wrong line; then 2. All lines are judged before anything is filled.
 // dimacs/specs/Calls.antt: read_cnf_of, and cnf_read for the answer.
 pub fn read_cnf(bytes: &[u8], codes: &mut [u32], ends: &mut [u64]) -> CnfRead
-    ensures fact_1 { let w = read_cnf_of (old bytes) (length (old codes)) (length (old ends)) in
+    ensures value { let w = read_cnf_of bytes.now (length codes.old) (length ends.old) in
         cnf_read result ≡ w.answer }
-    ensures fact_2 { let w = read_cnf_of (old bytes) (length (old codes)) (length (old ends)) in
-        Fills codes 0 w.codes }
-    ensures fact_3 { let w = read_cnf_of (old bytes) (length (old codes)) (length (old ends)) in
-        Fills ends 0 w.ends }
+    ensures codes { let w = read_cnf_of bytes.now (length codes.old) (length ends.old) in
+        Fills (change codes.old codes.new) 0 w.codes }
+    ensures ends { let w = read_cnf_of bytes.now (length codes.old) (length ends.old) in
+        Fills (change ends.old ends.new) 0 w.ends }
 {
     let place = header_place(bytes);
     let head = head_at(bytes, place);

@@ -1,6 +1,5 @@
 // The lines of the clauses: how many literals and clauses they are, or where the first wrong one starts.
 ghost use Rattle.std.specs.Prelude.{◌≡◌, ◌≤◌, length, drop};
-ghost use Rattle.base.specs.Lent.{old};
 ghost use Rattle.dimacs.specs.Reading.{line_from, within, clauses_at};
 ghost use Rattle.dimacs.specs.Calls.{tallied};
 
@@ -10,7 +9,7 @@ use drat::{Scanned, Token};
 
 // What stands at a place of a line, where no magnitude is above v.
 fn token_at(s: &[u8], at: usize, v: u32) -> Token
-    ensures { result ≡ within v (line_from at (drop at (old s))) }
+    ensures { result ≡ within v (line_from at (drop at s.now)) }
 {
     match line_at(s, at) {
         Token::Lit(code, next) => {
@@ -27,7 +26,7 @@ fn token_at(s: &[u8], at: usize, v: u32) -> Token
 // The lines from a place on, token after token. Answers the number of literals and of clauses, or the start of the first wrong line.
 fn scan(s: &[u8], from: usize, v: u32) -> Scanned
     requires { from ≤ length s.now }
-    ensures { result ≡ tallied (clauses_at (old s) v from) }
+    ensures { result ≡ tallied (clauses_at s.now v from) }
 {
     let mut at = from;
     let mut start = from;
@@ -56,7 +55,7 @@ fn scan(s: &[u8], from: usize, v: u32) -> Scanned
 // The same: only a fault is looked for token by token.
 pub(crate) fn count(s: &[u8], from: usize, v: u32) -> Scanned
     requires { from ≤ length s.now }
-    ensures { result ≡ tallied (clauses_at (old s) v from) }
+    ensures { result ≡ tallied (clauses_at s.now v from) }
 {
     match judge(s, from, v) {
         Judged::Counts(n, m) => Scanned::Whole(n, m),

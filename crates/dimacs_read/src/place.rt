@@ -1,7 +1,6 @@
 // What stands at a place of a line.
 ghost use Rattle.std.specs.Prelude.{◌≡◌, ◌+◌, eqb, get_or, drop};
 ghost use Rattle.base.specs.Choice.{pick};
-ghost use Rattle.base.specs.Lent.{old};
 ghost use Rattle.drat.specs.declared.Token.TheVariants.{Lit, Bad};
 ghost use Rattle.dimacs.specs.Reading.{line_from};
 
@@ -10,7 +9,7 @@ use drat_scan::place::signed_at;
 
 // The blank after a number.
 fn spaced(s: &[u8], code: u32, end: usize) -> Token
-    ensures { result ≡ pick (eqb (get_or (old s) end 0) 32) (Lit code (end + 1)) Bad }
+    ensures { result ≡ pick (eqb (get_or s.now end 0) 32) (Lit code (end + 1)) Bad }
 {
     if s.len() <= end {
         return Token::Bad;
@@ -23,7 +22,7 @@ fn spaced(s: &[u8], code: u32, end: usize) -> Token
 
 // A number and the blank after it, or `0` and the line feed.
 pub(crate) fn line_at(s: &[u8], at: usize) -> Token
-    ensures { result ≡ line_from at (drop at (old s)) }
+    ensures { result ≡ line_from at (drop at s.now) }
 {
     if s.len() <= at {
         return Token::Bad;

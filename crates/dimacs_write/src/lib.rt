@@ -1,7 +1,9 @@
 // The DIMACS CNF writer: from two lists, all literal codes in a row and where each clause ends in that row.
 // Every byte is that of the plain definition, `written` of dimacs's specs/Cnf.antt.
+#![tactic(auto)]
+
 ghost use Rattle.std.specs.Prelude.{◌≡◌, ℕ, ◌+◌, ◌≤◌, leb, length};
-ghost use Rattle.base.specs.Lent.{old, Fills};
+ghost use Rattle.base.specs.Lent.{Fills, change};
 ghost use Rattle.drat.specs.Numeral.{decimal, bytes_of};
 ghost use Rattle.drat.specs.Grammar.{Codes};
 ghost use Rattle.drat.specs.Writing.{wrote};
@@ -15,7 +17,7 @@ use drat_write::{all_below, put_step};
 
 // Whether a code is too large or the ends do not lead through all codes.
 fn no_cnf(codes: &[u32], ends: &[u64]) -> bool
-    ensures { result ≡ unwritable (old codes) (old ends) }
+    ensures { result ≡ unwritable codes.now ends.now }
 {
     if !all_below(codes, 8192) {
         return true;
@@ -33,7 +35,7 @@ fn larger(a: u32, b: u32) -> u32
 // The largest magnitude: half of (the largest code + 2), 0 of no code.
 fn largest_of(codes: &[u32]) -> u32
     requires { Codes codes.now }
-    ensures { result ≡ largest (old codes) }
+    ensures { result ≡ largest codes.now }
 {
     let mut m: u32 = 0;
     let mut i = 0;
@@ -62,7 +64,7 @@ fn digits(n: u64) -> usize
 fn put_count(n: u64, out: &mut [u8], at: usize) -> usize
     requires { at + length (bytes_of decimal n) ≤ length out.old }
     ensures value { result ≡ at + length (bytes_of decimal n) }
-    ensures fills { Fills out at (bytes_of decimal n) }
+    ensures fills { Fills (change out.old out.new) at (bytes_of decimal n) }
 {
     let end = at + digits(n);
     let mut p = end;
@@ -79,7 +81,7 @@ fn put_count(n: u64, out: &mut [u8], at: usize) -> usize
 // Writes `p cnf `.
 fn put_opening(out: &mut [u8])
     requires { 6 ≤ length out.old }
-    ensures { Fills out 0 header_start }
+    ensures { Fills (change out.old out.new) 0 header_start }
 {
     out[0] = 112;
     out[1] = 32;
@@ -93,7 +95,7 @@ fn put_opening(out: &mut [u8])
 fn put_header(v: u32, k: usize, out: &mut [u8]) -> usize
     requires { length (header_line v k) ≤ length out.old }
     ensures value { result ≡ length (header_line v k) }
-    ensures fills { Fills out 0 (header_line v k) }
+    ensures fills { Fills (change out.old out.new) 0 (header_line v k) }
 {
     put_opening(out);
     let p = put_count(v as u64, out, 6);
@@ -107,8 +109,8 @@ fn put_header(v: u32, k: usize, out: &mut [u8]) -> usize
 fn put_lines(codes: &[u32], ends: &[u64], out: &mut [u8], start: usize) -> usize
     requires writable { Writable codes.now ends.now }
     requires ends_in_bounds { start + length (clause_lines (clauses_by codes.now 0 ends.now)) ≤ length out.old }
-    ensures value { result ≡ start + length (clause_lines (clauses_by (old codes) 0 (old ends))) }
-    ensures fills { Fills out start (clause_lines (clauses_by (old codes) 0 (old ends))) }
+    ensures value { result ≡ start + length (clause_lines (clauses_by codes.now 0 ends.now)) }
+    ensures fills { Fills (change out.old out.new) start (clause_lines (clauses_by codes.now 0 ends.now)) }
 {
     let mut a: usize = 0;
     let mut at = start;
@@ -127,7 +129,7 @@ fn put_lines(codes: &[u32], ends: &[u64], out: &mut [u8], start: usize) -> usize
 fn cnf_fits(v: u32, codes: &[u32], ends: &[u64], room: usize) -> bool
     requires writable { Writable codes.now ends.now }
     requires v_bound { v ≤ 4096 }
-    ensures { result ≡ leb (length (written v (clauses_by (old codes) 0 (old ends)))) room }
+    ensures { result ≡ leb (length (written v (clauses_by codes.now 0 ends.now))) room }
 {
     if 6 * codes.len() + 2 * ends.len() + 48 <= room {
         return true;
@@ -143,8 +145,8 @@ fn cnf_fits(v: u32, codes: &[u32], ends: &[u64], room: usize) -> bool
 // Writes the clauses from the start of the output on: 3, 2.
 // `write_cnf_of` of dimacs's specs/Calls.antt, and `wrote` for the answer.
 pub fn write_cnf(codes: &[u32], ends: &[u64], out: &mut [u8]) -> Wrote
-    ensures result_value { wrote result ≡ (write_cnf_of (old codes) (old ends) (length (old out))).answer }
-    ensures fills { Fills out 0 (write_cnf_of (old codes) (old ends) (length (old out))).bytes }
+    ensures result_value { wrote result ≡ (write_cnf_of codes.now ends.now (length out.old)).answer }
+    ensures fills { Fills (change out.old out.new) 0 (write_cnf_of codes.now ends.now (length out.old)).bytes }
 {
     if no_cnf(codes, ends) {
         return Wrote::Outside;

@@ -1,8 +1,9 @@
 // The distinct users of a clause that Pose will map, and grant a solver index: counted in one pass, and plainly.
+#![tactic(auto)]
+
 ghost use Rattle.std.specs.Prelude.{◌≡◌, ◌&&◌, ◌||◌, ◌+◌, ◌≤◌, ◌<◌, max, ltb, leb, length, get_or, take};
 ghost use Rattle.base.specs.Bounded.{any_of};
 ghost use Rattle.base.specs.Choice.{pick};
-ghost use Rattle.base.specs.Lent.{old};
 ghost use Rattle.scope.specs.Literals.{index_of};
 ghost use Rattle.scope.specs.Distinct.{named, count_named, plain_count, is_low, needs_grant, users_by, Within};
 ghost use Rattle.distinct.specs.Users.{needs_by, users_counted};
@@ -11,7 +12,7 @@ use scope::{User, larger};
 use table::{FoundGlobal, FoundSolver, any_outside, global_of, solver_of, word_at};
 
 // What the literals need: unmapped users below the watermark, the watermark after, and solver indices.
-#[derive(Drop)]
+#[derive(Clone, Copy)]
 pub struct Needs {
     pub low: u32,
     pub top: u32,
@@ -19,7 +20,7 @@ pub struct Needs {
 }
 
 // The answer: how many users are to be mapped, and how many to be granted a solver index.
-#[derive(Drop)]
+#[derive(Clone, Copy)]
 pub enum UsersCounted {
     Done(u32, u32),
     Refused(u32),
@@ -27,7 +28,7 @@ pub enum UsersCounted {
 
 // A user that is unmapped, or whose global has no solver index.
 fn needs_grant(gu: &[u32], sg: &[u32], user: User) -> bool
-    ensures { result ≡ needs_grant (old gu) (old sg) user.0 }
+    ensures { result ≡ needs_grant gu.now sg.now user.0 }
 {
     let FoundGlobal::At(g) = global_of(gu, user) else {
         return true;
@@ -40,7 +41,7 @@ fn needs_grant(gu: &[u32], sg: &[u32], user: User) -> bool
 
 // An unmapped user below the watermark.
 fn is_low(mark: u32, gu: &[u32], user: User) -> bool
-    ensures { result ≡ is_low (old gu) mark user.0 }
+    ensures { result ≡ is_low gu.now mark user.0 }
 {
     let word = word_at(gu, user.0);
     (user.0 < mark) & (word == 0)
@@ -50,7 +51,7 @@ fn is_low(mark: u32, gu: &[u32], user: User) -> bool
 fn count_one(mark: u32, gu: &[u32], user: User, fresh: bool, n: Needs) -> Needs
     requires low_bound { n.low ≤ 8192 }
     requires grants_bound { n.grants ≤ 8192 }
-    ensures low_value { result.low ≡ n.low + pick (fresh && is_low (old gu) mark user.0) 1 0 }
+    ensures low_value { result.low ≡ n.low + pick (fresh && is_low gu.now mark user.0) 1 0 }
     ensures top_value { result.top ≡ n.top }
     ensures grants_value { result.grants ≡ n.grants + pick fresh 1 0 }
 {
@@ -82,7 +83,7 @@ fn raised(user: User, n: Needs) -> Needs
 fn count_needs(mark: u32, gu: &[u32], sg: &[u32], lits: &[u32]) -> Needs
     requires lits_len_bound { length lits.now ≤ 8192 }
     requires within { Within lits.now 4096 }
-    ensures { result ≡ needs_by (count_named 4096) mark (old gu) (old sg) (old lits) }
+    ensures { result ≡ needs_by (count_named 4096) mark gu.now sg.now lits.now }
 {
     let mut seen = [0u8; 4096];
     let mut n = Needs {
@@ -109,7 +110,7 @@ fn count_needs(mark: u32, gu: &[u32], sg: &[u32], lits: &[u32]) -> Needs
 // An earlier literal has the user of literal i.
 fn named_before(lits: &[u32], i: usize) -> bool
     requires { i < length lits.now }
-    ensures { result ≡ named (take i (old lits)) (index_of (get_or (old lits) i 0)) }
+    ensures { result ≡ named (take i lits.now) (index_of (get_or lits.now i 0)) }
 {
     let u = lits[i] / 2;
     let mut j = 0;
@@ -126,7 +127,7 @@ fn named_before(lits: &[u32], i: usize) -> bool
 fn count_needs_plain(mark: u32, gu: &[u32], sg: &[u32], lits: &[u32]) -> Needs
     requires lits_len_bound { length lits.now ≤ 8192 }
     requires within { Within lits.now 4096 }
-    ensures { result ≡ needs_by plain_count mark (old gu) (old sg) (old lits) }
+    ensures { result ≡ needs_by plain_count mark gu.now sg.now lits.now }
 {
     let mut n = Needs {
         low: 0,
@@ -151,7 +152,7 @@ fn count_needs_plain(mark: u32, gu: &[u32], sg: &[u32], lits: &[u32]) -> Needs
 pub fn needs_of(mark: u32, gu: &[u32], sg: &[u32], lits: &[u32]) -> Needs
     requires lits_len_bound { length lits.now ≤ 8192 }
     requires within { Within lits.now 4096 }
-    ensures { result ≡ needs_by (count_named 4096) mark (old gu) (old sg) (old lits) }
+    ensures { result ≡ needs_by (count_named 4096) mark gu.now sg.now lits.now }
 {
     if lits.len() <= 12 {
         return count_needs_plain(mark, gu, sg, lits);
@@ -161,14 +162,14 @@ pub fn needs_of(mark: u32, gu: &[u32], sg: &[u32], lits: &[u32]) -> Needs
 
 // More than 8,192 literals, or an index of 4,096 or more.
 fn out_of_range(lits: &[u32]) -> bool
-    ensures { result ≡ ltb 8192 (length (old lits)) || any_of (λ c. leb 4096 (index_of c)) (old lits) }
+    ensures { result ≡ ltb 8192 (length lits.now) || any_of (λ c. leb 4096 (index_of c)) lits.now }
 {
     (8192 < lits.len()) | any_outside(4096, lits)
 }
 
 // How many users Pose would map, and grant a solver index, by the user watermark and the two maps: `users_by (count_named 4096)`; 3.
 pub fn users_to_map(mark: u32, gu: &[u32], sg: &[u32], lits: &[u32]) -> UsersCounted
-    ensures { users_counted result ≡ users_by (count_named 4096) mark (old gu) (old sg) (old lits) }
+    ensures { users_counted result ≡ users_by (count_named 4096) mark gu.now sg.now lits.now }
 {
     if out_of_range(lits) {
         return UsersCounted::Refused(3);
@@ -180,7 +181,7 @@ pub fn users_to_map(mark: u32, gu: &[u32], sg: &[u32], lits: &[u32]) -> UsersCou
 
 // The same, counted plainly: `users_by plain_count`; 3.
 pub fn users_to_map_plain(mark: u32, gu: &[u32], sg: &[u32], lits: &[u32]) -> UsersCounted
-    ensures { users_counted result ≡ users_by plain_count mark (old gu) (old sg) (old lits) }
+    ensures { users_counted result ≡ users_by plain_count mark gu.now sg.now lits.now }
 {
     if out_of_range(lits) {
         return UsersCounted::Refused(3);

@@ -1,18 +1,20 @@
 // The types of the DRAT codec. Its definitions are in specs/, their laws in proofs/.
-#[derive(Drop)]
+#![tactic(auto)]
+
+#[derive(Clone, Copy)]
 pub enum Format {
     Text,
     Binary,
 }
 
-#[derive(Drop)]
+#[derive(Clone, Copy)]
 pub enum Kind {
     Add,
     Delete,
 }
 
 // What stands at a place inside a step: a literal's code and the place after it, the step's end and the place after it, or a fault.
-#[derive(Drop)]
+#[derive(Clone, Copy)]
 pub enum Token {
     Lit(u32, usize),
     Stop(usize),
@@ -20,21 +22,21 @@ pub enum Token {
 }
 
 // How a step opens: its kind, and the place of its first literal.
-#[derive(Drop)]
+#[derive(Clone, Copy)]
 pub enum Opening {
     Opens(Kind, usize),
     Wrong,
 }
 
 // The number of literals and of steps, or the start of the first step that is not whole.
-#[derive(Drop)]
+#[derive(Clone, Copy)]
 pub enum Scanned {
     Whole(usize, usize),
     Fault(usize),
 }
 
 // Read: the number of literals and of steps filled; the start of the first step that is not whole; or an output slice is too short.
-#[derive(Drop)]
+#[derive(Clone, Copy)]
 pub enum Read {
     Filled(usize, usize),
     Broken(usize),
@@ -42,7 +44,7 @@ pub enum Read {
 }
 
 // What a writer answers: the place after what was filled; that these lists or literals cannot be written; or that the output is too short.
-#[derive(Drop)]
+#[derive(Clone, Copy)]
 pub enum Wrote {
     Done(usize),
     Outside,

@@ -1,8 +1,9 @@
 // Judging by neighbours: whether bytes are whole steps, and how many literals and steps they then are.
 // No state goes from byte to byte, so that the loops take many bytes at once.
+#![tactic(auto)]
+
 ghost use Rattle.std.specs.Prelude.{◌≡◌, true, ◌&&◌, ◌+◌, ◌-◌, ◌≤◌, ◌<◌, length, drop};
 ghost use Rattle.base.specs.Choice.{pick};
-ghost use Rattle.base.specs.Lent.{old};
 ghost use Rattle.drat.specs.Numeral.{in_range};
 ghost use Rattle.drat_judge.specs.Local.{near, low, closing, closed, small, text_next, binary_next, may_follow, ended, before, judged};
 ghost use Rattle.drat_judge.specs.Local.{byte_back, runs_at, tally, starts, starts_at, steps_by, lits_by};
@@ -11,7 +12,7 @@ ghost use Rattle.drat.specs.declared.Format.TheVariants.{Text, Binary};
 use drat::Format;
 
 // The numbers of literals and of steps.
-#[derive(Drop)]
+#[derive(Clone, Copy)]
 pub struct Counts {
     pub lits: usize,
     pub steps: usize,
@@ -122,7 +123,7 @@ fn is_end(f: Format, a: u8, b: u8, c: u8, p: u8) -> bool
 fn byte_back(f: Format, s: &[u8], i: usize, k: usize) -> u8
     requires i_in_bounds { i ≤ length s.now }
     requires k_nonzero { 0 < k }
-    ensures { result ≡ byte_back f (old s) i k }
+    ensures { result ≡ byte_back f s.now i k }
 {
     if i < k {
         before_first(f, k - i)
@@ -134,7 +135,7 @@ fn byte_back(f: Format, s: &[u8], i: usize, k: usize) -> u8
 // The first n bytes.
 fn head_runs(f: Format, s: &[u8], n: usize) -> bool
     requires { n ≤ length s.now }
-    ensures { result && runs_at f (old s) n ≡ judged f (old s) }
+    ensures { result && runs_at f s.now n ≡ judged f s.now }
 {
     let mut ok = true;
     let mut i = 0;
@@ -154,7 +155,7 @@ fn text_part(s: &[u8], from: usize, to: usize) -> bool
     requires le_from { 4 ≤ from }
     requires from_le_to { from ≤ to }
     requires to_in_bounds { to ≤ length s.now }
-    ensures { result && runs_at Text (old s) to ≡ runs_at Text (old s) from }
+    ensures { result && runs_at Text s.now to ≡ runs_at Text s.now from }
 {
     let mut ok = true;
     let mut i = from;
@@ -170,7 +171,7 @@ fn binary_part(s: &[u8], from: usize, to: usize) -> bool
     requires le_from { 4 ≤ from }
     requires from_le_to { from ≤ to }
     requires to_in_bounds { to ≤ length s.now }
-    ensures { result && runs_at Binary (old s) to ≡ runs_at Binary (old s) from }
+    ensures { result && runs_at Binary s.now to ≡ runs_at Binary s.now from }
 {
     let mut ok = true;
     let mut i = from;
@@ -185,7 +186,7 @@ fn part_runs(f: Format, s: &[u8], from: usize, to: usize) -> bool
     requires le_from { 4 ≤ from }
     requires from_le_to { from ≤ to }
     requires to_in_bounds { to ≤ length s.now }
-    ensures { result && runs_at f (old s) to ≡ runs_at f (old s) from }
+    ensures { result && runs_at f s.now to ≡ runs_at f s.now from }
 {
     match f {
         Format::Text => text_part(s, from, to),
@@ -196,7 +197,7 @@ fn part_runs(f: Format, s: &[u8], from: usize, to: usize) -> bool
 // The bytes from the fifth on, and the end. In parts: a fault ends the judging with its part.
 fn tail_runs(f: Format, s: &[u8]) -> bool
     requires { 4 ≤ length s.now }
-    ensures { result ≡ runs_at f (old s) 4 }
+    ensures { result ≡ runs_at f s.now 4 }
 {
     let mut i: usize = 4;
     while 4096 < s.len() - i {
@@ -211,7 +212,7 @@ fn tail_runs(f: Format, s: &[u8]) -> bool
 
 // specs/Local.antt: judged. What is judged is a proof's bytes, by proofs/JudgedLaws.antt.
 pub fn is_judged(f: Format, s: &[u8]) -> bool
-    ensures { result ≡ judged f (old s) }
+    ensures { result ≡ judged f s.now }
 {
     let n = s.len();
     if n < 4 {
@@ -231,7 +232,7 @@ fn block(s: &[u8], from: usize, to: usize, lo: u8, hi: u8) -> u8
     requires from_le_to { from ≤ to }
     requires to_bound { to ≤ from + 192 }
     requires to_in_bounds { to ≤ length s.now }
-    ensures { (result + tally lo hi (drop to (old s)) ≡ tally lo hi (drop from (old s))) × (result ≤ to - from) }
+    ensures { (result + tally lo hi (drop to s.now) ≡ tally lo hi (drop from s.now)) × (result ≤ to - from) }
 {
     let mut k: u8 = 0;
     let mut i = from;
@@ -244,7 +245,7 @@ fn block(s: &[u8], from: usize, to: usize, lo: u8, hi: u8) -> u8
 
 // How many bytes are from lo to hi.
 pub fn tally_of(s: &[u8], lo: u8, hi: u8) -> usize
-    ensures { result ≡ tally lo hi (old s) }
+    ensures { result ≡ tally lo hi s.now }
 {
     let mut k: usize = 0;
     let mut i: usize = 0;
@@ -261,7 +262,7 @@ fn starts_block(s: &[u8], from: usize, to: usize, lo: u8, hi: u8) -> u8
     requires from_le_to { from ≤ to }
     requires to_bound { to ≤ from + 192 }
     requires to_in_bounds { to ≤ length s.now }
-    ensures { (result + starts_at lo hi (old s) to ≡ starts_at lo hi (old s) from) × (result ≤ to - from) }
+    ensures { (result + starts_at lo hi s.now to ≡ starts_at lo hi s.now from) × (result ≤ to - from) }
 {
     let mut k: u8 = 0;
     let mut i = from;
@@ -274,7 +275,7 @@ fn starts_block(s: &[u8], from: usize, to: usize, lo: u8, hi: u8) -> u8
 
 // How many bytes of text are from lo to hi and stand after a separator or first.
 fn starts_of(s: &[u8], lo: u8, hi: u8) -> usize
-    ensures { result ≡ starts lo hi 10 (old s) }
+    ensures { result ≡ starts lo hi 10 s.now }
 {
     if s.len() == 0 {
         return 0;
@@ -289,7 +290,7 @@ fn starts_of(s: &[u8], lo: u8, hi: u8) -> usize
 }
 
 fn steps_of(f: Format, s: &[u8]) -> usize
-    ensures { result ≡ steps_by f (old s) }
+    ensures { result ≡ steps_by f s.now }
 {
     match f {
         Format::Text => starts_of(s, 48, 48),
@@ -300,7 +301,7 @@ fn steps_of(f: Format, s: &[u8]) -> usize
 fn lits_of(f: Format, s: &[u8], steps: usize) -> usize
     requires s_value { judged f s.now ≡ true }
     requires steps_value { steps ≡ steps_by f s.now }
-    ensures { result ≡ lits_by f (old s) }
+    ensures { result ≡ lits_by f s.now }
 {
     match f {
         Format::Text => starts_of(s, 45, 99) - steps,
@@ -311,7 +312,7 @@ fn lits_of(f: Format, s: &[u8], steps: usize) -> usize
 // How many literals and steps bytes have that are judged whole.
 pub fn counts_of(f: Format, s: &[u8]) -> Counts
     requires { judged f s.now ≡ true }
-    ensures { (result.lits ≡ lits_by f (old s)) × (result.steps ≡ steps_by f (old s)) }
+    ensures { (result.lits ≡ lits_by f s.now) × (result.steps ≡ steps_by f s.now) }
 {
     let steps = steps_of(f, s);
     Counts {

@@ -1,7 +1,6 @@
 // The fill: the words of steps that were judged whole. It asks nothing of a byte that the judging has asked.
 ghost use Rattle.std.specs.Prelude.{◌≡◌, ◌+◌, ◌≤◌, eqb, length, get_or, drop};
 ghost use Rattle.base.specs.Choice.{pick};
-ghost use Rattle.base.specs.Lent.{old, new};
 ghost use Rattle.drat.specs.Reading.{seps, token, opening, one_step};
 ghost use Rattle.drat.specs.Filled.{Scan};
 ghost use Rattle.drat.specs.declared.Format.TheVariants.{Text, Binary};
@@ -15,14 +14,14 @@ use drat_judge::Counts;
 use drat_scan::place::past;
 
 // The place after a step and the number of literals filled.
-#[derive(Drop)]
+#[derive(Clone, Copy)]
 struct Place {
     at: usize,
     n: usize,
 }
 
 // A step's kind, 1 for a deletion, and the place of its first literal.
-#[derive(Drop)]
+#[derive(Clone, Copy)]
 struct Start {
     kind: u8,
     first: usize,
@@ -31,7 +30,7 @@ struct Start {
 // The place after separators that a token follows.
 fn past_gap(s: &[u8], at: usize) -> usize
     requires { IsGap s.now at }
-    ensures { result ≡ at + seps (drop at (old s)) }
+    ensures { result ≡ at + seps (drop at s.now) }
 {
     let mut i = at;
     while s[i] < 45 {
@@ -43,7 +42,7 @@ fn past_gap(s: &[u8], at: usize) -> usize
 fn code_at(s: &[u8], at: usize) -> Literal
     requires fact { get_or s.now at 0 ≡ 0 → ⊥ }
     requires lit { IsLit (token Binary at (drop at s.now)) }
-    ensures { token Binary at (drop at (old s)) ≡ Lit result.code result.next }
+    ensures { token Binary at (drop at s.now) ≡ Lit result.code result.next }
 {
     let b = s[at] as u32;
     if b < 128 {
@@ -60,7 +59,7 @@ fn code_at(s: &[u8], at: usize) -> Literal
 
 fn numbers_from(s: &[u8], codes: &mut [u32], from: usize, first: usize) -> Place
     requires { BodyFits Text s.now from first (length codes.old) }
-    ensures { BodyFilled Text (old s) from first (old codes) (new codes) result.at result.n }
+    ensures { BodyFilled Text s.now from first codes.old codes.new result.at result.n }
 {
     let mut at = from;
     let mut n = first;
@@ -75,7 +74,7 @@ fn numbers_from(s: &[u8], codes: &mut [u32], from: usize, first: usize) -> Place
 
 fn codes_from(s: &[u8], codes: &mut [u32], from: usize, first: usize) -> Place
     requires { BodyFits Binary s.now from first (length codes.old) }
-    ensures { BodyFilled Binary (old s) from first (old codes) (new codes) result.at result.n }
+    ensures { BodyFilled Binary s.now from first codes.old codes.new result.at result.n }
 {
     let mut at = from;
     let mut n = first;
@@ -90,7 +89,7 @@ fn codes_from(s: &[u8], codes: &mut [u32], from: usize, first: usize) -> Place
 
 fn body_from(f: Format, s: &[u8], codes: &mut [u32], from: usize, first: usize) -> Place
     requires { BodyFits f s.now from first (length codes.old) }
-    ensures { BodyFilled f (old s) from first (old codes) (new codes) result.at result.n }
+    ensures { BodyFilled f s.now from first codes.old codes.new result.at result.n }
 {
     match f {
         Format::Text => numbers_from(s, codes, from, first),
@@ -107,7 +106,7 @@ fn kind_by(b: u8) -> u8
 // How a step opens that is known to be whole. Without a branch on the kind: where additions and deletions mix it would be mispredicted.
 fn start_at(f: Format, s: &[u8], at: usize) -> Start
     requires { IsStep (one_step f at (drop at s.now)) }
-    ensures { OpenedAs (opening f at (drop at (old s))) result.kind result.first }
+    ensures { OpenedAs (opening f at (drop at s.now)) result.kind result.first }
 {
     let kind = kind_by(s[at]);
     match f {
@@ -131,7 +130,7 @@ pub(crate) fn fill(
     kinds: &mut [u8],
 ) -> Counts
     requires { StepsFit f s.now (length codes.old) (length ends.old) (length kinds.old) }
-    ensures { Scan f (old s) (old codes) (old ends) (old kinds) (new codes) (new ends) (new kinds) (Whole result.lits result.steps) }
+    ensures { Scan f s.now codes.old ends.old kinds.old codes.new ends.new kinds.new (Whole result.lits result.steps) }
 {
     let mut at = past(f, s, 0);
     let mut n: usize = 0;

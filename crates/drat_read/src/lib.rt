@@ -1,6 +1,8 @@
 // Read (added): a proof's steps from its bytes, all or the first alone.
+#![tactic(auto)]
+
 ghost use Rattle.std.specs.Prelude.{◌≡◌, true, ◌≤◌, length};
-ghost use Rattle.base.specs.Lent.{old, Fills};
+ghost use Rattle.base.specs.Lent.{Fills, change};
 ghost use Rattle.drat.specs.Filled.{read_of, read, first_token, first_of, first};
 ghost use Rattle.drat_judge.specs.Local.{judged};
 ghost use Rattle.drat_read.specs.Known.{Found, room_for};
@@ -15,7 +17,7 @@ mod fill;
 pub mod literal;
 
 // What is found before anything is filled: that all is whole and the slices hold it; 2; 13 with the place.
-#[derive(Drop)]
+#[derive(Clone, Copy)]
 enum Room {
     Fits,
     Short,
@@ -24,7 +26,7 @@ enum Room {
 
 // Whether the bytes are judged whole. For fewer than 64 bytes judging costs more than it saves.
 fn is_known(f: Format, bytes: &[u8]) -> bool
-    ensures { result ≡ true → judged f (old bytes) ≡ true }
+    ensures { result ≡ true → judged f bytes.now ≡ true }
 {
     if bytes.len() < 64 {
         return false;
@@ -63,7 +65,7 @@ fn room_for(n: usize, m: usize, a: usize, b: usize, c: usize) -> Room
 
 // What is judged whole is counted only where it might not fit. All else is scanned step by step.
 fn find(f: Format, bytes: &[u8], a: usize, b: usize, c: usize) -> Room
-    ensures { Found f (old bytes) a b c result }
+    ensures { Found f bytes.now a b c result }
 {
     if is_known(f, bytes) {
         if is_ample(bytes.len(), a, b, c) {
@@ -87,14 +89,14 @@ pub fn read_proof(
     ends: &mut [u64],
     kinds: &mut [u8],
 ) -> Read
-    ensures fact_1 { let w = read_of f (old bytes) (length (old codes)) (length (old ends)) (length (old kinds)) in
+    ensures value { let w = read_of f bytes.now (length codes.old) (length ends.old) (length kinds.old) in
         read result ≡ w.answer }
-    ensures fact_2 { let w = read_of f (old bytes) (length (old codes)) (length (old ends)) (length (old kinds)) in
-        Fills codes 0 w.codes }
-    ensures fact_3 { let w = read_of f (old bytes) (length (old codes)) (length (old ends)) (length (old kinds)) in
-        Fills ends 0 w.ends }
-    ensures fact_4 { let w = read_of f (old bytes) (length (old codes)) (length (old ends)) (length (old kinds)) in
-        Fills kinds 0 w.kinds }
+    ensures codes { let w = read_of f bytes.now (length codes.old) (length ends.old) (length kinds.old) in
+        Fills (change codes.old codes.new) 0 w.codes }
+    ensures ends { let w = read_of f bytes.now (length codes.old) (length ends.old) (length kinds.old) in
+        Fills (change ends.old ends.new) 0 w.ends }
+    ensures kinds { let w = read_of f bytes.now (length codes.old) (length ends.old) (length kinds.old) in
+        Fills (change kinds.old kinds.new) 0 w.kinds }
 {
     match find(f, bytes, codes.len(), ends.len(), kinds.len()) {
         Room::Fits => {
@@ -109,7 +111,7 @@ pub fn read_proof(
 // The place of the first token; 0 without any.
 // drat/specs/Filled.antt: first_token.
 pub fn first_token(f: Format, bytes: &[u8]) -> usize
-    ensures { result ≡ first_token f (old bytes) }
+    ensures { result ≡ first_token f bytes.now }
 {
     let i = past(f, bytes, 0);
     if i < bytes.len() { i } else { 0 }
@@ -118,7 +120,7 @@ pub fn first_token(f: Format, bytes: &[u8]) -> usize
 // The first step alone: its part of the bytes, from its first token to its 0; an empty part says 13 at the first token's place.
 // drat/specs/Filled.antt: first_of, and first for the part.
 pub fn first_step(f: Format, bytes: &[u8]) -> &[u8]
-    ensures { first (first_token f (old bytes)) result.now ≡ first_of f (old bytes) }
+    ensures { first (first_token f bytes.now) result.now ≡ first_of f bytes.now }
 {
     let i = first_token(f, bytes);
     let e = step_end(f, bytes, i);

@@ -1,12 +1,11 @@
 // A literal's number that is known to stand at a place, read by its length.
 ghost use Rattle.std.specs.Prelude.{◌≡◌, ◌+◌, ◌-◌, ◌*◌, ◌≤◌, drop};
-ghost use Rattle.base.specs.Lent.{old};
 ghost use Rattle.drat.specs.Reading.{signed_from};
 ghost use Rattle.drat.specs.declared.Token.TheVariants.{Lit};
 ghost use Rattle.drat_read.specs.Known.{IsNumber, lead_of, MinusOrDigit};
 
 // A literal's code and the place of the byte after its number.
-#[derive(Drop)]
+#[derive(Clone, Copy)]
 pub struct Literal {
     pub code: u32,
     pub next: usize,
@@ -74,7 +73,7 @@ fn found(code: u32, next: usize) -> Literal
 // The number at a place, by how many bytes it has. The byte after it is below 45: no digit and no minus.
 pub fn literal_at(s: &[u8], at: usize) -> Literal
     requires { IsNumber s.now (signed_from at (drop at s.now)) }
-    ensures { signed_from at (drop at (old s)) ≡ Lit result.code result.next }
+    ensures { signed_from at (drop at s.now) ≡ Lit result.code result.next }
 {
     let a = s[at];
     let b = s[at + 1];

@@ -1,7 +1,6 @@
 // What stands at a place of the input: separators, a literal, a step's end, how a step opens.
 ghost use Rattle.std.specs.Prelude.{◌≡◌, ◌+◌, ◌≤◌, eqb, length, get_or, drop};
 ghost use Rattle.base.specs.Choice.{pick};
-ghost use Rattle.base.specs.Lent.{old};
 ghost use Rattle.drat.specs.Reading.{numbered, digits_from, signed_from, sep, seps, lead, leb_from, close_from, token, gap_from, opening};
 ghost use Rattle.drat.specs.declared.Format.TheVariants.{Text, Binary};
 ghost use Rattle.drat.specs.declared.Token.TheVariants.{Lit, Bad};
@@ -17,7 +16,7 @@ fn is_sep(b: u8) -> bool
 
 // The place after the separators from a place on.
 pub fn past_seps(s: &[u8], at: usize) -> usize
-    ensures { (result ≡ at + seps (drop at (old s))) × (at ≤ length (old s) → result ≤ length (old s)) }
+    ensures { (result ≡ at + seps (drop at s.now)) × (at ≤ length s.now → result ≤ length s.now) }
 {
     let mut i = at;
     while i < s.len() {
@@ -31,7 +30,7 @@ pub fn past_seps(s: &[u8], at: usize) -> usize
 
 // The place after the bytes that may be passed before a step.
 pub fn past(f: Format, s: &[u8], at: usize) -> usize
-    ensures { result ≡ at + lead f (drop at (old s)) }
+    ensures { result ≡ at + lead f (drop at s.now) }
 {
     match f {
         Format::Text => past_seps(s, at),
@@ -61,7 +60,7 @@ fn literal(sign: u32, v: u32, at: usize) -> Token
 // The longest run of decimal digits from a place on, and the place of the byte after it.
 fn decimal_at(s: &[u8], at: usize, sign: u32) -> Token
     requires { sign ≤ 1 }
-    ensures { result ≡ digits_from sign 0 at (drop at (old s)) }
+    ensures { result ≡ digits_from sign 0 at (drop at s.now) }
 {
     let mut v: u32 = 0;
     let mut i = at;
@@ -88,7 +87,7 @@ fn decimal_at(s: &[u8], at: usize, sign: u32) -> Token
 
 // A literal's number from a place on, and the place of the byte after it.
 pub fn signed_at(s: &[u8], at: usize) -> Token
-    ensures { result ≡ signed_from at (drop at (old s)) }
+    ensures { result ≡ signed_from at (drop at s.now) }
 {
     if s.len() <= at {
         return Token::Bad;
@@ -99,7 +98,7 @@ pub fn signed_at(s: &[u8], at: usize) -> Token
 
 // The separators after a number, at least one.
 fn gap_after(s: &[u8], code: u32, end: usize) -> Token
-    ensures { result ≡ pick (sep (get_or (old s) end 0)) (Lit code (end + seps (drop end (old s)))) Bad }
+    ensures { result ≡ pick (sep (get_or s.now end 0)) (Lit code (end + seps (drop end s.now))) Bad }
 {
     if s.len() <= end {
         return Token::Bad;
@@ -112,7 +111,7 @@ fn gap_after(s: &[u8], code: u32, end: usize) -> Token
 
 // The end of a text step, from the place after its 0: a separator or the end of the input.
 fn close_at(s: &[u8], at: usize) -> Token
-    ensures { result ≡ close_from at (drop at (old s)) }
+    ensures { result ≡ close_from at (drop at s.now) }
 {
     if s.len() <= at {
         return Token::Stop(at);
@@ -125,7 +124,7 @@ fn close_at(s: &[u8], at: usize) -> Token
 
 // What stands at a place inside a text step.
 pub(crate) fn text_token(s: &[u8], at: usize) -> Token
-    ensures { result ≡ token Text at (drop at (old s)) }
+    ensures { result ≡ token Text at (drop at s.now) }
 {
     if s.len() <= at {
         return Token::Bad;
@@ -142,7 +141,7 @@ pub(crate) fn text_token(s: &[u8], at: usize) -> Token
 
 // LEB128 bytes from a place on.
 fn leb_at(s: &[u8], at: usize) -> Token
-    ensures { result ≡ leb_from 0 1 at (drop at (old s)) }
+    ensures { result ≡ leb_from 0 1 at (drop at s.now) }
 {
     let mut v: u32 = 0;
     let mut w: u32 = 1;
@@ -174,7 +173,7 @@ fn leb_at(s: &[u8], at: usize) -> Token
 
 // What stands at a place inside a binary step.
 pub(crate) fn binary_token(s: &[u8], at: usize) -> Token
-    ensures { result ≡ token Binary at (drop at (old s)) }
+    ensures { result ≡ token Binary at (drop at s.now) }
 {
     if s.len() <= at {
         return Token::Bad;
@@ -187,7 +186,7 @@ pub(crate) fn binary_token(s: &[u8], at: usize) -> Token
 
 // The separators after a text step's `d`, at least one.
 fn gap_at(s: &[u8], at: usize) -> Opening
-    ensures { result ≡ gap_from at (drop at (old s)) }
+    ensures { result ≡ gap_from at (drop at s.now) }
 {
     if s.len() <= at {
         return Opening::Wrong;
@@ -200,7 +199,7 @@ fn gap_at(s: &[u8], at: usize) -> Opening
 
 // How the step at a place opens.
 pub(crate) fn opening_at(f: Format, s: &[u8], at: usize) -> Opening
-    ensures { result ≡ opening f at (drop at (old s)) }
+    ensures { result ≡ opening f at (drop at s.now) }
 {
     if s.len() <= at {
         return Opening::Wrong;

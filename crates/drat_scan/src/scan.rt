@@ -1,6 +1,5 @@
 // The scan: all steps in turn, up to the first fault.
 ghost use Rattle.std.specs.Prelude.{◌≡◌, ◌≤◌, length, drop};
-ghost use Rattle.base.specs.Lent.{old};
 ghost use Rattle.drat.specs.Filled.{counted, end_of};
 ghost use Rattle.drat.specs.Reading.{token, one_step, read_proof};
 
@@ -9,7 +8,7 @@ use drat::{Format, Opening, Scanned, Token};
 
 // What stands at a place inside a step. It is called from one place alone, so that it is compiled into the scan's loop.
 fn token_at(f: Format, s: &[u8], at: usize) -> Token
-    ensures { result ≡ token f at (drop at (old s)) }
+    ensures { result ≡ token f at (drop at s.now) }
 {
     match f {
         Format::Text => text_token(s, at),
@@ -19,7 +18,7 @@ fn token_at(f: Format, s: &[u8], at: usize) -> Token
 
 // The number of literals and of steps, or the start of the first step that is not whole. Between steps `at` is the place of a first token.
 pub fn scan(f: Format, s: &[u8]) -> Scanned
-    ensures { result ≡ counted (read_proof f (old s)) }
+    ensures { result ≡ counted (read_proof f s.now) }
 {
     let mut at = past(f, s, 0);
     let mut n: usize = 0;
@@ -57,7 +56,7 @@ pub fn scan(f: Format, s: &[u8]) -> Scanned
 
 // The same, for one step alone: a second call of `token_at` would keep it out of the scan's loop.
 fn token_alone(f: Format, s: &[u8], at: usize) -> Token
-    ensures { result ≡ token f at (drop at (old s)) }
+    ensures { result ≡ token f at (drop at s.now) }
 {
     match f {
         Format::Text => text_token(s, at),
@@ -68,7 +67,7 @@ fn token_alone(f: Format, s: &[u8], at: usize) -> Token
 // The place after the step that starts at a place, or that place itself where no whole step stands there.
 pub fn step_end(f: Format, s: &[u8], start: usize) -> usize
     requires { start ≤ length s.now }
-    ensures { (result ≡ end_of start (one_step f start (drop start (old s)))) × (result ≤ length (old s)) }
+    ensures { (result ≡ end_of start (one_step f start (drop start s.now))) × (result ≤ length s.now) }
 {
     let Opening::Opens(_, first) = opening_at(f, s, start) else {
         return start;

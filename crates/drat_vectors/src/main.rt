@@ -1,5 +1,7 @@
 // The published vectors of LEB128 and of DRAT-trim's binary format, document 01's worked cases 6, 7 and 8, the refusals of a
 // written clause, and every literal code in both formats. Each line says how many of its vectors agree, and of how many.
+#![tactic(auto)]
+
 ghost use Rattle.std.specs.Prelude.{◌≤◌, ◌<◌};
 
 use drat::{Format, Kind, Wrote};

@@ -1,7 +1,9 @@
 // The DRAT writer: the length of a step before it is written, and the step written at a place.
 // Every byte is that of the plain definition, `encode_step` of drat's specs/Grammar.antt.
+#![tactic(auto)]
+
 ghost use Rattle.std.specs.Prelude.{◌≡◌, [], ◌∷◌, ◌+◌, ◌/◌, ◌%◌, ◌≤◌, ◌<◌, leb, ltb, length, get_or};
-ghost use Rattle.base.specs.Lent.{old, Fills};
+ghost use Rattle.base.specs.Lent.{Fills, change};
 ghost use Rattle.base.specs.Choice.{pick};
 ghost use Rattle.base.specs.Bounded.{all_below};
 ghost use Rattle.drat.specs.declared.Format.TheVariants.{Text, Binary};
@@ -62,7 +64,7 @@ fn end_len(f: Format) -> usize
 fn lits_len(f: Format, lits: &[u32]) -> u32
     requires codes { Codes lits.now }
     requires lits_len_bound { length lits.now ≤ 8192 }
-    ensures value { result ≡ length (numbers f (old lits)) }
+    ensures value { result ≡ length (numbers f lits.now) }
     ensures upper_bound { result ≤ 49152 }
 {
     let mut k: u32 = 0;
@@ -78,7 +80,7 @@ fn lits_len(f: Format, lits: &[u32]) -> u32
 pub fn step_len(f: Format, k: Kind, lits: &[u32]) -> usize
     requires codes { Codes lits.now }
     requires lits_len_bound { length lits.now ≤ 8192 }
-    ensures value { result ≡ length (encode_step f (step_of k (old lits))) }
+    ensures value { result ≡ length (encode_step f (step_of k lits.now)) }
     ensures upper_bound { result ≤ 49156 }
 {
     let a = open_len(f, k);
@@ -91,7 +93,7 @@ pub fn step_len(f: Format, k: Kind, lits: &[u32]) -> usize
 pub fn step_fits(f: Format, k: Kind, lits: &[u32], room: usize) -> bool
     requires codes { Codes lits.now }
     requires lits_len_bound { length lits.now ≤ 8192 }
-    ensures { result ≡ leb (length (encode_step f (step_of k (old lits)))) room }
+    ensures { result ≡ leb (length (encode_step f (step_of k lits.now))) room }
 {
     if 6 * lits.len() + 4 <= room {
         return true;
@@ -104,7 +106,7 @@ fn put1(n: u32, out: &mut [u8], at: usize) -> usize
     requires n_bound { n < 10 }
     requires at_in_bounds { at + 2 ≤ length out.old }
     ensures value { result ≡ at + 2 }
-    ensures fills { Fills out at ((48 + n) ∷ 32 ∷ []) }
+    ensures fills { Fills (change out.old out.new) at ((48 + n) ∷ 32 ∷ []) }
 {
     out[at] = (48 + n) as u8;
     out[at + 1] = 32;
@@ -115,7 +117,7 @@ fn put2(n: u32, out: &mut [u8], at: usize) -> usize
     requires n_bound { n < 100 }
     requires at_in_bounds { at + 3 ≤ length out.old }
     ensures value { result ≡ at + 3 }
-    ensures fills { Fills out at ((48 + n / 10) ∷ (48 + n % 10) ∷ 32 ∷ []) }
+    ensures fills { Fills (change out.old out.new) at ((48 + n / 10) ∷ (48 + n % 10) ∷ 32 ∷ []) }
 {
     out[at] = (48 + n / 10) as u8;
     out[at + 1] = (48 + n % 10) as u8;
@@ -127,7 +129,7 @@ fn put3(n: u32, out: &mut [u8], at: usize) -> usize
     requires n_bound { n < 1000 }
     requires at_in_bounds { at + 4 ≤ length out.old }
     ensures value { result ≡ at + 4 }
-    ensures fills { Fills out at ((48 + n / 100) ∷ (48 + n / 10 % 10) ∷ (48 + n % 10) ∷ 32 ∷ []) }
+    ensures fills { Fills (change out.old out.new) at ((48 + n / 100) ∷ (48 + n / 10 % 10) ∷ (48 + n % 10) ∷ 32 ∷ []) }
 {
     out[at] = (48 + n / 100) as u8;
     out[at + 1] = (48 + n / 10 % 10) as u8;
@@ -140,7 +142,7 @@ fn put4(n: u32, out: &mut [u8], at: usize) -> usize
     requires n_bound { n < 10000 }
     requires at_in_bounds { at + 5 ≤ length out.old }
     ensures value { result ≡ at + 5 }
-    ensures fills { Fills out at ((48 + n / 1000) ∷ (48 + n / 100 % 10) ∷ (48 + n / 10 % 10) ∷ (48 + n % 10) ∷ 32 ∷ []) }
+    ensures fills { Fills (change out.old out.new) at ((48 + n / 1000) ∷ (48 + n / 100 % 10) ∷ (48 + n / 10 % 10) ∷ (48 + n % 10) ∷ 32 ∷ []) }
 {
     out[at] = (48 + n / 1000) as u8;
     out[at + 1] = (48 + n / 100 % 10) as u8;
@@ -155,7 +157,7 @@ fn put_decimal(n: u32, out: &mut [u8], at: usize) -> usize
     requires n_nonzero { (0 < n) × (n < 10000) }
     requires n_in_bounds { at + length (blanked n) ≤ length out.old }
     ensures value { result ≡ at + length (blanked n) }
-    ensures fills { Fills out at (blanked n) }
+    ensures fills { Fills (change out.old out.new) at (blanked n) }
 {
     if n < 10 {
         return put1(n, out, at);
@@ -174,7 +176,7 @@ pub fn put_code(n: u32, out: &mut [u8], at: usize) -> usize
     requires n_nonzero { (0 < n) × (n < 16384) }
     requires n_in_bounds { at + length (bytes_of leb128 n) ≤ length out.old }
     ensures value { result ≡ at + length (bytes_of leb128 n) }
-    ensures fills { Fills out at (bytes_of leb128 n) }
+    ensures fills { Fills (change out.old out.new) at (bytes_of leb128 n) }
 {
     if n < 128 {
         out[at] = n as u8;
@@ -190,7 +192,7 @@ fn put_text(c: u32, out: &mut [u8], at: usize) -> usize
     requires c_bound { c < 8192 }
     requires c_in_bounds { at + length (number Text c) ≤ length out.old }
     ensures value { result ≡ at + length (number Text c) }
-    ensures fills { Fills out at (number Text c) }
+    ensures fills { Fills (change out.old out.new) at (number Text c) }
 {
     out[at] = 45;
     put_decimal(c / 2 + 1, out, at + (c % 2) as usize)
@@ -201,7 +203,7 @@ fn put_binary(c: u32, out: &mut [u8], at: usize) -> usize
     requires c_bound { c < 8192 }
     requires c_in_bounds { at + length (number Binary c) ≤ length out.old }
     ensures value { result ≡ at + length (number Binary c) }
-    ensures fills { Fills out at (number Binary c) }
+    ensures fills { Fills (change out.old out.new) at (number Binary c) }
 {
     put_code(c + 2, out, at)
 }
@@ -211,7 +213,7 @@ fn put_number(f: Format, c: u32, out: &mut [u8], at: usize) -> usize
     requires c_bound { c < 8192 }
     requires c_in_bounds { at + length (number f c) ≤ length out.old }
     ensures value { result ≡ at + length (number f c) }
-    ensures fills { Fills out at (number f c) }
+    ensures fills { Fills (change out.old out.new) at (number f c) }
 {
     match f {
         Format::Text => put_text(c, out, at),
@@ -222,7 +224,7 @@ fn put_number(f: Format, c: u32, out: &mut [u8], at: usize) -> usize
 fn put_open(f: Format, k: Kind, out: &mut [u8], at: usize) -> usize
     requires { at + length (opens f k) ≤ length out.old }
     ensures value { result ≡ at + length (opens f k) }
-    ensures fills { Fills out at (opens f k) }
+    ensures fills { Fills (change out.old out.new) at (opens f k) }
 {
     match f {
         Format::Text => match k {
@@ -249,7 +251,7 @@ fn put_open(f: Format, k: Kind, out: &mut [u8], at: usize) -> usize
 fn put_end(f: Format, out: &mut [u8], at: usize) -> usize
     requires { at + length (ends f) ≤ length out.old }
     ensures value { result ≡ at + length (ends f) }
-    ensures fills { Fills out at (ends f) }
+    ensures fills { Fills (change out.old out.new) at (ends f) }
 {
     match f {
         Format::Text => {
@@ -265,7 +267,7 @@ fn put_end(f: Format, out: &mut [u8], at: usize) -> usize
 }
 
 pub fn all_below(words: &[u32], bound: u32) -> bool
-    ensures { result ≡ all_below (length (old words)) (λ i. ltb (get_or (old words) i 0) bound) }
+    ensures { result ≡ all_below (length words.now) (λ i. ltb (get_or words.now i 0) bound) }
 {
     let mut ok = true;
     let mut i = 0;
@@ -280,8 +282,8 @@ pub fn all_below(words: &[u32], bound: u32) -> bool
 fn put_short(lits: &[u32], out: &mut [u8], at: usize) -> usize
     requires short { Short lits.now }
     requires lits_in_bounds { at + length lits.now ≤ length out.old }
-    ensures value { result ≡ at + length (old lits) }
-    ensures fills { Fills out at (numbers Binary (old lits)) }
+    ensures value { result ≡ at + length lits.now }
+    ensures fills { Fills (change out.old out.new) at (numbers Binary lits.now) }
 {
     let mut i = 0;
     while i < lits.len() {
@@ -295,8 +297,8 @@ fn put_short(lits: &[u32], out: &mut [u8], at: usize) -> usize
 fn put_each(f: Format, lits: &[u32], out: &mut [u8], at: usize) -> usize
     requires codes { Codes lits.now }
     requires lits_in_bounds { at + length (numbers f lits.now) ≤ length out.old }
-    ensures value { result ≡ at + length (numbers f (old lits)) }
-    ensures fills { Fills out at (numbers f (old lits)) }
+    ensures value { result ≡ at + length (numbers f lits.now) }
+    ensures fills { Fills (change out.old out.new) at (numbers f lits.now) }
 {
     let mut p = at;
     let mut i = 0;
@@ -311,8 +313,8 @@ fn put_each(f: Format, lits: &[u32], out: &mut [u8], at: usize) -> usize
 fn put_binaries(lits: &[u32], out: &mut [u8], at: usize) -> usize
     requires codes { Codes lits.now }
     requires lits_in_bounds { at + length (numbers Binary lits.now) ≤ length out.old }
-    ensures value { result ≡ at + length (numbers Binary (old lits)) }
-    ensures fills { Fills out at (numbers Binary (old lits)) }
+    ensures value { result ≡ at + length (numbers Binary lits.now) }
+    ensures fills { Fills (change out.old out.new) at (numbers Binary lits.now) }
 {
     if all_below(lits, 126) {
         return put_short(lits, out, at);
@@ -324,8 +326,8 @@ fn put_binaries(lits: &[u32], out: &mut [u8], at: usize) -> usize
 fn put_lits(f: Format, lits: &[u32], out: &mut [u8], at: usize) -> usize
     requires codes { Codes lits.now }
     requires lits_in_bounds { at + length (numbers f lits.now) ≤ length out.old }
-    ensures value { result ≡ at + length (numbers f (old lits)) }
-    ensures fills { Fills out at (numbers f (old lits)) }
+    ensures value { result ≡ at + length (numbers f lits.now) }
+    ensures fills { Fills (change out.old out.new) at (numbers f lits.now) }
 {
     match f {
         Format::Text => put_each(Format::Text, lits, out, at),
@@ -336,8 +338,8 @@ fn put_lits(f: Format, lits: &[u32], out: &mut [u8], at: usize) -> usize
 fn put_any(f: Format, k: Kind, lits: &[u32], out: &mut [u8], at: usize) -> usize
     requires codes { Codes lits.now }
     requires lits_in_bounds { at + length (encode_step f (step_of k lits.now)) ≤ length out.old }
-    ensures value { result ≡ at + length (encode_step f (step_of k (old lits))) }
-    ensures fills { Fills out at (encode_step f (step_of k (old lits))) }
+    ensures value { result ≡ at + length (encode_step f (step_of k lits.now)) }
+    ensures fills { Fills (change out.old out.new) at (encode_step f (step_of k lits.now)) }
 {
     let p = put_open(f, k, out, at);
     let q = put_lits(f, lits, out, p);
@@ -348,8 +350,8 @@ fn put_any(f: Format, k: Kind, lits: &[u32], out: &mut [u8], at: usize) -> usize
 fn put_few(k: Kind, lits: &[u32], out: &mut [u8], at: usize) -> usize
     requires codes { Codes lits.now }
     requires lits_in_bounds { at + length (encode_step Binary (step_of k lits.now)) ≤ length out.old }
-    ensures value { result ≡ at + length (encode_step Binary (step_of k (old lits))) }
-    ensures fills { Fills out at (encode_step Binary (step_of k (old lits))) }
+    ensures value { result ≡ at + length (encode_step Binary (step_of k lits.now)) }
+    ensures fills { Fills (change out.old out.new) at (encode_step Binary (step_of k lits.now)) }
 {
     let p = put_open(Format::Binary, k, out, at);
     let q = put_each(Format::Binary, lits, out, p);
@@ -360,8 +362,8 @@ fn put_few(k: Kind, lits: &[u32], out: &mut [u8], at: usize) -> usize
 pub fn put_step(f: Format, k: Kind, lits: &[u32], out: &mut [u8], at: usize) -> usize
     requires codes { Codes lits.now }
     requires lits_in_bounds { at + length (encode_step f (step_of k lits.now)) ≤ length out.old }
-    ensures value { result ≡ at + length (encode_step f (step_of k (old lits))) }
-    ensures fills { Fills out at (encode_step f (step_of k (old lits))) }
+    ensures value { result ≡ at + length (encode_step f (step_of k lits.now)) }
+    ensures fills { Fills (change out.old out.new) at (encode_step f (step_of k lits.now)) }
 {
     if 16 <= lits.len() {
         return put_any(f, k, lits, out, at);
@@ -373,7 +375,7 @@ pub fn put_step(f: Format, k: Kind, lits: &[u32], out: &mut [u8], at: usize) -> 
 }
 
 fn no_clause(buf: &[u32], a: usize, b: usize) -> bool
-    ensures { result ≡ no_clause (old buf) a b }
+    ensures { result ≡ no_clause buf.now a b }
 {
     if b < a {
         return true;
@@ -398,8 +400,8 @@ pub fn write_clause(
     out: &mut [u8],
     at: usize,
 ) -> Wrote
-    ensures result_value { wrote result ≡ (write_clause_of f k (old buf) a b (length (old out)) at).answer }
-    ensures fills { Fills out at (write_clause_of f k (old buf) a b (length (old out)) at).bytes }
+    ensures result_value { wrote result ≡ (write_clause_of f k buf.now a b (length out.old) at).answer }
+    ensures fills { Fills (change out.old out.new) at (write_clause_of f k buf.now a b (length out.old) at).bytes }
 {
     if no_clause(buf, a, b) {
         return Wrote::Outside;
@@ -417,8 +419,8 @@ pub fn write_clause(
 // Writes a whole proof from the three lists that the reader fills, from the start of the output on: 3, 2.
 // `write_all_of` of drat's specs/Listed.antt, and `wrote` for the answer.
 pub fn write_proof(f: Format, codes: &[u32], ends: &[u64], kinds: &[u8], out: &mut [u8]) -> Wrote
-    ensures result_value { wrote result ≡ (write_all_of f (old codes) (old ends) (old kinds) (length (old out))).answer }
-    ensures fills { Fills out 0 (write_all_of f (old codes) (old ends) (old kinds) (length (old out))).bytes }
+    ensures result_value { wrote result ≡ (write_all_of f codes.now ends.now kinds.now (length out.old)).answer }
+    ensures fills { Fills (change out.old out.new) 0 (write_all_of f codes.now ends.now kinds.now (length out.old)).bytes }
 {
     if no_proof(codes, ends, kinds) {
         return Wrote::Outside;

@@ -1,6 +1,6 @@
 // A whole proof from its three lists: all literal codes in a row, where each step ends in that row, and a kind for each step.
 ghost use Rattle.std.specs.Prelude.{◌≡◌, ◌*◌, ◌≤◌, ◌<◌, leb, length};
-ghost use Rattle.base.specs.Lent.{old, Fills};
+ghost use Rattle.base.specs.Lent.{Fills, change};
 ghost use Rattle.drat.specs.Grammar.{numbers, encode, Codes};
 ghost use Rattle.drat.specs.Listed.{kind_at, listed, rises_to, kinds_test, unlisted};
 ghost use Rattle.drat.proofs.ListedLaws.{frames, Listed};
@@ -15,7 +15,7 @@ fn kind_in(n: u8) -> Kind
 }
 
 pub fn ends_rise(ends: &[u64], last: usize) -> bool
-    ensures { result ≡ rises_to last 0 (old ends) }
+    ensures { result ≡ rises_to last 0 ends.now }
 {
     let mut ok = true;
     let mut a: u64 = 0;
@@ -29,7 +29,7 @@ pub fn ends_rise(ends: &[u64], last: usize) -> bool
 }
 
 fn kinds_ok(kinds: &[u8]) -> bool
-    ensures { result ≡ kinds_test (old kinds) }
+    ensures { result ≡ kinds_test kinds.now }
 {
     let mut ok = true;
     let mut i = 0;
@@ -41,7 +41,7 @@ fn kinds_ok(kinds: &[u8]) -> bool
 }
 
 pub(crate) fn no_proof(codes: &[u32], ends: &[u64], kinds: &[u8]) -> bool
-    ensures { result ≡ unlisted (old codes) (old ends) (old kinds) }
+    ensures { result ≡ unlisted codes.now ends.now kinds.now }
 {
     if !all_below(codes, 8192) {
         return true;
@@ -58,8 +58,8 @@ pub(crate) fn no_proof(codes: &[u32], ends: &[u64], kinds: &[u8]) -> bool
 // How many bytes all literals take.
 pub fn numbers_len(f: Format, codes: &[u32]) -> usize
     requires { Codes codes.now }
-    ensures value { result ≡ length (numbers f (old codes)) }
-    ensures upper_bound { result ≤ 6 * length (old codes) }
+    ensures value { result ≡ length (numbers f codes.now) }
+    ensures upper_bound { result ≤ 6 * length codes.now }
 {
     let mut k: usize = 0;
     let mut i = 0;
@@ -73,8 +73,8 @@ pub fn numbers_len(f: Format, codes: &[u32]) -> usize
 // How many bytes stand beside the literals.
 fn frames_len(f: Format, kinds: &[u8]) -> usize
     requires { length kinds.now < 1152921504606846976 }
-    ensures value { result ≡ frames f (old kinds) }
-    ensures upper_bound { result ≤ 4 * length (old kinds) }
+    ensures value { result ≡ frames f kinds.now }
+    ensures upper_bound { result ≤ 4 * length kinds.now }
 {
     let mut k: usize = 0;
     let mut i = 0;
@@ -88,7 +88,7 @@ fn frames_len(f: Format, kinds: &[u8]) -> usize
 // Whether the proof fits in `room` bytes. A literal takes at most six and a step four more: where there is as much room, none is counted.
 pub(crate) fn proof_fits(f: Format, codes: &[u32], ends: &[u64], kinds: &[u8], room: usize) -> bool
     requires { Listed codes.now ends.now kinds.now }
-    ensures { result ≡ leb (length (encode f (listed (old codes) 0 (old ends) (old kinds)))) room }
+    ensures { result ≡ leb (length (encode f (listed codes.now 0 ends.now kinds.now))) room }
 {
     if 6 * codes.len() + 4 * ends.len() <= room {
         return true;
@@ -106,8 +106,8 @@ pub(crate) fn put_proof(
 ) -> usize
     requires listed { Listed codes.now ends.now kinds.now }
     requires kinds_in_bounds { length (encode f (listed codes.now 0 ends.now kinds.now)) ≤ length out.old }
-    ensures value { result ≡ length (encode f (listed (old codes) 0 (old ends) (old kinds))) }
-    ensures fills { Fills out 0 (encode f (listed (old codes) 0 (old ends) (old kinds))) }
+    ensures value { result ≡ length (encode f (listed codes.now 0 ends.now kinds.now)) }
+    ensures fills { Fills (change out.old out.new) 0 (encode f (listed codes.now 0 ends.now kinds.now)) }
 {
     let mut a: usize = 0;
     let mut at: usize = 0;

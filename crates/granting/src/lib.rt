@@ -1,7 +1,9 @@
 // Grant. How the contracts read: crates/scope/specs/Contract.antt.
+#![tactic(auto)]
+
 ghost use Rattle.std.specs.Prelude.{◌≡◌, true, List, ◌∷◌, [], ℕ, ◌+◌, ◌≤◌, ◌<◌, length, set};
-ghost use Rattle.base.specs.Lent.{old, new, Fills};
-ghost use Rattle.scope.specs.Contract.{given, before, lent, Meets};
+ghost use Rattle.base.specs.Lent.{Fills, change, constant};
+ghost use Rattle.scope.specs.Contract.{given, lent, Meets};
 ghost use Rattle.scope.specs.Sound.{soundb};
 ghost use Rattle.scope.specs.Table.{Table, table_of, least_free, grant_counts};
 ghost use Rattle.scope.specs.Grant.{grant, grant_refusal, grant_of};
@@ -14,7 +16,7 @@ use scope::{Counts, Global, Note, Solver};
 use table::{FoundSolver, is_sound, put_note, solver_of};
 
 // A global's solver index, with the counts and the place in the notes after it.
-#[derive(Drop)]
+#[derive(Clone, Copy)]
 pub struct Indexed {
     pub counts: Counts,
     pub solver: Solver,
@@ -22,7 +24,7 @@ pub struct Indexed {
 }
 
 // The answer: the solver index, the counts and how many notes were written.
-#[derive(Drop)]
+#[derive(Clone, Copy)]
 pub enum Granted {
     Done(Solver, Counts, u32),
     Refused(u32),
@@ -48,12 +50,12 @@ fn grant_next(
     requires global_lt_capacity { global.0 < c.capacity }
     requires at_in_bounds { at + 3 ≤ length notes.old }
     ensures solver_value { result.solver.0 ≡ c.next }
-    ensures counts_value { result.counts ≡ grant_counts c c.next global.0 (new gs) }
+    ensures counts_value { result.counts ≡ grant_counts c c.next global.0 gs.new }
     ensures at_value { result.at ≡ at + 3 }
-    ensures sg_value { new sg ≡ set (old sg) global.0 (c.next + 1) }
-    ensures gs_value { new gs ≡ set (old gs) c.next (global.0 + 1) }
-    ensures assignment_value { new assignment ≡ set (old assignment) c.next unit }
-    ensures fills { Fills notes at (1 ∷ global.0 ∷ (c.next + 1) ∷ []) }
+    ensures sg_value { sg.new ≡ set sg.old global.0 (c.next + 1) }
+    ensures gs_value { gs.new ≡ set gs.old c.next (global.0 + 1) }
+    ensures assignment_value { assignment.new ≡ set assignment.old c.next unit }
+    ensures fills { Fills (change notes.old notes.new) at (1 ∷ global.0 ∷ (c.next + 1) ∷ []) }
 {
     let s = c.next;
     let solver = Solver(s);
@@ -81,9 +83,9 @@ pub fn grant_index(
     notes: &mut [u32],
 ) -> Indexed
     requires { IndexAsks c sg.old gs.old assignment.old records.now global.0 at (length notes.old) }
-    ensures by_index { (gu ug : List ℕ) → result.solver.0 ≡ (grant global.0 (table_of c gu ug (old sg) (old gs) (old assignment) (old records))).value }
-    ensures by_index_2 { (gu ug : List ℕ) → Leaves (grant global.0 (table_of c gu ug (old sg) (old gs) (old assignment) (old records))) at result.at
-        (table_of result.counts gu ug (new sg) (new gs) (new assignment) (old records)) (old notes) (new notes) }
+    ensures by_index { (gu ug : List ℕ) → result.solver.0 ≡ (grant global.0 (table_of c gu ug sg.old gs.old assignment.old records.now)).value }
+    ensures by_index_2 { (gu ug : List ℕ) → Leaves (grant global.0 (table_of c gu ug sg.old gs.old assignment.old records.now)) at result.at
+        (table_of result.counts gu ug sg.new gs.new assignment.new records.now) notes.old notes.new }
 {
     let FoundSolver::At(solver) = solver_of(sg, global) else {
         let unit = records[global.0 as usize] / 3 % 3;
@@ -108,8 +110,8 @@ fn grant_refusal(
     global: Global,
     room: usize,
 ) -> u32
-    requires { soundb (given c gu ug sg gs assignment records) ≡ true }
-    ensures { result ≡ grant_refusal (before c gu ug sg gs assignment records) global.0 room }
+    requires { soundb (given c gu.now ug.now sg.now gs.now assignment.now records.now) ≡ true }
+    ensures { result ≡ grant_refusal (given c gu.now ug.now sg.now gs.now assignment.now records.now) global.0 room }
 {
     if c.global <= global.0 {
         return 3;
@@ -138,7 +140,8 @@ pub fn solver_from_global(
     notes: &mut [u32],
 ) -> Granted
     ensures { Meets (λ t room. grant_of t global.0 room) (granted result c)
-        (lent c gu ug sg gs assignment records notes) }
+        (lent c (constant gu.now) (constant ug.now) (change sg.old sg.new) (change gs.old gs.new)
+            (change assignment.old assignment.new) (constant records.now) (change notes.old notes.new)) }
 {
     if !is_sound(c, gu, ug, sg, gs, assignment, records) {
         return Granted::Refused(1);
@@ -159,9 +162,10 @@ pub fn known_solver_from_global(
     global: Global,
     notes: &mut [u32],
 ) -> Granted
-    requires { soundb (given c gu ug sg gs assignment records) ≡ true }
+    requires { soundb (given c gu.now ug.now sg.old gs.old assignment.old records.now) ≡ true }
     ensures { Meets (λ t room. grant_of t global.0 room) (granted result c)
-        (lent c gu ug sg gs assignment records notes) }
+        (lent c (constant gu.now) (constant ug.now) (change sg.old sg.new) (change gs.old gs.new)
+            (change assignment.old assignment.new) (constant records.now) (change notes.old notes.new)) }
 {
     let n = grant_refusal(c, gu, ug, sg, gs, assignment, records, global, notes.len());
     if n != 0 {
@@ -176,7 +180,7 @@ pub fn known_solver_from_global(
 // Held already: the solver index that Grant answers with no note on every sound table that has the list, which is not tested; else Nothing.
 // Definition: crates/changes/specs/AtOnce.antt, `AtOnce`, of `grant_of`. Any words may be lent.
 pub fn grant_in(sg: &[u32], global: Global) -> FoundSolver
-    ensures { (t : Table) → soundb t ≡ true → t.solver_from_global ≡ old sg
+    ensures { (t : Table) → soundb t ≡ true → t.solver_from_global ≡ sg.now
         → AtOnce (λ room. grant_of t global.0 room) t (solver_found result) }
 {
     solver_of(sg, global)

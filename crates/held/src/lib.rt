@@ -1,7 +1,8 @@
 // Literals whose users have solver indices already: they are looked up, and nothing is mapped or granted for them.
+#![tactic(auto)]
+
 ghost use Rattle.std.specs.Prelude.{◌≡◌, ◌&&◌, ◌≤◌, length};
 ghost use Rattle.base.specs.Bounded.{any_of};
-ghost use Rattle.base.specs.Lent.{old, new};
 ghost use Rattle.scope.specs.Literals.{index_of};
 ghost use Rattle.table.specs.Found.{found_solver};
 ghost use Rattle.naming.specs.Parts.{is_unsampled, MapBelow};
@@ -12,7 +13,7 @@ use scope::User;
 use table::{FoundGlobal, FoundSolver, copy_lits, global_of, solver_of};
 
 // Whether all literals were looked up and filled, and a number of literals from the start on whose users are known to have solver indices.
-#[derive(Drop)]
+#[derive(Clone, Copy)]
 pub struct Tried {
     pub filled: bool,
     pub lead: usize,
@@ -20,7 +21,7 @@ pub struct Tried {
 
 // The solver index that a user has already.
 fn held_solver(gu: &[u32], sg: &[u32], user: User) -> FoundSolver
-    ensures { result ≡ found_solver (held_word (old gu) (old sg) user.0) }
+    ensures { result ≡ found_solver (held_word gu.now sg.now user.0) }
 {
     let FoundGlobal::At(g) = global_of(gu, user) else {
         return FoundSolver::Nothing;
@@ -32,7 +33,7 @@ fn held_solver(gu: &[u32], sg: &[u32], user: User) -> FoundSolver
 pub fn held_lits(gu: &[u32], sg: &[u32], lits: &[u32], from: usize, codes: &mut [u32]) -> usize
     requires lits_in_bounds { length lits.now ≤ length codes.old }
     requires map_below { MapBelow sg.now 4096 }
-    ensures { HeldRun (old gu) (old sg) (old lits) from (old codes) result (new codes) }
+    ensures { HeldRun gu.now sg.now lits.now from codes.old result codes.new }
 {
     let mut i = from;
     while i < lits.len() {
@@ -49,7 +50,7 @@ pub fn held_lits(gu: &[u32], sg: &[u32], lits: &[u32], from: usize, codes: &mut 
 // Sampling is required, and a literal's user has a global that is not Sample.
 pub fn any_unsampled(gu: &[u32], records: &[u32], lits: &[u32], sampling: bool) -> bool
     requires { MapBelow gu.now (length records.now) }
-    ensures { result ≡ sampling && any_of (λ c. is_unsampled (old gu) (old records) (index_of c)) (old lits) }
+    ensures { result ≡ sampling && any_of (λ c. is_unsampled gu.now records.now (index_of c)) lits.now }
 {
     if !sampling {
         return false;
@@ -79,7 +80,7 @@ fn fill_held(
     requires lits_in_bounds_2 { length lits.now ≤ length out.old }
     requires map_below { MapBelow gu.now (length records.now) }
     requires map_below_2 { MapBelow sg.now 4096 }
-    ensures { HeldTried (old gu) (old sg) (old records) (old lits) sampling result (old out) (new out) }
+    ensures { HeldTried gu.now sg.now records.now lits.now sampling result out.old out.new }
 {
     let n = held_lits(gu, sg, lits, 0, codes);
     if n < lits.len() {
@@ -113,7 +114,7 @@ pub fn pose_held(
 ) -> Tried
     requires map_below { MapBelow gu.now (length records.now) }
     requires map_below_2 { MapBelow sg.now 4096 }
-    ensures { HeldTried (old gu) (old sg) (old records) (old lits) sampling result (old out) (new out) }
+    ensures { HeldTried gu.now sg.now records.now lits.now sampling result out.old out.new }
 {
     if (8192 < lits.len()) | (out.len() < lits.len()) {
         return Tried {

@@ -1,7 +1,7 @@
 // Simplify, and Simplify binary on a table known to be sound.
 ghost use Rattle.std.specs.Prelude.{◌≡◌, true, [], ◌∷◌, length};
-ghost use Rattle.base.specs.Lent.{old, new, Fills};
-ghost use Rattle.scope.specs.Contract.{given, before, quiet};
+ghost use Rattle.base.specs.Lent.{Fills, change};
+ghost use Rattle.scope.specs.Contract.{given, reads};
 ghost use Rattle.scope.specs.Sound.{soundb};
 ghost use Rattle.scope.specs.Steps.{flag};
 ghost use Rattle.numbers.specs.Surface.{plain, Gives};
@@ -28,14 +28,14 @@ pub extern "C" fn hz_known_simplify(
     out: &mut [u32],
     bytes: &mut [u8],
 ) -> HzSimplified
-    requires { soundb (given c gu ug sg gs assignment records) ≡ true }
-    ensures gives { Gives (λ t room. simplify_at format t (old lits) redundant (length (old out)) (length (old bytes)))
+    requires { soundb (given c gu.now ug.now sg.now gs.now assignment.now records.now) ≡ true }
+    ensures gives { Gives (λ t room. simplify_at format t lits.now redundant (length out.old) (length bytes.old))
         (plain 4) (result.refusal ∷ result.made ∷ result.lits ∷ flag result.redundant ∷ result.bytes ∷ []) c
-        (quiet c gu ug sg gs assignment records) }
-    ensures out { Fills out 0
-        (simplify_at format (before c gu ug sg gs assignment records) (old lits) redundant (length (old out)) (length (old bytes))).words }
-    ensures bytes { Fills bytes 0
-        (simplify_at format (before c gu ug sg gs assignment records) (old lits) redundant (length (old out)) (length (old bytes))).bytes }
+        (reads c gu.now ug.now sg.now gs.now assignment.now records.now) }
+    ensures out { Fills (change out.old out.new) 0
+        (simplify_at format (given c gu.now ug.now sg.now gs.now assignment.now records.now) lits.now redundant (length out.old) (length bytes.old)).words }
+    ensures bytes { Fills (change bytes.old bytes.new) 0
+        (simplify_at format (given c gu.now ug.now sg.now gs.now assignment.now records.now) lits.now redundant (length out.old) (length bytes.old)).bytes }
 {
     let FormatNumber::Known(f) = format_in(format) else {
         return HzSimplified {
@@ -67,13 +67,13 @@ pub extern "C" fn hz_known_simplify_binary(
     out: &mut [u32],
     bytes: &mut [u8],
 ) -> HzThinned
-    requires { soundb (given c gu ug sg gs assignment records) ≡ true }
-    ensures gives { Gives (λ t room. binary_at format t (old lists) (length (old out)) (length (old bytes)))
-        (plain 3) (result.refusal ∷ result.words ∷ result.half ∷ result.bytes ∷ []) c (quiet c gu ug sg gs assignment records) }
-    ensures out { Fills out 0
-        (binary_at format (before c gu ug sg gs assignment records) (old lists) (length (old out)) (length (old bytes))).words }
-    ensures bytes { Fills bytes 0
-        (binary_at format (before c gu ug sg gs assignment records) (old lists) (length (old out)) (length (old bytes))).bytes }
+    requires { soundb (given c gu.now ug.now sg.now gs.now assignment.now records.now) ≡ true }
+    ensures gives { Gives (λ t room. binary_at format t lists.now (length out.old) (length bytes.old))
+        (plain 3) (result.refusal ∷ result.words ∷ result.half ∷ result.bytes ∷ []) c (reads c gu.now ug.now sg.now gs.now assignment.now records.now) }
+    ensures out { Fills (change out.old out.new) 0
+        (binary_at format (given c gu.now ug.now sg.now gs.now assignment.now records.now) lists.now (length out.old) (length bytes.old)).words }
+    ensures bytes { Fills (change bytes.old bytes.new) 0
+        (binary_at format (given c gu.now ug.now sg.now gs.now assignment.now records.now) lists.now (length out.old) (length bytes.old)).bytes }
 {
     let FormatNumber::Known(f) = format_in(format) else {
         return HzThinned {

@@ -2,7 +2,7 @@
 ghost use Rattle.std.specs.Prelude.{◌≡◌, true, [], ◌∷◌};
 ghost use Rattle.base.specs.Choice.{pick};
 ghost use Rattle.base.specs.Answer.{accepted};
-ghost use Rattle.base.specs.Lent.{old};
+ghost use Rattle.base.specs.Lent.{change, constant};
 ghost use Rattle.scope.specs.Table.{Table};
 ghost use Rattle.scope.specs.Steps.{flag};
 ghost use Rattle.scope.specs.Contract.{given, lent};
@@ -29,9 +29,10 @@ pub extern "C" fn hz_known_grant(
     global: u32,
     notes: &mut [u32],
 ) -> HzGranted
-    requires { soundb (given c gu ug sg gs assignment records) ≡ true }
+    requires { soundb (given c gu.now ug.now sg.old gs.old assignment.old records.now) ≡ true }
     ensures { Gives (λ t room. grant_of t global room) (plain 2) (result.refusal ∷ result.solver ∷ result.notes ∷ []) result.counts
-        (lent c gu ug sg gs assignment records notes) }
+        (lent c (constant gu.now) (constant ug.now) (change sg.old sg.new) (change gs.old gs.new)
+            (change assignment.old assignment.new) (constant records.now) (change notes.old notes.new)) }
 {
     let r = granting::known_solver_from_global(
         c,
@@ -70,7 +71,7 @@ fn once_out(r: FoundSolver) -> HzFound
 // sound table that has this list. Any words may be lent.
 #[unsafe(no_mangle)]
 pub extern "C" fn hz_grant_in(sg: &[u32], global: u32) -> HzFound
-    ensures at_once { (t : Table) → soundb t ≡ true → t.solver_from_global ≡ old sg
+    ensures at_once { (t : Table) → soundb t ≡ true → t.solver_from_global ≡ sg.now
         → AtOnce (grant_of t global) t (pick result.found (result.value ∷ []) []) }
     ensures value_value { result.refusal ∷ flag result.found ∷ result.value ∷ [] ≡ optional 0 (accepted (pick result.found (result.value ∷ []) [])) }
 {

@@ -1,5 +1,7 @@
 // The calls on tables that are known to be sound, for C and Rust: `known` calls do not test the table, and calls named `in` are lent only the lists
 // that they touch. The header is include/hintzobar.h.
+#![tactic(auto)]
+
 pub mod clauses;
 pub mod grants;
 pub mod lines;

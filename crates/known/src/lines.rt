@@ -1,9 +1,9 @@
 // Rename and Write on a table known to be sound, and Rename in the list that it reads.
 ghost use Rattle.std.specs.Prelude.{ℕ, ◌≡◌, true, false, [], ◌∷◌, length};
-ghost use Rattle.base.specs.Lent.{old, new, Fills};
+ghost use Rattle.base.specs.Lent.{Fills, change};
 ghost use Rattle.scope.specs.declared.ProofStep.{ProofStep};
 ghost use Rattle.scope.specs.Table.{Table};
-ghost use Rattle.scope.specs.Contract.{given, before, quiet};
+ghost use Rattle.scope.specs.Contract.{given, reads};
 ghost use Rattle.scope.specs.Sound.{soundb};
 ghost use Rattle.scope.specs.Steps.{rule_of};
 ghost use Rattle.scope.specs.Write.{unmatched, rename_of};
@@ -35,15 +35,15 @@ pub extern "C" fn hz_known_rename(
     out: &mut [u32],
     hashout: &mut [u64],
 ) -> HzRenamed
-    requires { soundb (given c gu ug sg gs assignment records) ≡ true }
-    ensures gives_1 { Gives (λ t room. rename_at step t solvervars (old lits) (old hashes) (length (old out)) (length (old hashout)))
+    requires { soundb (given c gu.now ug.now sg.now gs.now assignment.now records.now) ≡ true }
+    ensures gives_1 { Gives (λ t room. rename_at step t solvervars lits.now hashes.now (length out.old) (length hashout.old))
         (stepped (words_at (step_given step))) (result.refusal ∷ result.lits ∷ result.hashes ∷ words_at (step_given result.step)) c
-        (quiet c gu ug sg gs assignment records) }
+        (reads c gu.now ug.now sg.now gs.now assignment.now records.now) }
     ensures gives_2 { result.step ≡ step }
-    ensures out { Fills out 0
-        (rename_at step (before c gu ug sg gs assignment records) solvervars (old lits) (old hashes) (length (old out)) (length (old hashout))).words }
-    ensures hashout { Fills hashout 0
-        (rename_at step (before c gu ug sg gs assignment records) solvervars (old lits) (old hashes) (length (old out)) (length (old hashout))).more }
+    ensures out { Fills (change out.old out.new) 0
+        (rename_at step (given c gu.now ug.now sg.now gs.now assignment.now records.now) solvervars lits.now hashes.now (length out.old) (length hashout.old)).words }
+    ensures hashout { Fills (change hashout.old hashout.new) 0
+        (rename_at step (given c gu.now ug.now sg.now gs.now assignment.now records.now) solvervars lits.now hashes.now (length out.old) (length hashout.old)).more }
 {
     let StepNumber::Known(s) = step_in(step) else {
         return HzRenamed {
@@ -76,11 +76,11 @@ pub extern "C" fn hz_known_write(
     hashes: &[u64],
     out: &mut [u8],
 ) -> HzWritten
-    requires { soundb (given c gu ug sg gs assignment records) ≡ true }
-    ensures gives { Gives (λ t room. write_at format step t solvervars (old lits) (old hashes) (length (old out)))
-        (plain 1) (result.refusal ∷ result.bytes ∷ []) c (quiet c gu ug sg gs assignment records) }
-    ensures out { Fills out 0
-        (write_at format step (before c gu ug sg gs assignment records) solvervars (old lits) (old hashes) (length (old out))).bytes }
+    requires { soundb (given c gu.now ug.now sg.now gs.now assignment.now records.now) ≡ true }
+    ensures gives { Gives (λ t room. write_at format step t solvervars lits.now hashes.now (length out.old))
+        (plain 1) (result.refusal ∷ result.bytes ∷ []) c (reads c gu.now ug.now sg.now gs.now assignment.now records.now) }
+    ensures out { Fills (change out.old out.new) 0
+        (write_at format step (given c gu.now ug.now sg.now gs.now assignment.now records.now) solvervars lits.now hashes.now (length out.old)).bytes }
 {
     let FormatNumber::Known(f) = format_in(format) else {
         return HzWritten {
@@ -102,7 +102,7 @@ pub extern "C" fn hz_known_write(
 
 // How many literals were filled.
 #[repr(C)]
-#[derive(Drop)]
+#[derive(Clone, Copy)]
 pub struct HzRenamedIn {
     pub refusal: u32,
     pub lits: usize,
@@ -127,10 +127,10 @@ fn lits_out(r: Recorded) -> HzRenamedIn
 // has this list, for every step that carries literals and no hashes.
 #[unsafe(no_mangle)]
 pub extern "C" fn hz_rename_in(gs: &[u32], lits: &[u32], out: &mut [u32]) -> HzRenamedIn
-    ensures { (t : Table) (step : ProofStep) (k : ℕ) → soundb t ≡ true → t.global_from_solver ≡ old gs
-        → (rule_of step).renamed ≡ true → unmatched step (old lits) [] ≡ false
-        → let o = rename_of t step true (old lits) [] (length (old out)) k in
-        Given o lits_only (result.refusal ∷ result.lits ∷ []) t [] [] × (Fills out 0 o.words × (o.more ≡ [])) }
+    ensures { (t : Table) (step : ProofStep) (k : ℕ) → soundb t ≡ true → t.global_from_solver ≡ gs.now
+        → (rule_of step).renamed ≡ true → unmatched step lits.now [] ≡ false
+        → let o = rename_of t step true lits.now [] (length out.old) k in
+        Given o lits_only (result.refusal ∷ result.lits ∷ []) t [] [] × (Fills (change out.old out.new) 0 o.words × (o.more ≡ [])) }
 {
     let r = steps::rename::rename_in(gs, lits, out);
     lits_out(r)

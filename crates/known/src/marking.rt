@@ -1,7 +1,6 @@
 // Marks and Assign in the two lists that they touch. The answer is the refusal, 0 for none; any words may be lent: it is the call's on every sound
 // table that has these lists.
 ghost use Rattle.std.specs.Prelude.{◌≡◌, true, [], ◌∷◌};
-ghost use Rattle.base.specs.Lent.{old, new};
 ghost use Rattle.base.specs.Answer.{number_of};
 ghost use Rattle.scope.specs.declared.Counts.{Counts};
 ghost use Rattle.scope.specs.Table.{Table};
@@ -29,8 +28,8 @@ fn refusal_of(r: Changed) -> u32
 // Marks (8): `mark_of`.
 #[unsafe(no_mangle)]
 pub extern "C" fn hz_mark_in(gs: &[u32], records: &mut [u32], mark: u32, solver: u32) -> u32
-    ensures { (t : Table) → soundb t ≡ true → t.global_from_solver ≡ old gs → t.records ≡ old records
-        → Given (for_known (mark_for mark) t (λ m. mark_of t m solver)) (plain 0) (result ∷ []) (with_records t (new records)) [] [] }
+    ensures { (t : Table) → soundb t ≡ true → t.global_from_solver ≡ gs.now → t.records ≡ records.old
+        → Given (for_known (mark_for mark) t (λ m. mark_of t m solver)) (plain 0) (result ∷ []) (with_records t records.new) [] [] }
 {
     let MarkNumber::Known(m) = mark_in(mark) else {
         return 0xffffffff;
@@ -42,8 +41,8 @@ pub extern "C" fn hz_mark_in(gs: &[u32], records: &mut [u32], mark: u32, solver:
 // Assign (8, 9): `assign_of`.
 #[unsafe(no_mangle)]
 pub extern "C" fn hz_assign_in(gs: &[u32], assignment: &mut [u32], lit: u32) -> u32
-    ensures { (t : Table) → soundb t ≡ true → t.global_from_solver ≡ old gs → t.assignment ≡ old assignment
-        → Given (assign_of t lit) (plain 0) (result ∷ []) (with_values t (new assignment)) [] [] }
+    ensures { (t : Table) → soundb t ≡ true → t.global_from_solver ≡ gs.now → t.assignment ≡ assignment.old
+        → Given (assign_of t lit) (plain 0) (result ∷ []) (with_values t assignment.new) [] [] }
 {
     let r = marks::assign_in(gs, assignment, lit);
     refusal_of(r)

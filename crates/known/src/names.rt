@@ -2,7 +2,7 @@
 ghost use Rattle.std.specs.Prelude.{◌≡◌, true, [], ◌∷◌};
 ghost use Rattle.base.specs.Choice.{pick};
 ghost use Rattle.base.specs.Answer.{accepted};
-ghost use Rattle.base.specs.Lent.{old};
+ghost use Rattle.base.specs.Lent.{change, constant};
 ghost use Rattle.scope.specs.Table.{Table};
 ghost use Rattle.scope.specs.Steps.{flag};
 ghost use Rattle.scope.specs.Contract.{given, lent};
@@ -34,10 +34,11 @@ pub extern "C" fn hz_known_map(
     gfrom: u32,
     notes: &mut [u32],
 ) -> HzMapped
-    requires records_value { soundb (given c gu ug sg gs assignment records) ≡ true }
+    requires records_value { soundb (given c gu.old ug.old sg.now gs.now assignment.now records.old) ≡ true }
     requires none_free { NoneFree (free records.old) c.global gfrom }
     ensures { Gives (λ t room. map_of t user sampling room) (plain 2) (result.refusal ∷ result.global ∷ result.notes ∷ []) result.counts
-        (lent c gu ug sg gs assignment records notes) }
+        (lent c (change gu.old gu.new) (change ug.old ug.new) (constant sg.now) (constant gs.now)
+            (constant assignment.now) (change records.old records.new) (change notes.old notes.new)) }
 {
     let r = naming::known_global_from_user(
         c,
@@ -69,11 +70,12 @@ pub extern "C" fn hz_known_new_user(
     gfrom: u32,
     notes: &mut [u32],
 ) -> HzNewMapped
-    requires records_value { soundb (given c gu ug sg gs assignment records) ≡ true }
+    requires records_value { soundb (given c gu.old ug.old sg.now gs.now assignment.now records.old) ≡ true }
     requires all_mapped { AllMapped gu.old c.user ufrom }
     requires none_free { NoneFree (free records.old) c.global gfrom }
     ensures { Gives (λ t room. new_user_of t room) (plain 3) (result.refusal ∷ result.user ∷ result.global ∷ result.notes ∷ []) result.counts
-        (lent c gu ug sg gs assignment records notes) }
+        (lent c (change gu.old gu.new) (change ug.old ug.new) (constant sg.now) (constant gs.now)
+            (constant assignment.now) (change records.old records.new) (change notes.old notes.new)) }
 {
     let r = naming::known_new_user_var(c, gu, ug, sg, gs, assignment, records, ufrom, gfrom, notes);
     new_mapped_out(r, c)
@@ -102,7 +104,7 @@ fn once_out(r: FoundGlobal) -> HzFound
 // that has these lists. Any words may be lent.
 #[unsafe(no_mangle)]
 pub extern "C" fn hz_map_in(gu: &[u32], records: &[u32], user: u32, sampling: bool) -> HzFound
-    ensures at_once { (t : Table) → soundb t ≡ true → t.global_from_user ≡ old gu → t.records ≡ old records
+    ensures at_once { (t : Table) → soundb t ≡ true → t.global_from_user ≡ gu.now → t.records ≡ records.now
         → AtOnce (map_of t user sampling) t (pick result.found (result.value ∷ []) []) }
     ensures value_value { result.refusal ∷ flag result.found ∷ result.value ∷ [] ≡ optional 0 (accepted (pick result.found (result.value ∷ []) [])) }
 {

@@ -1,8 +1,8 @@
 // Pose on a table known to be sound, and where all indices are held already.
 ghost use Rattle.std.specs.Prelude.{◌≡◌, true, [], ◌∷◌, length};
-ghost use Rattle.base.specs.Lent.{old, new, Fills};
+ghost use Rattle.base.specs.Lent.{Fills, change};
 ghost use Rattle.scope.specs.Table.{Table};
-ghost use Rattle.scope.specs.Contract.{given, before, lent};
+ghost use Rattle.scope.specs.Contract.{given, lent};
 ghost use Rattle.scope.specs.Sound.{soundb};
 ghost use Rattle.scope.specs.Cursor.{NoneFree};
 ghost use Rattle.scope.specs.Pose.{pose_of};
@@ -29,13 +29,14 @@ pub extern "C" fn hz_known_pose(
     out: &mut [u32],
     notes: &mut [u32],
 ) -> HzPosed
-    requires records_value { soundb (given c gu ug sg gs assignment records) ≡ true }
+    requires records_value { soundb (given c gu.old ug.old sg.old gs.old assignment.old records.old) ≡ true }
     requires none_free { NoneFree (free records.old) c.global gfrom }
-    ensures gives { Gives (λ t room. pose_of t (old lits) sampling (length (old out)) room) (plain 2)
+    ensures gives { Gives (λ t room. pose_of t lits.now sampling (length out.old) room) (plain 2)
         (result.refusal ∷ result.filled ∷ result.notes ∷ []) result.counts
-        (lent c gu ug sg gs assignment records notes) }
-    ensures out { Fills out 0
-        (pose_of (before c gu ug sg gs assignment records) (old lits) sampling (length (old out)) (length (old notes))).words }
+        (lent c (change gu.old gu.new) (change ug.old ug.new) (change sg.old sg.new) (change gs.old gs.new)
+            (change assignment.old assignment.new) (change records.old records.new) (change notes.old notes.new)) }
+    ensures out { Fills (change out.old out.new) 0
+        (pose_of (given c gu.old ug.old sg.old gs.old assignment.old records.old) lits.now sampling (length out.old) (length notes.old)).words }
 {
     let r = posing::known_solver_from_user_lits(
         c, gu, ug, sg, gs, assignment, records, lits, sampling, gfrom, out, notes,
@@ -54,8 +55,8 @@ pub extern "C" fn hz_pose_in(
     sampling: bool,
     out: &mut [u32],
 ) -> bool
-    ensures { (t : Table) → soundb t ≡ true → t.global_from_user ≡ old gu → t.solver_from_global ≡ old sg → t.records ≡ old records
-        → PosedAtOnce t (old lits) sampling result (old out) (new out) }
+    ensures { (t : Table) → soundb t ≡ true → t.global_from_user ≡ gu.now → t.solver_from_global ≡ sg.now → t.records ≡ records.now
+        → PosedAtOnce t lits.now sampling result out.old out.new }
 {
     ready::pose_in(gu, sg, records, lits, sampling, out)
 }

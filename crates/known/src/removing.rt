@@ -1,5 +1,6 @@
 // Remove and Sweep on a table known to be sound.
 ghost use Rattle.std.specs.Prelude.{◌≡◌, true, [], ◌∷◌};
+ghost use Rattle.base.specs.Lent.{constant, change};
 ghost use Rattle.scope.specs.Contract.{given, lent};
 ghost use Rattle.scope.specs.Sound.{soundb};
 ghost use Rattle.scope.specs.Remove.{remove_of, sweep_of};
@@ -21,9 +22,10 @@ pub extern "C" fn hz_known_remove(
     solver: u32,
     notes: &mut [u32],
 ) -> HzNoted
-    requires { soundb (given c gu ug sg gs assignment records) ≡ true }
+    requires { soundb (given c gu.now ug.now sg.old gs.old assignment.now records.old) ≡ true }
     ensures { Gives (λ t room. remove_of t solver room) (plain 1) (result.refusal ∷ result.notes ∷ []) result.counts
-        (lent c gu ug sg gs assignment records notes) }
+        (lent c (constant gu.now) (constant ug.now) (change sg.old sg.new) (change gs.old gs.new)
+            (constant assignment.now) (change records.old records.new) (change notes.old notes.new)) }
 {
     let r = removal::known_remove_solver_var(
         c,
@@ -51,9 +53,10 @@ pub extern "C" fn hz_known_sweep(
     records: &mut [u32],
     notes: &mut [u32],
 ) -> HzNoted
-    requires { soundb (given c gu ug sg gs assignment records) ≡ true }
+    requires { soundb (given c gu.now ug.now sg.old gs.old assignment.now records.old) ≡ true }
     ensures { Gives (λ t room. sweep_of t room) (plain 1) (result.refusal ∷ result.notes ∷ []) result.counts
-        (lent c gu ug sg gs assignment records notes) }
+        (lent c (constant gu.now) (constant ug.now) (change sg.old sg.new) (change gs.old gs.new)
+            (constant assignment.now) (change records.old records.new) (change notes.old notes.new)) }
 {
     let r = removal::known_sweep(c, gu, ug, sg, gs, assignment, records, notes);
     removed_out(r, c)

@@ -7,7 +7,7 @@ use dimacs::CnfRead;
 
 // The header's number of variables, and how many literals and how many clauses were filled; with refusal 17, the start of the first wrong line.
 #[repr(C)]
-#[derive(Drop)]
+#[derive(Clone, Copy)]
 pub struct HzCnf {
     pub refusal: u32,
     pub place: usize,

@@ -1,12 +1,11 @@
 // The answer of the first step alone.
 ghost use Rattle.std.specs.Prelude.{◌≡◌, [], ◌∷◌};
-ghost use Rattle.base.specs.Lent.{old};
 ghost use Rattle.drat.specs.Filled.{first};
 ghost use Rattle.numbers.specs.Surface.{placed};
 
 // The first step is the `length` bytes from `place` on.
 #[repr(C)]
-#[derive(Drop)]
+#[derive(Clone, Copy)]
 pub struct HzFirst {
     pub refusal: u32,
     pub place: usize,
@@ -15,7 +14,7 @@ pub struct HzFirst {
 
 // The first step's part of the input, an empty one where it is not whole, and the place of its first token.
 pub fn first_out(place: usize, part: &[u8]) -> HzFirst
-    ensures { result.refusal ∷ result.place ∷ result.length ∷ [] ≡ placed place (first place (old part)) }
+    ensures { result.refusal ∷ result.place ∷ result.length ∷ [] ≡ placed place (first place part.now) }
 {
     let length = part.len();
     if length == 0 {

@@ -1,5 +1,7 @@
 // The answers of the C surface on clauses, proofs, CNF files and models: flat structs.
 // How their contracts read: crates/numbers/specs/Flat.antt and Surface.antt.
+#![tactic(auto)]
+
 pub mod cnf;
 pub mod first;
 pub mod modelled;

@@ -9,7 +9,7 @@ use model::Modelled;
 
 // How many global words and how many user literals were filled.
 #[repr(C)]
-#[derive(Drop)]
+#[derive(Clone, Copy)]
 pub struct HzModelled {
     pub refusal: u32,
     pub globals: u32,

@@ -7,7 +7,7 @@ use drat::Read;
 
 // How many literals and how many steps were filled; with refusal 13, the start of the first step that is not whole.
 #[repr(C)]
-#[derive(Drop)]
+#[derive(Clone, Copy)]
 pub struct HzReading {
     pub refusal: u32,
     pub place: usize,

@@ -9,7 +9,7 @@ use steps::rename::Renamed;
 
 // The step as given, and how many literals and hashes were filled.
 #[repr(C)]
-#[derive(Drop)]
+#[derive(Clone, Copy)]
 pub struct HzRenamed {
     pub refusal: u32,
     pub step: HzStep,
@@ -18,8 +18,8 @@ pub struct HzRenamed {
 }
 
 pub fn renamed_out(r: Renamed, step: HzStep) -> HzRenamed
-    ensures fact_1 { ((c : Counts) → Numbered (renamed r c) stepless (result.refusal ∷ result.lits ∷ result.hashes ∷ []) c) }
-    ensures fact_2 { result.step ≡ step }
+    ensures numbered { ((c : Counts) → Numbered (renamed r c) stepless (result.refusal ∷ result.lits ∷ result.hashes ∷ []) c) }
+    ensures step { result.step ≡ step }
 {
     match r {
         Renamed::Done(n, m, _) => HzRenamed {

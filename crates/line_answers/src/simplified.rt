@@ -12,7 +12,7 @@ use simplify::Reduced;
 
 // What was made of the clause, how many literals were filled, the add step's flag, and how many bytes were filled.
 #[repr(C)]
-#[derive(Drop)]
+#[derive(Clone, Copy)]
 pub struct HzSimplified {
     pub refusal: u32,
     pub made: u32,

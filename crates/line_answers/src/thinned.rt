@@ -9,7 +9,7 @@ use binary::Thinned;
 
 // How many words of lists were filled, half the number of their entries, and how many bytes were filled.
 #[repr(C)]
-#[derive(Drop)]
+#[derive(Clone, Copy)]
 pub struct HzThinned {
     pub refusal: u32,
     pub words: usize,

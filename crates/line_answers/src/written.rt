@@ -9,7 +9,7 @@ use steps::write::Recorded;
 
 // How many bytes were filled; of `hz_write_clause`, the place after them.
 #[repr(C)]
-#[derive(Drop)]
+#[derive(Clone, Copy)]
 pub struct HzWritten {
     pub refusal: u32,
     pub bytes: usize,

@@ -1,7 +1,9 @@
 // The mapping of users inside a call: which global a user gets, and the gap below it.
+#![tactic(auto)]
+
 ghost use Rattle.std.specs.Prelude.{◌≡◌, ◌∷◌, [], ◌+◌, ◌^◌, ◌≤◌, ◌<◌, length, get_or, set};
 ghost use Rattle.base.specs.Bounded.{least};
-ghost use Rattle.base.specs.Lent.{old, new, Fills};
+ghost use Rattle.base.specs.Lent.{Fills, change};
 ghost use Rattle.scope.specs.Table.{map_counts};
 ghost use Rattle.scope.specs.Cursor.{NoneFree};
 ghost use Rattle.mapping.specs.Parts.{free, free_for};
@@ -11,7 +13,7 @@ use scope::{Counts, Global, Note, User};
 use table::{FoundGlobal, global_of, put_note};
 
 // A global and the cursor of free globals after its search.
-#[derive(Drop)]
+#[derive(Clone, Copy)]
 pub struct Taken {
     pub global: Global,
     pub from: u32,
@@ -19,7 +21,7 @@ pub struct Taken {
 
 // A user's global, with what a mapping changes besides: the watermarks of users and of globals, how many globals are undeleted, the cursor
 // of free globals and the place in the notes.
-#[derive(Drop)]
+#[derive(Clone, Copy)]
 pub struct Mapped {
     pub users: u32,
     pub globals: u32,
@@ -33,7 +35,7 @@ pub struct Mapped {
 fn least_deleted(records: &[u32], mark: u32, from: u32) -> u32
     requires mark_in_bounds { mark ≤ length records.now }
     requires none_free { NoneFree (free records.now) mark from }
-    ensures { result ≡ least mark (free (old records)) }
+    ensures { result ≡ least mark (free records.now) }
 {
     let mut i = from;
     while i < mark {
@@ -50,8 +52,8 @@ fn global_for(records: &[u32], mark: u32, user: User, from: u32) -> Taken
     requires mark_in_bounds { mark ≤ length records.now }
     requires user_in_bounds { user.0 < length records.now }
     requires none_free { NoneFree (free records.now) mark from }
-    ensures global_value { result.global.0 ≡ free_for (old records) mark user.0 }
-    ensures none_free_2 { NoneFree (free (old records)) mark result.from }
+    ensures global_value { result.global.0 ≡ free_for records.now mark user.0 }
+    ensures none_free_2 { NoneFree (free records.now) mark result.from }
 {
     let u = user.0;
     if (u == mark) | (36 <= records[u as usize]) {
@@ -94,23 +96,23 @@ fn map_one(
     requires g_in_bounds_3 { let g = free_for records.old globals user.0 in
         g < capacity }
     requires at_in_bounds { at + 3 ≤ length notes.old }
-    ensures global_value_1 { let g = free_for (old records) globals user.0 in
+    ensures global_value_1 { let g = free_for records.old globals user.0 in
         result.global.0 ≡ g }
-    ensures global_value_2 { let g = free_for (old records) globals user.0 in
+    ensures global_value_2 { let g = free_for records.old globals user.0 in
         ((x : Rest) → counts_with capacity result.users result.globals result.used x
-        ≡ map_counts (counts_with capacity users globals used x) user.0 g (get_or (old records) g 47)) }
-    ensures global_value_3 { let g = free_for (old records) globals user.0 in
-        NoneFree (free (old records)) globals result.from }
-    ensures global_value_4 { let g = free_for (old records) globals user.0 in
+        ≡ map_counts (counts_with capacity users globals used x) user.0 g (get_or records.old g 47)) }
+    ensures global_value_3 { let g = free_for records.old globals user.0 in
+        NoneFree (free records.old) globals result.from }
+    ensures global_value_4 { let g = free_for records.old globals user.0 in
         result.at ≡ at + 3 }
-    ensures gu_value_1 { let g = free_for (old records) globals user.0 in
-        new gu ≡ set (old gu) user.0 (g + 1) }
-    ensures gu_value_2 { let g = free_for (old records) globals user.0 in
-        new ug ≡ set (old ug) g (user.0 + 1) }
-    ensures gu_value_3 { let g = free_for (old records) globals user.0 in
-        new records ≡ set (old records) g 9 }
-    ensures gu_value_4 { let g = free_for (old records) globals user.0 in
-        Fills notes at (0 ∷ g ∷ (user.0 + 1) ∷ []) }
+    ensures gu_value_1 { let g = free_for records.old globals user.0 in
+        gu.new ≡ set gu.old user.0 (g + 1) }
+    ensures gu_value_2 { let g = free_for records.old globals user.0 in
+        ug.new ≡ set ug.old g (user.0 + 1) }
+    ensures gu_value_3 { let g = free_for records.old globals user.0 in
+        records.new ≡ set records.old g 9 }
+    ensures gu_value_4 { let g = free_for records.old globals user.0 in
+        Fills (change notes.old notes.new) at (0 ∷ g ∷ (user.0 + 1) ∷ []) }
 {
     let t = global_for(records, globals, user, from);
     let global = t.global;
@@ -154,9 +156,9 @@ pub fn map_last(
     requires up_asks { UpAsks capacity users globals used gu.old ug.old records.old user.0 at (length notes.old) }
     requires user_le_users { user.0 ≤ users }
     requires none_free { NoneFree (free records.old) globals from }
-    ensures up_leaves { UpLeaves capacity users globals used (old gu) (old ug) (old records) user.0 at
-        result (new gu) (new ug) (new records) (old notes) (new notes) }
-    ensures none_free_2 { NoneFree (free (new records)) result.globals result.from }
+    ensures up_leaves { UpLeaves capacity users globals used gu.old ug.old records.old user.0 at
+        result gu.new ug.new records.new notes.old notes.new }
+    ensures none_free_2 { NoneFree (free records.new) result.globals result.from }
 {
     let FoundGlobal::At(global) = global_of(gu, user) else {
         return map_one(
@@ -189,9 +191,9 @@ pub fn map_up(
 ) -> Mapped
     requires up_asks { UpAsks capacity users globals used gu.old ug.old records.old user.0 at (length notes.old) }
     requires none_free { NoneFree (free records.old) globals from }
-    ensures up_leaves { UpLeaves capacity users globals used (old gu) (old ug) (old records) user.0 at
-        result (new gu) (new ug) (new records) (old notes) (new notes) }
-    ensures none_free_2 { NoneFree (free (new records)) result.globals result.from }
+    ensures up_leaves { UpLeaves capacity users globals used gu.old ug.old records.old user.0 at
+        result gu.new ug.new records.new notes.old notes.new }
+    ensures none_free_2 { NoneFree (free records.new) result.globals result.from }
 {
     let mut a = users;
     let mut b = globals;
@@ -228,9 +230,9 @@ pub fn map_user(
 ) -> Mapped
     requires up_asks { UpAsks capacity users globals used gu.old ug.old records.old user.0 at (length notes.old) }
     requires none_free { NoneFree (free records.old) globals from }
-    ensures up_leaves { UpLeaves capacity users globals used (old gu) (old ug) (old records) user.0 at
-        result (new gu) (new ug) (new records) (old notes) (new notes) }
-    ensures none_free_2 { NoneFree (free (new records)) result.globals result.from }
+    ensures up_leaves { UpLeaves capacity users globals used gu.old ug.old records.old user.0 at
+        result gu.new ug.new records.new notes.old notes.new }
+    ensures none_free_2 { NoneFree (free records.new) result.globals result.from }
 {
     if users < user.0 {
         return map_up(

@@ -1,6 +1,8 @@
 // Marks and Assign (document 01; `var_data_solver_mut`, `assign_lit`). How the contracts read: crates/scope/specs/Contract.antt.
+#![tactic(auto)]
+
 ghost use Rattle.std.specs.Prelude.{◌≡◌, true, [], ◌≤◌};
-ghost use Rattle.base.specs.Lent.{old, new};
+ghost use Rattle.base.specs.Lent.{change, constant};
 ghost use Rattle.scope.specs.Table.{Table};
 ghost use Rattle.scope.specs.Sound.{soundb};
 ghost use Rattle.scope.specs.Contract.{quiet, Does, Meets};
@@ -11,7 +13,7 @@ use scope::{Counts, Mark, Solver};
 use table::{FoundGlobal, held_refusal, holder, is_sound};
 
 // A change of the table alone is made, or refused.
-#[derive(Drop)]
+#[derive(Clone, Copy)]
 pub enum Changed {
     Done,
     Refused(u32),
@@ -43,7 +45,8 @@ pub fn mark(
     solver: Solver,
 ) -> Changed
     ensures { Meets (λ t room. mark_of t mark solver.0) (changed result c)
-        (quiet c gu ug sg gs assignment records) }
+        (quiet c (constant gu.now) (constant ug.now) (constant sg.now) (constant gs.now)
+            (constant assignment.now) (change records.old records.new)) }
 {
     if !is_sound(c, gu, ug, sg, gs, assignment, records) {
         return Changed::Refused(1);
@@ -54,8 +57,8 @@ pub fn mark(
 // Marks in the two lists that they touch, of a table known to be sound, which is not tested: any words may be lent.
 // The same definition and answer, of every sound table that has these lists.
 pub fn mark_in(gs: &[u32], records: &mut [u32], mark: Mark, solver: Solver) -> Changed
-    ensures { (t : Table) → soundb t ≡ true → t.global_from_solver ≡ old gs → t.records ≡ old records
-        → Does (mark_of t mark solver.0) (changed result t.counts) (with_records t (new records)) [] [] }
+    ensures { (t : Table) → soundb t ≡ true → t.global_from_solver ≡ gs.now → t.records ≡ records.old
+        → Does (mark_of t mark solver.0) (changed result t.counts) (with_records t records.new) [] [] }
 {
     let FoundGlobal::At(global) = holder(gs, solver) else {
         return Changed::Refused(held_refusal(gs, solver));
@@ -85,7 +88,8 @@ pub fn assign_lit(
     lit: u32,
 ) -> Changed
     ensures { Meets (λ t room. assign_of t lit) (changed result c)
-        (quiet c gu ug sg gs assignment records) }
+        (quiet c (constant gu.now) (constant ug.now) (constant sg.now) (constant gs.now)
+            (change assignment.old assignment.new) (constant records.now)) }
 {
     if !is_sound(c, gu, ug, sg, gs, assignment, records) {
         return Changed::Refused(1);
@@ -96,8 +100,8 @@ pub fn assign_lit(
 // Assign in the two lists that it touches, of a table known to be sound, which is not tested: any words may be lent.
 // The same definition and answer, of every sound table that has these lists.
 pub fn assign_in(gs: &[u32], assignment: &mut [u32], lit: u32) -> Changed
-    ensures { (t : Table) → soundb t ≡ true → t.global_from_solver ≡ old gs → t.assignment ≡ old assignment
-        → Does (assign_of t lit) (changed result t.counts) (with_values t (new assignment)) [] [] }
+    ensures { (t : Table) → soundb t ≡ true → t.global_from_solver ≡ gs.now → t.assignment ≡ assignment.old
+        → Does (assign_of t lit) (changed result t.counts) (with_values t assignment.new) [] [] }
 {
     let FoundGlobal::At(_) = holder(gs, Solver(lit / 2)) else {
         return Changed::Refused(held_refusal(gs, Solver(lit / 2)));

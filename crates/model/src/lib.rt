@@ -1,8 +1,10 @@
 // Model: the value of every global, and the literals of the users that have one (src/model.rs, `model` of src/solver.rs).
+#![tactic(auto)]
+
 ghost use Rattle.std.specs.Prelude.{◌≡◌, true, [], ℕ, ◌+◌, ◌≤◌, ◌<◌, length, get_or};
-ghost use Rattle.base.specs.Lent.{old, new, Fills};
+ghost use Rattle.base.specs.Lent.{Fills, change};
 ghost use Rattle.scope.specs.Sound.{soundb};
-ghost use Rattle.scope.specs.Contract.{given, before, quiet, Meets};
+ghost use Rattle.scope.specs.Contract.{given, Meets, reads};
 ghost use Rattle.scope.specs.Models.{global_model, user_model, model_refusal, model_of};
 ghost use Rattle.model.specs.Values.{value_of, user_value, Readable, read_table, OfSound};
 ghost use Rattle.model.specs.Answers.{modelled};
@@ -13,7 +15,7 @@ use table::is_sound;
 // The value of a global, coded like the assignment.
 fn global_value(sg: &[u32], assignment: &[u32], records: &[u32], global: Global) -> u32
     requires { Readable sg.now assignment.now records.now global.0 }
-    ensures value { result ≡ value_of (old sg) (old assignment) (old records) global.0 }
+    ensures value { result ≡ value_of sg.now assignment.now records.now global.0 }
     ensures upper_bound { result ≤ 2 }
 {
     let g = global.0 as usize;
@@ -34,7 +36,7 @@ fn global_value(sg: &[u32], assignment: &[u32], records: &[u32], global: Global)
 fn user_value(gu: &[u32], sg: &[u32], assignment: &[u32], records: &[u32], user: User) -> u32
     requires user_in_bounds { user.0 < length gu.now }
     requires by_index { (g : ℕ) → get_or gu.now user.0 0 ≡ g + 1 → Readable sg.now assignment.now records.now g }
-    ensures value { result ≡ user_value (old gu) (old sg) (old assignment) (old records) user.0 }
+    ensures value { result ≡ user_value gu.now sg.now assignment.now records.now user.0 }
     ensures upper_bound { result ≤ 2 }
 {
     let w = gu[user.0 as usize];
@@ -47,7 +49,7 @@ fn user_value(gu: &[u32], sg: &[u32], assignment: &[u32], records: &[u32], user:
 // How many users have a value.
 fn count_users(c: Counts, gu: &[u32], sg: &[u32], assignment: &[u32], records: &[u32]) -> u32
     requires { OfSound c gu.now sg.now assignment.now records.now }
-    ensures { result ≡ length (user_model (read_table c (old gu) (old sg) (old assignment) (old records))) }
+    ensures { result ≡ length (user_model (read_table c gu.now sg.now assignment.now records.now)) }
 {
     let mut k: u32 = 0;
     let mut u: u32 = 0;
@@ -71,7 +73,7 @@ fn reconstruct_global_model(
 )
     requires by_index { (g : ℕ) → g < c.global → Readable sg.now assignment.now records.now g }
     requires global_in_bounds { c.global ≤ length globals.old }
-    ensures { Fills globals 0 (global_model (read_table c [] (old sg) (old assignment) (old records))) }
+    ensures { Fills (change globals.old globals.new) 0 (global_model (read_table c [] sg.now assignment.now records.now)) }
 {
     let mut g: u32 = 0;
     while g < c.global {
@@ -91,8 +93,8 @@ fn fill_users(
 ) -> u32
     requires of_sound { OfSound c gu.now sg.now assignment.now records.now }
     requires records_in_bounds { length (user_model (read_table c gu.now sg.now assignment.now records.now)) ≤ length users.old }
-    ensures value { result ≡ length (user_model (read_table c (old gu) (old sg) (old assignment) (old records))) }
-    ensures fills { Fills users 0 (user_model (read_table c (old gu) (old sg) (old assignment) (old records))) }
+    ensures value { result ≡ length (user_model (read_table c gu.now sg.now assignment.now records.now)) }
+    ensures fills { Fills (change users.old users.new) 0 (user_model (read_table c gu.now sg.now assignment.now records.now)) }
 {
     let mut k: u32 = 0;
     let mut u: u32 = 0;
@@ -119,8 +121,8 @@ fn model_refusal(
     globals: usize,
     users: usize,
 ) -> u32
-    requires { soundb (given c gu ug sg gs assignment records) ≡ true }
-    ensures { result ≡ model_refusal (before c gu ug sg gs assignment records) globals users }
+    requires { soundb (given c gu.now ug.now sg.now gs.now assignment.now records.now) ≡ true }
+    ensures { result ≡ model_refusal (given c gu.now ug.now sg.now gs.now assignment.now records.now) globals users }
 {
     if globals < c.global as usize {
         return 2;
@@ -137,7 +139,7 @@ fn model_refusal(
 }
 
 // How many global words and how many user literals were filled.
-#[derive(Drop)]
+#[derive(Clone, Copy)]
 pub enum Modelled {
     Done(u32, u32),
     Refused(u32),
@@ -156,12 +158,12 @@ pub fn model(
     globals: &mut [u32],
     users: &mut [u32],
 ) -> Modelled
-    ensures meets { Meets (λ t room. model_of t (length (old globals)) (length (old users))) (modelled result c)
-        (quiet c gu ug sg gs assignment records) }
-    ensures globals { Fills globals 0
-        (model_of (before c gu ug sg gs assignment records) (length (old globals)) (length (old users))).words }
-    ensures users { Fills users 0
-        (model_of (before c gu ug sg gs assignment records) (length (old globals)) (length (old users))).more }
+    ensures meets { Meets (λ t room. model_of t (length globals.old) (length users.old)) (modelled result c)
+        (reads c gu.now ug.now sg.now gs.now assignment.now records.now) }
+    ensures globals { Fills (change globals.old globals.new) 0
+        (model_of (given c gu.now ug.now sg.now gs.now assignment.now records.now) (length globals.old) (length users.old)).words }
+    ensures users { Fills (change users.old users.new) 0
+        (model_of (given c gu.now ug.now sg.now gs.now assignment.now records.now) (length globals.old) (length users.old)).more }
 {
     if !is_sound(c, gu, ug, sg, gs, assignment, records) {
         return Modelled::Refused(1);
@@ -182,13 +184,13 @@ pub fn known_model(
     globals: &mut [u32],
     users: &mut [u32],
 ) -> Modelled
-    requires { soundb (given c gu ug sg gs assignment records) ≡ true }
-    ensures meets { Meets (λ t room. model_of t (length (old globals)) (length (old users))) (modelled result c)
-        (quiet c gu ug sg gs assignment records) }
-    ensures globals { Fills globals 0
-        (model_of (before c gu ug sg gs assignment records) (length (old globals)) (length (old users))).words }
-    ensures users { Fills users 0
-        (model_of (before c gu ug sg gs assignment records) (length (old globals)) (length (old users))).more }
+    requires { soundb (given c gu.now ug.now sg.now gs.now assignment.now records.now) ≡ true }
+    ensures meets { Meets (λ t room. model_of t (length globals.old) (length users.old)) (modelled result c)
+        (reads c gu.now ug.now sg.now gs.now assignment.now records.now) }
+    ensures globals { Fills (change globals.old globals.new) 0
+        (model_of (given c gu.now ug.now sg.now gs.now assignment.now records.now) (length globals.old) (length users.old)).words }
+    ensures users { Fills (change users.old users.new) 0
+        (model_of (given c gu.now ug.now sg.now gs.now assignment.now records.now) (length globals.old) (length users.old)).more }
 {
     let n = model_refusal(
         c,

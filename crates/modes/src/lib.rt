@@ -1,9 +1,11 @@
 // Set mode and Observe. How the contracts read: crates/scope/specs/Contract.antt, and inside a call crates/changes/specs/Leaves.antt.
+#![tactic(auto)]
+
 ghost use Rattle.std.specs.Prelude.{◌≡◌, true, ◌&&◌, not, List, ◌∷◌, [], ℕ, ◌≤◌, ◌<◌, eqb, length, get_or, set};
 ghost use Rattle.base.specs.Choice.{pick};
 ghost use Rattle.base.specs.Bounded.{all_below, count};
-ghost use Rattle.base.specs.Lent.{old, new, Fills};
-ghost use Rattle.scope.specs.Contract.{given, before, lent, Does, Meets};
+ghost use Rattle.base.specs.Lent.{Fills, change, constant};
+ghost use Rattle.scope.specs.Contract.{given, lent, Does, Meets};
 ghost use Rattle.scope.specs.Sound.{soundb};
 ghost use Rattle.scope.specs.Table.{table_of, assumed_of, with_mode, least_free};
 ghost use Rattle.scope.specs.Outcome.{noting};
@@ -20,7 +22,7 @@ use scope::{Counts, Global, Note, SamplingMode, User, least_free};
 use table::{is_sound, put_note};
 
 // The counts after, and how many notes were made, with the user granted, if one was; or the number of the refusal.
-#[derive(Drop)]
+#[derive(Clone, Copy)]
 pub enum ModeSet {
     Done(Counts, u32),
     Shown(User, Counts, u32),
@@ -28,14 +30,14 @@ pub enum ModeSet {
 }
 
 // How many users were filled, the counts after, and how many notes were made; or the number of the refusal.
-#[derive(Drop)]
+#[derive(Clone, Copy)]
 pub enum Observed {
     Done(u32, Counts, u32),
     Refused(u32),
 }
 
 // The counts after a global was shown, its user, and the place after the notes.
-#[derive(Drop)]
+#[derive(Clone, Copy)]
 pub struct Revealed {
     pub counts: Counts,
     pub user: User,
@@ -65,9 +67,9 @@ fn show(
     notes: &mut [u32],
 ) -> Revealed
     requires { ShowAsks c gu.old ug.old records.old global.0 m from at (length notes.old) }
-    ensures leaves { (x : Solvers) → Leaves (show global.0 m (table_with c (old gu) (old ug) (old records) x)) at result.at
-        (table_with result.counts (new gu) (new ug) (new records) x) (old notes) (new notes) }
-    ensures user_value { result.user.0 ≡ least_free (old gu) c.user }
+    ensures leaves { (x : Solvers) → Leaves (show global.0 m (table_with c gu.old ug.old records.old x)) at result.at
+        (table_with result.counts gu.new ug.new records.new x) notes.old notes.new }
+    ensures user_value { result.user.0 ≡ least_free gu.old c.user }
 {
     let g = global.0 as usize;
     let next = at + 3;
@@ -96,8 +98,8 @@ fn hide(
     notes: &mut [u32],
 ) -> Passed
     requires { HideAsks c gu.old ug.old sg.now records.old global.0 at (length notes.old) }
-    ensures { (gs a : List ℕ) → Leaves (hide global.0 (table_of c (old gu) (old ug) (old sg) gs a (old records))) at result.at
-        (table_of result.counts (new gu) (new ug) (old sg) gs a (new records)) (old notes) (new notes) }
+    ensures { (gs a : List ℕ) → Leaves (hide global.0 (table_of c gu.old ug.old sg.now gs a records.old)) at result.at
+        (table_of result.counts gu.new ug.new sg.now gs a records.new) notes.old notes.new }
 {
     let g = global.0 as usize;
     let next = at + 3;
@@ -115,8 +117,8 @@ fn change(records: &mut [u32], global: Global, m: u32, notes: &mut [u32])
     requires global_bound { get_or records.old global.0 0 < 36 }
     requires m_bound { m < 3 }
     requires in_bounds { 3 ≤ length notes.old }
-    ensures records_value { new records ≡ set (old records) global.0 (with_mode (get_or (old records) global.0 0) m) }
-    ensures fills { Fills notes 0 (3 ∷ global.0 ∷ pick (eqb m 0) 1 0 ∷ []) }
+    ensures records_value { records.new ≡ set records.old global.0 (with_mode (get_or records.old global.0 0) m) }
+    ensures fills { Fills (change notes.old notes.new) 0 (3 ∷ global.0 ∷ pick (eqb m 0) 1 0 ∷ []) }
 {
     let g = global.0 as usize;
     let w = records[g];
@@ -156,8 +158,8 @@ fn set_mode_refusal(
     mode: SamplingMode,
     room: usize,
 ) -> u32
-    requires { soundb (given c gu ug sg gs assignment records) ≡ true }
-    ensures { result ≡ set_mode_refusal (before c gu ug sg gs assignment records) global.0 mode room }
+    requires { soundb (given c gu.now ug.now sg.now gs.now assignment.now records.now) ≡ true }
+    ensures { result ≡ set_mode_refusal (given c gu.now ug.now sg.now gs.now assignment.now records.now) global.0 mode room }
 {
     if c.global <= global.0 {
         return 3;
@@ -191,8 +193,8 @@ fn set_mode(
     notes: &mut [u32],
 ) -> ModeSet
     requires { SetAsks c gu.old ug.old sg.now records.old global.0 m from (length notes.old) }
-    ensures { (gs a : List ℕ) → Does (noting (λ us. us) (set_mode global.0 m (table_of c (old gu) (old ug) (old sg) gs a (old records)))) (mode_set result c)
-        (table_of (mode_set result c).counts (new gu) (new ug) (old sg) gs a (new records)) (old notes) (new notes) }
+    ensures { (gs a : List ℕ) → Does (noting (λ us. us) (set_mode global.0 m (table_of c gu.old ug.old sg.now gs a records.old))) (mode_set result c)
+        (table_of (mode_set result c).counts gu.new ug.new sg.now gs a records.new) notes.old notes.new }
 {
     let was = records[global.0 as usize] % 3;
     if was == m {
@@ -228,7 +230,8 @@ pub fn set_sampling_mode(
     notes: &mut [u32],
 ) -> ModeSet
     ensures { Meets (λ t room. set_mode_of t global.0 mode room) (mode_set result c)
-        (lent c gu ug sg gs assignment records notes) }
+        (lent c (change gu.old gu.new) (change ug.old ug.new) (constant sg.now) (constant gs.now)
+            (constant assignment.now) (change records.old records.new) (change notes.old notes.new)) }
 {
     if !is_sound(c, gu, ug, sg, gs, assignment, records) {
         return ModeSet::Refused(1);
@@ -253,10 +256,11 @@ pub fn known_set_sampling_mode(
     ufrom: u32,
     notes: &mut [u32],
 ) -> ModeSet
-    requires records_value { soundb (given c gu ug sg gs assignment records) ≡ true }
+    requires records_value { soundb (given c gu.old ug.old sg.now gs.now assignment.now records.old) ≡ true }
     requires all_mapped { AllMapped gu.old c.user ufrom }
     ensures { Meets (λ t room. set_mode_of t global.0 mode room) (mode_set result c)
-        (lent c gu ug sg gs assignment records notes) }
+        (lent c (change gu.old gu.new) (change ug.old ug.new) (constant sg.now) (constant gs.now)
+            (constant assignment.now) (change records.old records.new) (change notes.old notes.new)) }
 {
     let n = set_mode_refusal(
         c,
@@ -287,7 +291,7 @@ fn is_hidden(w: u32) -> bool
 // No hidden global is assumed. It does not stop at one, so that several are tested at a time.
 fn none_assumed(records: &[u32], mark: u32) -> bool
     requires { mark ≤ length records.now }
-    ensures { result ≡ all_below mark (λ g. not (is_hidden (get_or (old records) g 47) && eqb (assumed_of (get_or (old records) g 47)) 1)) }
+    ensures { result ≡ all_below mark (λ g. not (is_hidden (get_or records.now g 47) && eqb (assumed_of (get_or records.now g 47)) 1)) }
 {
     let mut ok = true;
     let mut g: u32 = 0;
@@ -311,7 +315,7 @@ fn hidden_word(w: u32) -> u32
 // How many globals are hidden.
 fn count_hidden(records: &[u32], mark: u32) -> u32
     requires { mark ≤ length records.now }
-    ensures { result ≡ count mark (λ g. is_hidden (get_or (old records) g 47)) }
+    ensures { result ≡ count mark (λ g. is_hidden (get_or records.now g 47)) }
 {
     let mut n: u32 = 0;
     let mut g: u32 = 0;
@@ -335,9 +339,9 @@ fn observe_refusal(
     outs: usize,
     room: usize,
 ) -> u32
-    requires records_value { soundb (given c gu ug sg gs assignment records) ≡ true }
+    requires records_value { soundb (given c gu.now ug.now sg.now gs.now assignment.now records.now) ≡ true }
     requires hidden_value { hidden ≡ count c.global (λ g. is_hidden (get_or records.now g 47)) }
-    ensures { result ≡ observe_refusal (before c gu ug sg gs assignment records) outs room }
+    ensures { result ≡ observe_refusal (given c gu.now ug.now sg.now gs.now assignment.now records.now) outs room }
 {
     if !none_assumed(records, c.global) {
         return 7;
@@ -350,7 +354,7 @@ fn observe_refusal(
 }
 
 // After a global was observed: the counts, the cursor below which every user index is mapped, how many users were filled, and the place after the notes.
-#[derive(Drop)]
+#[derive(Clone, Copy)]
 pub struct ObservedTo {
     pub counts: Counts,
     pub from: u32,
@@ -372,11 +376,11 @@ fn observe_one(
     notes: &mut [u32],
 ) -> ObservedTo
     requires { ObserveAsks c gu.old ug.old records.old global.0 from filled (length users.old) at (length notes.old) }
-    ensures leaves { (x : Solvers) → Leaves (observe_one global.0 (table_with c (old gu) (old ug) (old records) x)) at result.at
-        (table_with result.counts (new gu) (new ug) (new records) x) (old notes) (new notes) }
-    ensures users_filled { (x : Solvers) → UsersFilled (observe_one global.0 (table_with c (old gu) (old ug) (old records) x)) filled result.filled
-        (old users) (new users) }
-    ensures all_mapped { AllMapped (new gu) result.counts.user result.from }
+    ensures leaves { (x : Solvers) → Leaves (observe_one global.0 (table_with c gu.old ug.old records.old x)) at result.at
+        (table_with result.counts gu.new ug.new records.new x) notes.old notes.new }
+    ensures users_filled { (x : Solvers) → UsersFilled (observe_one global.0 (table_with c gu.old ug.old records.old x)) filled result.filled
+        users.old users.new }
+    ensures all_mapped { AllMapped gu.new result.counts.user result.from }
 {
     if !is_hidden(records[global.0 as usize]) {
         return ObservedTo {
@@ -410,9 +414,9 @@ fn observe_all(
     notes: &mut [u32],
 ) -> ObservedTo
     requires { ObserveAllAsks c gu.old ug.old records.old from (length users.old) (length notes.old) }
-    ensures leaves { (x : Solvers) → Leaves (observe (table_with c (old gu) (old ug) (old records) x)) 0 result.at
-        (table_with result.counts (new gu) (new ug) (new records) x) (old notes) (new notes) }
-    ensures users_filled { (x : Solvers) → UsersFilled (observe (table_with c (old gu) (old ug) (old records) x)) 0 result.filled (old users) (new users) }
+    ensures leaves { (x : Solvers) → Leaves (observe (table_with c gu.old ug.old records.old x)) 0 result.at
+        (table_with result.counts gu.new ug.new records.new x) notes.old notes.new }
+    ensures users_filled { (x : Solvers) → UsersFilled (observe (table_with c gu.old ug.old records.old x)) 0 result.filled users.old users.new }
 {
     let last = c.global;
     let mut k = ObservedTo {
@@ -454,9 +458,10 @@ pub fn observe_internal_vars(
     users: &mut [u32],
     notes: &mut [u32],
 ) -> Observed
-    ensures meets { Meets (λ t room. observe_of t (length (old users)) room) (observed result c)
-        (lent c gu ug sg gs assignment records notes) }
-    ensures out { Fills users 0 (observe_of (before c gu ug sg gs assignment records) (length (old users)) (length (old notes))).words }
+    ensures meets { Meets (λ t room. observe_of t (length users.old) room) (observed result c)
+        (lent c (change gu.old gu.new) (change ug.old ug.new) (constant sg.now) (constant gs.now)
+            (constant assignment.now) (change records.old records.new) (change notes.old notes.new)) }
+    ensures out { Fills (change users.old users.new) 0 (observe_of (given c gu.old ug.old sg.now gs.now assignment.now records.old) (length users.old) (length notes.old)).words }
 {
     if !is_sound(c, gu, ug, sg, gs, assignment, records) {
         return Observed::Refused(1);
@@ -478,11 +483,12 @@ pub fn known_observe_internal_vars(
     users: &mut [u32],
     notes: &mut [u32],
 ) -> Observed
-    requires records_value { soundb (given c gu ug sg gs assignment records) ≡ true }
+    requires records_value { soundb (given c gu.old ug.old sg.now gs.now assignment.now records.old) ≡ true }
     requires all_mapped { AllMapped gu.old c.user ufrom }
-    ensures meets { Meets (λ t room. observe_of t (length (old users)) room) (observed result c)
-        (lent c gu ug sg gs assignment records notes) }
-    ensures out { Fills users 0 (observe_of (before c gu ug sg gs assignment records) (length (old users)) (length (old notes))).words }
+    ensures meets { Meets (λ t room. observe_of t (length users.old) room) (observed result c)
+        (lent c (change gu.old gu.new) (change ug.old ug.new) (constant sg.now) (constant gs.now)
+            (constant assignment.now) (change records.old records.new) (change notes.old notes.new)) }
+    ensures out { Fills (change users.old users.new) 0 (observe_of (given c gu.old ug.old sg.now gs.now assignment.now records.old) (length users.old) (length notes.old)).words }
 {
     let hidden = count_hidden(records, c.global);
     if hidden == 0 {

@@ -1,8 +1,10 @@
 // Map and New user. How the contracts read: crates/scope/specs/Contract.antt.
+#![tactic(auto)]
+
 ghost use Rattle.std.specs.Prelude.{◌≡◌, true, ◌+◌, ◌-◌, ◌<◌, length, get_or};
 ghost use Rattle.base.specs.Bounded.{least};
-ghost use Rattle.base.specs.Lent.{old};
-ghost use Rattle.scope.specs.Contract.{given, before, lent, Meets};
+ghost use Rattle.base.specs.Lent.{change, constant};
+ghost use Rattle.scope.specs.Contract.{given, lent, Meets};
 ghost use Rattle.scope.specs.Table.{Table, word};
 ghost use Rattle.scope.specs.Map.{map_refusal, map_of, new_user_refusal, new_user_of};
 ghost use Rattle.scope.specs.Sound.{soundb};
@@ -17,14 +19,14 @@ use scope::{Counts, Global, User, least_free};
 use table::{FoundGlobal, global_of, is_sound};
 
 // The answer of Map: the global, the counts and how many notes were written.
-#[derive(Drop)]
+#[derive(Clone, Copy)]
 pub enum UserMapped {
     Done(Global, Counts, u32),
     Refused(u32),
 }
 
 // The answer of New user: the user, its global, the counts and how many notes were written.
-#[derive(Drop)]
+#[derive(Clone, Copy)]
 pub enum NewUser {
     Done(User, Global, Counts, u32),
     Refused(u32),
@@ -33,7 +35,7 @@ pub enum NewUser {
 // The user has a global, and that is not Sample.
 pub fn is_unsampled(gu: &[u32], records: &[u32], user: User) -> bool
     requires { MapBelow gu.now (length records.now) }
-    ensures { result ≡ is_unsampled (old gu) (old records) user.0 }
+    ensures { result ≡ is_unsampled gu.now records.now user.0 }
 {
     let FoundGlobal::At(g) = global_of(gu, user) else {
         return false;
@@ -55,7 +57,7 @@ fn gap(mark: u32, user: User) -> u32
 // How many users are to be mapped for a user, the gap included.
 fn to_map(gu: &[u32], mark: u32, user: User) -> u32
     requires { user.0 < 4096 }
-    ensures { result ≡ word (user.0 - mark + 1) (λ g. 0) (get_or (old gu) user.0 0) }
+    ensures { result ≡ word (user.0 - mark + 1) (λ g. 0) (get_or gu.now user.0 0) }
 {
     let FoundGlobal::At(_) = global_of(gu, user) else {
         return gap(mark, user);
@@ -76,8 +78,8 @@ fn map_refusal(
     sampling: bool,
     room: usize,
 ) -> u32
-    requires { soundb (given c gu ug sg gs assignment records) ≡ true }
-    ensures { result ≡ map_refusal (before c gu ug sg gs assignment records) user.0 sampling room }
+    requires { soundb (given c gu.now ug.now sg.now gs.now assignment.now records.now) ≡ true }
+    ensures { result ≡ map_refusal (given c gu.now ug.now sg.now gs.now assignment.now records.now) user.0 sampling room }
 {
     if c.capacity <= user.0 {
         return 3;
@@ -110,7 +112,8 @@ pub fn global_from_user(
     notes: &mut [u32],
 ) -> UserMapped
     ensures { Meets (λ t room. map_of t user.0 sampling room) (user_mapped result c)
-        (lent c gu ug sg gs assignment records notes) }
+        (lent c (change gu.old gu.new) (change ug.old ug.new) (constant sg.now) (constant gs.now)
+            (constant assignment.now) (change records.old records.new) (change notes.old notes.new)) }
 {
     if !is_sound(c, gu, ug, sg, gs, assignment, records) {
         return UserMapped::Refused(1);
@@ -135,10 +138,11 @@ pub fn known_global_from_user(
     gfrom: u32,
     notes: &mut [u32],
 ) -> UserMapped
-    requires records_value { soundb (given c gu ug sg gs assignment records) ≡ true }
+    requires records_value { soundb (given c gu.old ug.old sg.now gs.now assignment.now records.old) ≡ true }
     requires none_free { NoneFree (free records.old) c.global gfrom }
     ensures { Meets (λ t room. map_of t user.0 sampling room) (user_mapped result c)
-        (lent c gu ug sg gs assignment records notes) }
+        (lent c (change gu.old gu.new) (change ug.old ug.new) (constant sg.now) (constant gs.now)
+            (constant assignment.now) (change records.old records.new) (change notes.old notes.new)) }
 {
     let n = map_refusal(
         c,
@@ -167,7 +171,7 @@ pub fn known_global_from_user(
 // Map of a user that is mapped already, in the two lists that it reads, of a table known to be sound: the global, where the call is accepted and
 // makes no note; nothing, where it is refused or makes one. Any words may be lent. Definition: crates/changes/specs/AtOnce.antt, `AtOnce`.
 pub fn map_in(gu: &[u32], records: &[u32], user: User, sampling: bool) -> FoundGlobal
-    ensures { (t : Table) → soundb t ≡ true → t.global_from_user ≡ old gu → t.records ≡ old records
+    ensures { (t : Table) → soundb t ≡ true → t.global_from_user ≡ gu.now → t.records ≡ records.now
         → AtOnce (λ room. map_of t user.0 sampling room) t (global_found result) }
 {
     let FoundGlobal::At(g) = global_of(gu, user) else {
@@ -196,8 +200,8 @@ fn new_user_refusal(
     records: &[u32],
     room: usize,
 ) -> u32
-    requires { soundb (given c gu ug sg gs assignment records) ≡ true }
-    ensures { result ≡ new_user_refusal (before c gu ug sg gs assignment records) room }
+    requires { soundb (given c gu.now ug.now sg.now gs.now assignment.now records.now) ≡ true }
+    ensures { result ≡ new_user_refusal (given c gu.now ug.now sg.now gs.now assignment.now records.now) room }
 {
     if c.capacity < c.used + 1 {
         return 5;
@@ -221,7 +225,8 @@ pub fn new_user_var(
     notes: &mut [u32],
 ) -> NewUser
     ensures { Meets (λ t room. new_user_of t room) (new_user_mapped result c)
-        (lent c gu ug sg gs assignment records notes) }
+        (lent c (change gu.old gu.new) (change ug.old ug.new) (constant sg.now) (constant gs.now)
+            (constant assignment.now) (change records.old records.new) (change notes.old notes.new)) }
 {
     if !is_sound(c, gu, ug, sg, gs, assignment, records) {
         return NewUser::Refused(1);
@@ -243,11 +248,12 @@ pub fn known_new_user_var(
     gfrom: u32,
     notes: &mut [u32],
 ) -> NewUser
-    requires records_value { soundb (given c gu ug sg gs assignment records) ≡ true }
+    requires records_value { soundb (given c gu.old ug.old sg.now gs.now assignment.now records.old) ≡ true }
     requires all_mapped { AllMapped gu.old c.user ufrom }
     requires none_free { NoneFree (free records.old) c.global gfrom }
     ensures { Meets (λ t room. new_user_of t room) (new_user_mapped result c)
-        (lent c gu ug sg gs assignment records notes) }
+        (lent c (change gu.old gu.new) (change ug.old ug.new) (constant sg.now) (constant gs.now)
+            (constant assignment.now) (change records.old records.new) (change notes.old notes.new)) }
 {
     let n = new_user_refusal(c, gu, ug, sg, gs, assignment, records, notes.len());
     if n != 0 {

@@ -1,4 +1,6 @@
 // What the numbers of the C surface stand for: modes, marks, formats, kinds, causes and steps.
+#![tactic(auto)]
+
 ghost use Rattle.std.specs.Prelude.{◌≡◌};
 ghost use Rattle.numbers.specs.Meant.{meant_mode, meant_mark, meant_format, meant_kind, meant_cause, meant_step};
 ghost use Rattle.numbers.specs.Numbers.{mode_for, mark_for, format_for, kind_for, cause_for, solver_name_for, user_name_for, step_for};
@@ -8,37 +10,37 @@ use scope::{
     DeleteClauseProof, Global, Mark, ProofStep, SamplingMode, Solver, SolverName, User, UserName,
 };
 
-#[derive(Drop)]
+#[derive(Clone, Copy)]
 pub enum ModeNumber {
     Known(SamplingMode),
     Unknown,
 }
 
-#[derive(Drop)]
+#[derive(Clone, Copy)]
 pub enum MarkNumber {
     Known(Mark),
     Unknown,
 }
 
-#[derive(Drop)]
+#[derive(Clone, Copy)]
 pub enum FormatNumber {
     Known(Format),
     Unknown,
 }
 
-#[derive(Drop)]
+#[derive(Clone, Copy)]
 pub enum KindNumber {
     Known(Kind),
     Unknown,
 }
 
-#[derive(Drop)]
+#[derive(Clone, Copy)]
 pub enum CauseNumber {
     Known(DeleteClauseProof),
     Unknown,
 }
 
-#[derive(Drop)]
+#[derive(Clone, Copy)]
 pub enum StepNumber {
     Known(ProofStep),
     Unknown,
@@ -46,7 +48,7 @@ pub enum StepNumber {
 
 // A step's kind, and what it carries of its own: in a naming step `b` is index + 1, or 0 where the name is withdrawn.
 #[repr(C)]
-#[derive(Drop)]
+#[derive(Clone, Copy)]
 pub struct HzStep {
     pub kind: u32,
     pub a: u32,

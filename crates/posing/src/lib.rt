@@ -1,7 +1,9 @@
 // Pose. How the contracts read: crates/scope/specs/Contract.antt.
+#![tactic(auto)]
+
 ghost use Rattle.std.specs.Prelude.{◌≡◌, true, length};
-ghost use Rattle.base.specs.Lent.{old, new, Fills};
-ghost use Rattle.scope.specs.Contract.{given, before, after, lent, Meets};
+ghost use Rattle.base.specs.Lent.{Fills, change};
+ghost use Rattle.scope.specs.Contract.{given, after, lent, Meets};
 ghost use Rattle.scope.specs.Pose.{pose, pose_refusal, pose_of};
 ghost use Rattle.scope.specs.Sound.{soundb};
 ghost use Rattle.scope.specs.Cursor.{NoneFree};
@@ -20,7 +22,7 @@ use scope::{Counts, Solver, User};
 use table::{any_outside, is_sound};
 
 // A user's solver index, with the counts, the cursor of free globals and the place in the notes after it.
-#[derive(Drop)]
+#[derive(Clone, Copy)]
 pub struct Placed {
     pub counts: Counts,
     pub solver: Solver,
@@ -29,7 +31,7 @@ pub struct Placed {
 }
 
 // The answer: how many solver literals were filled, the counts and how many notes were written.
-#[derive(Drop)]
+#[derive(Clone, Copy)]
 pub enum PosedLits {
     Done(u32, Counts, u32),
     Refused(u32),
@@ -49,12 +51,12 @@ fn place_new(
     at: usize,
     notes: &mut [u32],
 ) -> Placed
-    requires place_asks { PlaceAsks (given c gu ug sg gs assignment records) user.0 at (length notes.old) }
+    requires place_asks { PlaceAsks (given c gu.old ug.old sg.old gs.old assignment.old records.old) user.0 at (length notes.old) }
     requires none_free { NoneFree (free records.old) c.global from }
-    ensures solver_value { result.solver.0 ≡ (pose_user user.0 (before c gu ug sg gs assignment records)).value }
-    ensures leaves { Leaves (pose_user user.0 (before c gu ug sg gs assignment records)) at result.at
-        (after result.counts gu ug sg gs assignment records) (old notes) (new notes) }
-    ensures none_free_2 { NoneFree (free (new records)) result.counts.global result.from }
+    ensures solver_value { result.solver.0 ≡ (pose_user user.0 (given c gu.old ug.old sg.old gs.old assignment.old records.old)).value }
+    ensures leaves { Leaves (pose_user user.0 (given c gu.old ug.old sg.old gs.old assignment.old records.old)) at result.at
+        (after result.counts (change gu.old gu.new) (change ug.old ug.new) (change sg.old sg.new) (change gs.old gs.new) (change assignment.old assignment.new) (change records.old records.new)) notes.old notes.new }
+    ensures none_free_2 { NoneFree (free records.new) result.counts.global result.from }
 {
     let m = map_up(
         c.capacity, c.user, c.global, c.used, gu, ug, records, user, from, at, notes,
@@ -86,12 +88,12 @@ fn place_all(
     out: &mut [u32],
     notes: &mut [u32],
 ) -> Passed
-    requires pose_asks { PoseAsks (given c gu ug sg gs assignment records) lits.now (length out.old) (length notes.old) }
+    requires pose_asks { PoseAsks (given c gu.old ug.old sg.old gs.old assignment.old records.old) lits.now (length out.old) (length notes.old) }
     requires none_free { NoneFree (free records.old) c.global from }
-    ensures fact_1 { let x = pose (old lits) (before c gu ug sg gs assignment records) in
-        Leaves x 0 result.at (after result.counts gu ug sg gs assignment records) (old notes) (new notes) }
-    ensures fact_2 { let x = pose (old lits) (before c gu ug sg gs assignment records) in
-        Fills out 0 x.value }
+    ensures value { let x = pose lits.now (given c gu.old ug.old sg.old gs.old assignment.old records.old) in
+        Leaves x 0 result.at (after result.counts (change gu.old gu.new) (change ug.old ug.new) (change sg.old sg.new) (change gs.old gs.new) (change assignment.old assignment.new) (change records.old records.new)) notes.old notes.new }
+    ensures out { let x = pose lits.now (given c gu.old ug.old sg.old gs.old assignment.old records.old) in
+        Fills (change out.old out.new) 0 x.value }
 {
     let mut cur = c;
     let mut k = from;
@@ -130,9 +132,9 @@ fn pose_refusal(
     outs: usize,
     room: usize,
 ) -> u32
-    requires records_value { soundb (given c gu ug sg gs assignment records) ≡ true }
+    requires records_value { soundb (given c gu.now ug.now sg.now gs.now assignment.now records.now) ≡ true }
     requires held_to { HeldTo gu.now sg.now lits.now lead }
-    ensures { result ≡ pose_refusal (before c gu ug sg gs assignment records) (old lits) sampling outs room }
+    ensures { result ≡ pose_refusal (given c gu.now ug.now sg.now gs.now assignment.now records.now) lits.now sampling outs room }
 {
     if 8192 < lits.len() {
         return 3;
@@ -172,13 +174,14 @@ fn pose_any(
     out: &mut [u32],
     notes: &mut [u32],
 ) -> PosedLits
-    requires records_value { soundb (given c gu ug sg gs assignment records) ≡ true }
+    requires records_value { soundb (given c gu.old ug.old sg.old gs.old assignment.old records.old) ≡ true }
     requires held_to { HeldTo gu.old sg.old lits.now lead }
     requires none_free { NoneFree (free records.old) c.global gfrom }
-    ensures meets { Meets (λ t room. pose_of t (old lits) sampling (length (old out)) room) (posed result c)
-        (lent c gu ug sg gs assignment records notes) }
-    ensures out { Fills out 0 (pose_of (before c gu ug sg gs assignment records) (old lits) sampling
-        (length (old out)) (length (old notes))).words }
+    ensures meets { Meets (λ t room. pose_of t lits.now sampling (length out.old) room) (posed result c)
+        (lent c (change gu.old gu.new) (change ug.old ug.new) (change sg.old sg.new) (change gs.old gs.new)
+            (change assignment.old assignment.new) (change records.old records.new) (change notes.old notes.new)) }
+    ensures out { Fills (change out.old out.new) 0 (pose_of (given c gu.old ug.old sg.old gs.old assignment.old records.old) lits.now sampling
+        (length out.old) (length notes.old)).words }
 {
     let n = pose_refusal(
         c,
@@ -221,10 +224,11 @@ pub fn solver_from_user_lits(
     out: &mut [u32],
     notes: &mut [u32],
 ) -> PosedLits
-    ensures meets { Meets (λ t room. pose_of t (old lits) sampling (length (old out)) room) (posed result c)
-        (lent c gu ug sg gs assignment records notes) }
-    ensures out { Fills out 0 (pose_of (before c gu ug sg gs assignment records) (old lits) sampling
-        (length (old out)) (length (old notes))).words }
+    ensures meets { Meets (λ t room. pose_of t lits.now sampling (length out.old) room) (posed result c)
+        (lent c (change gu.old gu.new) (change ug.old ug.new) (change sg.old sg.new) (change gs.old gs.new)
+            (change assignment.old assignment.new) (change records.old records.new) (change notes.old notes.new)) }
+    ensures out { Fills (change out.old out.new) 0 (pose_of (given c gu.old ug.old sg.old gs.old assignment.old records.old) lits.now sampling
+        (length out.old) (length notes.old)).words }
 {
     if !is_sound(c, gu, ug, sg, gs, assignment, records) {
         return PosedLits::Refused(1);
@@ -250,12 +254,13 @@ pub fn known_solver_from_user_lits(
     out: &mut [u32],
     notes: &mut [u32],
 ) -> PosedLits
-    requires records_value { soundb (given c gu ug sg gs assignment records) ≡ true }
+    requires records_value { soundb (given c gu.old ug.old sg.old gs.old assignment.old records.old) ≡ true }
     requires none_free { NoneFree (free records.old) c.global gfrom }
-    ensures meets { Meets (λ t room. pose_of t (old lits) sampling (length (old out)) room) (posed result c)
-        (lent c gu ug sg gs assignment records notes) }
-    ensures out { Fills out 0 (pose_of (before c gu ug sg gs assignment records) (old lits) sampling
-        (length (old out)) (length (old notes))).words }
+    ensures meets { Meets (λ t room. pose_of t lits.now sampling (length out.old) room) (posed result c)
+        (lent c (change gu.old gu.new) (change ug.old ug.new) (change sg.old sg.new) (change gs.old gs.new)
+            (change assignment.old assignment.new) (change records.old records.new) (change notes.old notes.new)) }
+    ensures out { Fills (change out.old out.new) 0 (pose_of (given c gu.old ug.old sg.old gs.old assignment.old records.old) lits.now sampling
+        (length out.old) (length notes.old)).words }
 {
     let tried = pose_held(gu, sg, records, lits, sampling, out);
     if tried.filled {

@@ -1,5 +1,7 @@
 // Reading vectors. Each fault must give 13 at the first token of its step and leave the lent words; each whole input must give its steps.
 // A vector that comes out otherwise is written with its number; then there is a line for each group.
+#![tactic(auto)]
+
 ghost use Rattle.std.specs.Prelude.{◌≤◌};
 
 use drat::{Format, Read};
@@ -7,14 +9,14 @@ use drat_read::{first_step, first_token, read_proof};
 use std::num::wrapping_add_u64;
 
 // The vectors run, and those of them that came out otherwise.
-#[derive(Drop)]
+#[derive(Clone, Copy)]
 struct Score {
     run: u64,
     wrong: u64,
 }
 
 // What a call must answer, and the words that the three slices must then hold.
-#[derive(Drop)]
+#[derive(Clone, Copy)]
 struct Want {
     answer: Read,
     codes: [u32; 4],

@@ -1,7 +1,8 @@
 // Pose at once, in the lists that it reads, of a table known to be sound.
+#![tactic(auto)]
+
 ghost use Rattle.std.specs.Prelude.{◌≡◌, true};
 ghost use Rattle.base.specs.Bounded.{every_of};
-ghost use Rattle.base.specs.Lent.{old, new};
 ghost use Rattle.scope.specs.Literals.{index_of};
 ghost use Rattle.scope.specs.Table.{Table};
 ghost use Rattle.scope.specs.Sound.{soundb};
@@ -12,7 +13,7 @@ use table::{FoundGlobal, FoundSolver, global_of, solver_of};
 
 // The user has a solver index, below 4,096 as in every sound table, and is sampled if that is required.
 fn is_ready(gu: &[u32], sg: &[u32], records: &[u32], user: User, sampling: bool) -> bool
-    ensures { result ≡ is_ready (old gu) (old sg) (old records) sampling user.0 }
+    ensures { result ≡ is_ready gu.now sg.now records.now sampling user.0 }
 {
     let FoundGlobal::At(g) = global_of(gu, user) else {
         return false;
@@ -34,7 +35,7 @@ fn is_ready(gu: &[u32], sg: &[u32], records: &[u32], user: User, sampling: bool)
 
 // It is so of every literal's user.
 fn all_ready(gu: &[u32], sg: &[u32], records: &[u32], lits: &[u32], sampling: bool) -> bool
-    ensures { result ≡ every_of (λ c. is_ready (old gu) (old sg) (old records) sampling (index_of c)) (old lits) }
+    ensures { result ≡ every_of (λ c. is_ready gu.now sg.now records.now sampling (index_of c)) lits.now }
 {
     let mut i = 0;
     while i < lits.len() {
@@ -56,8 +57,8 @@ pub fn pose_in(
     sampling: bool,
     out: &mut [u32],
 ) -> bool
-    ensures { (t : Table) → soundb t ≡ true → t.global_from_user ≡ old gu → t.solver_from_global ≡ old sg → t.records ≡ old records
-        → PosedAtOnce t (old lits) sampling result (old out) (new out) }
+    ensures { (t : Table) → soundb t ≡ true → t.global_from_user ≡ gu.now → t.solver_from_global ≡ sg.now → t.records ≡ records.now
+        → PosedAtOnce t lits.now sampling result out.old out.new }
 {
     if (8192 < lits.len()) | (out.len() < lits.len()) {
         return false;

@@ -1,7 +1,9 @@
 // Remove and Sweep. How the contracts read: crates/scope/specs/Contract.antt, and inside a call crates/changes/specs/Leaves.antt.
+#![tactic(auto)]
+
 ghost use Rattle.std.specs.Prelude.{◌≡◌, true, List, ℕ, ◌+◌, ◌≤◌, ◌<◌, length, get_or};
-ghost use Rattle.base.specs.Lent.{old, new};
-ghost use Rattle.scope.specs.Contract.{given, before, lent, Meets};
+ghost use Rattle.base.specs.Lent.{change, constant};
+ghost use Rattle.scope.specs.Contract.{given, lent, Meets};
 ghost use Rattle.scope.specs.Table.{table_of};
 ghost use Rattle.scope.specs.Sound.{soundb};
 ghost use Rattle.scope.specs.Remove.{remove_held, remove_refusal, remove_of, sweep_one, sweep, sweep_refusal, sweep_of};
@@ -15,7 +17,7 @@ use scope::{Counts, Global, Note, Solver};
 use table::{FoundGlobal, held_refusal, holder, is_sound, put_note};
 
 // The counts after, and how many notes were made; or the number of the refusal.
-#[derive(Drop)]
+#[derive(Clone, Copy)]
 pub enum Removed {
     Done(Counts, u32),
     Refused(u32),
@@ -34,8 +36,8 @@ fn remove_held(
     notes: &mut [u32],
 ) -> Passed
     requires { RemoveAsks c ug.now sg.old gs.old records.old global.0 solver.0 at (length notes.old) }
-    ensures { (gu a : List ℕ) → Leaves (remove_held global.0 solver.0 (table_of c gu (old ug) (old sg) (old gs) a (old records))) at result.at
-        (table_of result.counts gu (old ug) (new sg) (new gs) a (new records)) (old notes) (new notes) }
+    ensures { (gu a : List ℕ) → Leaves (remove_held global.0 solver.0 (table_of c gu ug.now sg.old gs.old a records.old)) at result.at
+        (table_of result.counts gu ug.now sg.new gs.new a records.new) notes.old notes.new }
 {
     let next = at + 3;
     let counts = c.remove(sg, gs, global, solver);
@@ -65,8 +67,8 @@ fn remove_refusal(
     solver: Solver,
     room: usize,
 ) -> u32
-    requires { soundb (given c gu ug sg gs assignment records) ≡ true }
-    ensures { result ≡ remove_refusal (before c gu ug sg gs assignment records) solver.0 room }
+    requires { soundb (given c gu.now ug.now sg.now gs.now assignment.now records.now) ≡ true }
+    ensures { result ≡ remove_refusal (given c gu.now ug.now sg.now gs.now assignment.now records.now) solver.0 room }
 {
     let FoundGlobal::At(global) = holder(gs, solver) else {
         return held_refusal(gs, solver);
@@ -98,7 +100,8 @@ pub fn remove_solver_var(
     notes: &mut [u32],
 ) -> Removed
     ensures { Meets (λ t room. remove_of t solver.0 room) (removed result c)
-        (lent c gu ug sg gs assignment records notes) }
+        (lent c (constant gu.now) (constant ug.now) (change sg.old sg.new) (change gs.old gs.new)
+            (constant assignment.now) (change records.old records.new) (change notes.old notes.new)) }
 {
     if !is_sound(c, gu, ug, sg, gs, assignment, records) {
         return Removed::Refused(1);
@@ -119,9 +122,10 @@ pub fn known_remove_solver_var(
     solver: Solver,
     notes: &mut [u32],
 ) -> Removed
-    requires { soundb (given c gu ug sg gs assignment records) ≡ true }
+    requires { soundb (given c gu.now ug.now sg.old gs.old assignment.now records.old) ≡ true }
     ensures { Meets (λ t room. remove_of t solver.0 room) (removed result c)
-        (lent c gu ug sg gs assignment records notes) }
+        (lent c (constant gu.now) (constant ug.now) (change sg.old sg.new) (change gs.old gs.new)
+            (constant assignment.now) (change records.old records.new) (change notes.old notes.new)) }
 {
     let n = remove_refusal(c, gu, ug, sg, gs, assignment, records, solver, notes.len());
     if n != 0 {
@@ -159,7 +163,7 @@ fn is_loose(w: u32) -> bool
 // How many notes the sweep of a solver index makes.
 fn notes_at(ug: &[u32], gs: &[u32], assignment: &[u32], records: &[u32], solver: Solver) -> u32
     requires { (g : ℕ) → get_or gs.now solver.0 0 ≡ g + 1 → SlotReadable ug.now assignment.now records.now g solver.0 }
-    ensures { result ≡ notes_by (old ug) (old gs) (old assignment) (old records) solver.0 }
+    ensures { result ≡ notes_by ug.now gs.now assignment.now records.now solver.0 }
 {
     let FoundGlobal::At(global) = holder(gs, solver) else {
         return 0;
@@ -176,7 +180,7 @@ fn notes_at(ug: &[u32], gs: &[u32], assignment: &[u32], records: &[u32], solver:
 fn count_notes(mark: u32, ug: &[u32], gs: &[u32], assignment: &[u32], records: &[u32]) -> u32
     requires mark_bound { mark ≤ 4096 }
     requires by_index { (g s : ℕ) → get_or gs.now s 0 ≡ g + 1 → SlotReadable ug.now assignment.now records.now g s }
-    ensures { NotesCounted (old ug) (old gs) (old assignment) (old records) mark result }
+    ensures { NotesCounted ug.now gs.now assignment.now records.now mark result }
 {
     let mut n: u32 = 0;
     let mut s: u32 = 0;
@@ -198,8 +202,8 @@ fn sweep_refusal(
     records: &[u32],
     room: usize,
 ) -> u32
-    requires { soundb (given c gu ug sg gs assignment records) ≡ true }
-    ensures { result ≡ sweep_refusal (before c gu ug sg gs assignment records) room }
+    requires { soundb (given c gu.now ug.now sg.now gs.now assignment.now records.now) ≡ true }
+    ensures { result ≡ sweep_refusal (given c gu.now ug.now sg.now gs.now assignment.now records.now) room }
 {
     let n = count_notes(c.solver, ug, gs, assignment, records) as usize;
     if room < 3 * n {
@@ -221,8 +225,8 @@ fn sweep_one(
     notes: &mut [u32],
 ) -> Passed
     requires { SweepAsks c ug.now sg.old gs.old assignment.now records.old solver.0 at (length notes.old) }
-    ensures { (gu : List ℕ) → Leaves (sweep_one solver.0 (table_of c gu (old ug) (old sg) (old gs) (old assignment) (old records))) at result.at
-        (table_of result.counts gu (old ug) (new sg) (new gs) (old assignment) (new records)) (old notes) (new notes) }
+    ensures { (gu : List ℕ) → Leaves (sweep_one solver.0 (table_of c gu ug.now sg.old gs.old assignment.now records.old)) at result.at
+        (table_of result.counts gu ug.now sg.new gs.new assignment.now records.new) notes.old notes.new }
 {
     let FoundGlobal::At(global) = holder(gs, solver) else {
         return Passed { counts: c, at };
@@ -247,8 +251,8 @@ fn sweep_all(
     notes: &mut [u32],
 ) -> Passed
     requires { SweepAllAsks c ug.now sg.old gs.old assignment.now records.old (length notes.old) }
-    ensures { (gu : List ℕ) → Leaves (sweep (table_of c gu (old ug) (old sg) (old gs) (old assignment) (old records))) 0 result.at
-        (table_of result.counts gu (old ug) (new sg) (new gs) (old assignment) (new records)) (old notes) (new notes) }
+    ensures { (gu : List ℕ) → Leaves (sweep (table_of c gu ug.now sg.old gs.old assignment.now records.old)) 0 result.at
+        (table_of result.counts gu ug.now sg.new gs.new assignment.now records.new) notes.old notes.new }
 {
     let last = c.solver;
     let mut p = Passed { counts: c, at: 0 };
@@ -284,7 +288,8 @@ pub fn sweep(
     notes: &mut [u32],
 ) -> Removed
     ensures { Meets (λ t room. sweep_of t room) (removed result c)
-        (lent c gu ug sg gs assignment records notes) }
+        (lent c (constant gu.now) (constant ug.now) (change sg.old sg.new) (change gs.old gs.new)
+            (constant assignment.now) (change records.old records.new) (change notes.old notes.new)) }
 {
     if !is_sound(c, gu, ug, sg, gs, assignment, records) {
         return Removed::Refused(1);
@@ -304,9 +309,10 @@ pub fn known_sweep(
     records: &mut [u32],
     notes: &mut [u32],
 ) -> Removed
-    requires { soundb (given c gu ug sg gs assignment records) ≡ true }
+    requires { soundb (given c gu.now ug.now sg.old gs.old assignment.now records.old) ≡ true }
     ensures { Meets (λ t room. sweep_of t room) (removed result c)
-        (lent c gu ug sg gs assignment records notes) }
+        (lent c (constant gu.now) (constant ug.now) (change sg.old sg.new) (change gs.old gs.new)
+            (constant assignment.now) (change records.old records.new) (change notes.old notes.new)) }
 {
     let n = sweep_refusal(c, gu, ug, sg, gs, assignment, records, notes.len());
     if n != 0 {

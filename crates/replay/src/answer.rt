@@ -2,7 +2,7 @@
 // not hold what it should.
 use scope::Counts;
 
-#[derive(Drop)]
+#[derive(Clone, Copy)]
 pub struct Answer {
     pub refusal: u32,
     pub counts: Counts,

@@ -7,7 +7,7 @@ use scope::Counts;
 use std::num::wrapping_add_u64;
 
 // How many words of each list are lent.
-#[derive(Drop)]
+#[derive(Clone, Copy)]
 pub struct Lengths {
     pub gu: usize,
     pub ug: usize,

@@ -1,5 +1,7 @@
 // Replays the recorded list of oracle/: each line of standard input is a call with its whole answer, as README.md here describes. The call
 // is made on the library's C surface; its answer, every word of the six lists and every word lent to be filled must be what the line says.
+#![tactic(auto)]
+
 mod answer;
 mod book;
 mod cnf;
@@ -36,7 +38,7 @@ fn stop(mut s: Scan, fault: u32, book: &[u64; 1056]) -> Scan {
 }
 
 // Calls that take a table, by the lists that they may change.
-#[derive(Drop)]
+#[derive(Clone, Copy)]
 enum Group {
     Name,
     Hold,

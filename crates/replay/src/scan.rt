@@ -4,7 +4,7 @@ use crate::faults::{BYTE, LARGE, LONG, NAME};
 // No call, and no part, has this number.
 pub const NONE: u32 = 99;
 
-#[derive(Drop)]
+#[derive(Clone, Copy)]
 pub struct Scan {
     // the call, and the part that is being filled
     pub call: u32,

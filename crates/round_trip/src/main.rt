@@ -1,5 +1,7 @@
 // Every literal code is written as a clause of one literal, and read back, as an add and as a delete, in both formats, and in text with other
 // separators too. Each line says for how many codes the reader gave back that literal, its end and its kind, and nothing more.
+#![tactic(auto)]
+
 ghost use Rattle.std.specs.Prelude.{◌≤◌, ◌<◌};
 
 use drat::{Format, Kind, Read, Wrote};

@@ -5,7 +5,7 @@ use mathlib.Core.Path.{◌≡◌, refl}
 use mathlib.Core.List.{List, []}
 use Rattle.base.specs.Answer.{accepted, refused}
 use Rattle.base.specs.Bounded.{all_below, least, count}
-use Rattle.base.specs.Lent.{Slice, Lent}
+use Rattle.base.specs.Lent.{Lent, old, new}
 use Rattle.scope.specs.declared.Counts.{Counts}
 use Rattle.scope.specs.Table.{Table, table_of, word, is_shown, give_user, least_free, undeleted, next_solver}
 use Rattle.scope.specs.Sound.{soundb, sizesb, marksb, at_mostb, tailb, backb, namedb, deletedb, tailsb, pairsb, listsb, storedb}
@@ -50,23 +50,23 @@ listed c gu ug sg gs a r =
 module _ (c d : Counts) (gu ug sg gs a r notes : Lent) where
   -- when the call begins, and when it ends
   pub lent_table : Lists (lent c gu ug sg gs a r notes).table c
-      gu.entry.now ug.entry.now sg.entry.now gs.entry.now a.entry.now r.entry.now
+      (old gu) (old ug) (old sg) (old gs) (old a) (old r)
   lent_table = listed _ _ _ _ _ _ _
 
   pub lent_leaves : Lists ((lent c gu ug sg gs a r notes).leaves d) d
-      gu.exit.now ug.exit.now sg.exit.now gs.exit.now a.exit.now r.exit.now
+      (new gu) (new ug) (new sg) (new gs) (new a) (new r)
   lent_leaves = listed _ _ _ _ _ _ _
 
-  pub lent_notes : ((lent c gu ug sg gs a r notes).notes ≡ notes.entry.now) × ((lent c gu ug sg gs a r notes).noted ≡ notes.exit.now)
+  pub lent_notes : ((lent c gu ug sg gs a r notes).notes ≡ (old notes)) × ((lent c gu ug sg gs a r notes).noted ≡ (new notes))
   lent_notes = (refl, refl)
 
   pub quiet_table : Lists (quiet c gu ug sg gs a r).table c
-      gu.entry.now ug.entry.now sg.entry.now gs.entry.now a.entry.now r.entry.now
+      (old gu) (old ug) (old sg) (old gs) (old a) (old r)
   quiet_table = listed _ _ _ _ _ _ _
 
   pub quiet_leaves : Lists ((quiet c gu ug sg gs a r).leaves d) d
-      gu.exit.now ug.exit.now sg.exit.now gs.exit.now a.exit.now r.exit.now
+      (new gu) (new ug) (new sg) (new gs) (new a) (new r)
   quiet_leaves = listed _ _ _ _ _ _ _
 
-pub given_table : (c : Counts) (gu ug sg gs a r : Slice) → Lists (given c gu ug sg gs a r) c gu.now ug.now sg.now gs.now a.now r.now
+pub given_table : (c : Counts) (gu ug sg gs a r : List ℕ) → Lists (given c gu ug sg gs a r) c gu ug sg gs a r
 given_table c gu ug sg gs a r = listed _ _ _ _ _ _ _

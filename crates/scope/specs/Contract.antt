@@ -8,14 +8,16 @@
 --     records          a word for each global index
 -- then its own arguments, then the slices that it fills, `notes` last.
 --
---     ensures { λ r. ⌜ Meets (λ t room. grant_of t global.0 room) (granted r c) (lent c gu ug sg gs assignment records notes) ⌝ }
+--     ensures { Meets (λ t room. grant_of t global.0 room) (granted result c)
+--         (lent c (constant gu.now) (constant ug.now) (change sg.old sg.new) (change gs.old gs.new)
+--             (change assignment.old assignment.new) (constant records.now) (change notes.old notes.new)) }
 --
 -- reads: of the table t that was lent, and the room lent for notes, the call does what `grant_of t global.0 room` says. `granted` gives
--- the number and the values of the answer r, as document 01 has them, and the counts that come back. A further slice has a clause of its own.
+-- the number and the values of the answer, as document 01 has them, and the counts that come back. A further slice has a clause of its own.
 use Rattle.std.specs.Prelude.{ℕ, ◌≡◌, List, [], length}
 use Rattle.std.proofs.lemmas.List.Edits.{sets}
 use Rattle.base.specs.Answer.{Answer}
-use Rattle.base.specs.Lent.{Slice, Lent, old, new}
+use Rattle.base.specs.Lent.{Lent, constant, old, new}
 use Rattle.scope.specs.declared.Counts.{Counts}
 use Rattle.scope.specs.Table.{Table, table_of}
 use Rattle.scope.specs.Notes.{notes_words}
@@ -23,11 +25,11 @@ use Rattle.scope.specs.Outcome.{Outcome}
 
 -- ---- the table in lent slices
 
--- in a `requires`
-abbrev pub given : Counts → Slice → Slice → Slice → Slice → Slice → Slice → Table
-given c gu ug sg gs a r = table_of c gu.now ug.now sg.now gs.now a.now r.now
+-- the words that a call was given: of a `&` those that it shows, of a `&mut` those at entry
+abbrev pub given : Counts → List ℕ → List ℕ → List ℕ → List ℕ → List ℕ → List ℕ → Table
+given = table_of
 
--- in an `ensures`: as the call was given it
+-- of lent slices: as the call was given it
 abbrev pub before : Counts → Lent → Lent → Lent → Lent → Lent → Lent → Table
 before c gu ug sg gs a r = table_of c (old gu) (old ug) (old sg) (old gs) (old a) (old r)
 
@@ -57,6 +59,10 @@ lent c gu ug sg gs a r notes =
 abbrev pub quiet : Counts → Lent → Lent → Lent → Lent → Lent → Lent → Memory
 quiet c gu ug sg gs a r =
     record { table = before c gu ug sg gs a r; leaves = λ d. after d gu ug sg gs a r; notes = []; noted = [] }
+
+-- of a call that makes no notes and is lent every list by a `&`
+abbrev pub reads : Counts → List ℕ → List ℕ → List ℕ → List ℕ → List ℕ → List ℕ → Memory
+reads c gu ug sg gs a r = quiet c (constant gu) (constant ug) (constant sg) (constant gs) (constant a) (constant r)
 
 -- The answer and the table left are the outcome's. Its notes stand from the start of what was lent for them, and the words past them are
 -- as they were.

@@ -1,14 +1,15 @@
 // The types of document 01, and how the counts go through a single change. Its definitions are in specs/, their laws in proofs/.
+#![tactic(auto)]
+
 ghost use Rattle.std.specs.Prelude.{◌≡◌, ◌+◌, ◌^◌, ◌≤◌, ◌<◌, max, min, length, get_or, set};
 ghost use Rattle.base.specs.Choice.{pick};
-ghost use Rattle.base.specs.Lent.{old, new};
 ghost use Rattle.scope.specs.Table.{cover_user, cover_solver, is_deleted, least_free, map_counts, grant_counts, remove_counts, drop_counts};
 ghost use Rattle.scope.specs.BiMap.{index_in, cover_name, Inserts};
 ghost use Rattle.scope.specs.Cursor.{AllMapped};
 
 // The capacity, the three watermarks, how many globals are undeleted, and the least unmapped solver index. The C surface has it as it is.
 #[repr(C)]
-#[derive(Drop)]
+#[derive(Clone, Copy)]
 pub struct Counts {
     pub capacity: u32,
     pub user: u32,
@@ -24,8 +25,8 @@ fn link(a: &mut [u32], b: &mut [u32], i: u32, j: u32)
     requires j_in_bounds { j < length b.old }
     requires i_bound { i + 1 < 2 ^ 32 }
     requires j_bound { j + 1 < 2 ^ 32 }
-    ensures a_value { new a ≡ set (old a) i (j + 1) }
-    ensures b_value { new b ≡ set (old b) j (i + 1) }
+    ensures a_value { a.new ≡ set a.old i (j + 1) }
+    ensures b_value { b.new ≡ set b.old j (i + 1) }
 {
     a[i as usize] = j + 1;
     b[j as usize] = i + 1;
@@ -35,8 +36,8 @@ fn link(a: &mut [u32], b: &mut [u32], i: u32, j: u32)
 fn cut(a: &mut [u32], b: &mut [u32], i: u32, j: u32)
     requires i_in_bounds { i < length a.old }
     requires j_in_bounds { j < length b.old }
-    ensures a_value { new a ≡ set (old a) i 0 }
-    ensures b_value { new b ≡ set (old b) j 0 }
+    ensures a_value { a.new ≡ set a.old i 0 }
+    ensures b_value { b.new ≡ set b.old j 0 }
 {
     a[i as usize] = 0;
     b[j as usize] = 0;
@@ -58,7 +59,7 @@ fn smaller(a: u32, b: u32) -> u32
 pub fn least_free(xs: &[u32], mark: u32, from: u32) -> u32
     requires mark_in_bounds { mark ≤ length xs.now }
     requires all_mapped { AllMapped xs.now mark from }
-    ensures { result ≡ least_free (old xs) mark }
+    ensures { result ≡ least_free xs.now mark }
 {
     let mut i = from;
     while i < mark {
@@ -79,14 +80,14 @@ fn used_with(used: u32, was: u32) -> u32
 }
 
 // A name that is not global.
-#[derive(Drop)]
+#[derive(Clone, Copy)]
 pub enum Name {
     User(User),
     Solver(Solver),
 }
 
 // What an insertion answers: the refusal, 0 for none, and the counts.
-#[derive(Drop)]
+#[derive(Clone, Copy)]
 pub struct Put {
     pub refusal: u32,
     pub counts: Counts,
@@ -137,7 +138,7 @@ fn cover(c: Counts, n: Name, g: Global) -> Counts
 
 // The insertion by value: `fwd` takes the name to the global, `bwd` the global to the name.
 fn put_pair(c: Counts, fwd: &mut [u32], bwd: &mut [u32], n: Name, g: Global) -> Put
-    ensures { Inserts c (old fwd) (old bwd) n g.0 result.refusal result.counts (new fwd) (new bwd) }
+    ensures { Inserts c fwd.old bwd.old n g.0 result.refusal result.counts fwd.new bwd.new }
 {
     let i = index_in(n);
     let j = g.0;
@@ -158,7 +159,7 @@ fn put_pair(c: Counts, fwd: &mut [u32], bwd: &mut [u32], n: Name, g: Global) -> 
 
 // The insertion with the counts lent: they are advanced by it. The answer is the refusal, 0 for none.
 pub fn insert(counts: &mut Counts, fwd: &mut [u32], bwd: &mut [u32], n: Name, g: Global) -> u32
-    ensures { Inserts counts.old (old fwd) (old bwd) n g.0 result counts.new (new fwd) (new bwd) }
+    ensures { Inserts counts.old fwd.old bwd.old n g.0 result counts.new fwd.new bwd.new }
 {
     let p = put_pair(*counts, fwd, bwd, n, g);
     *counts = p.counts;
@@ -167,7 +168,7 @@ pub fn insert(counts: &mut Counts, fwd: &mut [u32], bwd: &mut [u32], n: Name, g:
 
 // The same with plain parameters, for every other caller.
 pub fn inserted(counts: Counts, fwd: &mut [u32], bwd: &mut [u32], n: Name, g: Global) -> Put
-    ensures { Inserts counts (old fwd) (old bwd) n g.0 result.refusal result.counts (new fwd) (new bwd) }
+    ensures { Inserts counts fwd.old bwd.old n g.0 result.refusal result.counts fwd.new bwd.new }
 {
     let mut c = counts;
     let refusal = insert(&mut c, fwd, bwd, n, g);
@@ -194,10 +195,10 @@ impl Counts {
         requires user_lt_capacity { user.0 < self.capacity }
         requires global_lt_capacity { global.0 < self.capacity }
         requires used_bound { self.used + 1 < 2 ^ 32 }
-        ensures value { result ≡ map_counts self user.0 global.0 (get_or (old records) global.0 47) }
-        ensures gu_value { new gu ≡ set (old gu) user.0 (global.0 + 1) }
-        ensures ug_value { new ug ≡ set (old ug) global.0 (user.0 + 1) }
-        ensures records_value { new records ≡ set (old records) global.0 w }
+        ensures value { result ≡ map_counts self user.0 global.0 (get_or records.old global.0 47) }
+        ensures gu_value { gu.new ≡ set gu.old user.0 (global.0 + 1) }
+        ensures ug_value { ug.new ≡ set ug.old global.0 (user.0 + 1) }
+        ensures records_value { records.new ≡ set records.old global.0 w }
     {
         let g = global.0 as usize;
         let used = used_with(self.used, records[g]);
@@ -213,8 +214,8 @@ impl Counts {
         requires user_in_bounds { user.0 < length gu.old }
         requires global_in_bounds { global.0 < length ug.old }
         ensures value { result ≡ self }
-        ensures gu_value { new gu ≡ set (old gu) user.0 0 }
-        ensures ug_value { new ug ≡ set (old ug) global.0 0 }
+        ensures gu_value { gu.new ≡ set gu.old user.0 0 }
+        ensures ug_value { ug.new ≡ set ug.old global.0 0 }
     {
         cut(gu, ug, user.0, global.0);
         self
@@ -228,9 +229,9 @@ impl Counts {
         requires solver_lt_capacity { solver.0 < self.capacity }
         requires solver_in_bounds_2 { self.solver ≤ length gs.old }
         requires all_mapped { AllMapped gs.old self.solver solver.0 }
-        ensures value { result ≡ grant_counts self solver.0 global.0 (new gs) }
-        ensures sg_value { new sg ≡ set (old sg) global.0 (solver.0 + 1) }
-        ensures gs_value { new gs ≡ set (old gs) solver.0 (global.0 + 1) }
+        ensures value { result ≡ grant_counts self solver.0 global.0 gs.new }
+        ensures sg_value { sg.new ≡ set sg.old global.0 (solver.0 + 1) }
+        ensures gs_value { gs.new ≡ set gs.old solver.0 (global.0 + 1) }
     {
         let p = inserted(self, gs, sg, Name::Solver(solver), global);
         self = p.counts;
@@ -250,9 +251,9 @@ impl Counts {
         requires solver_in_bounds { solver.0 < length gs.old }
         requires solver_lt_solver { solver.0 < self.solver }
         requires next_value { self.next ≡ least_free gs.old self.solver }
-        ensures value { result ≡ remove_counts self (new gs) }
-        ensures sg_value { new sg ≡ set (old sg) global.0 0 }
-        ensures gs_value { new gs ≡ set (old gs) solver.0 0 }
+        ensures value { result ≡ remove_counts self gs.new }
+        ensures sg_value { sg.new ≡ set sg.old global.0 0 }
+        ensures gs_value { gs.new ≡ set gs.old solver.0 0 }
     {
         cut(sg, gs, global.0, solver.0);
         self.next = smaller(self.next, solver.0);
@@ -265,7 +266,7 @@ impl Counts {
         requires global_bound { get_or records.old global.0 47 < 36 }
         requires le_used { 1 ≤ self.used }
         ensures value { result ≡ drop_counts self }
-        ensures records_value { new records ≡ set (old records) global.0 (get_or (old records) global.0 47 + 36) }
+        ensures records_value { records.new ≡ set records.old global.0 (get_or records.old global.0 47 + 36) }
     {
         let g = global.0 as usize;
         let w = records[g];
@@ -276,16 +277,16 @@ impl Counts {
 }
 
 // A user index, a global index and a solver index.
-#[derive(Drop)]
+#[derive(Clone, Copy)]
 pub struct User(pub u32);
 
-#[derive(Drop)]
+#[derive(Clone, Copy)]
 pub struct Global(pub u32);
 
-#[derive(Drop)]
+#[derive(Clone, Copy)]
 pub struct Solver(pub u32);
 
-#[derive(Drop)]
+#[derive(Clone, Copy)]
 pub enum SamplingMode {
     Sample,
     Witness,
@@ -293,7 +294,7 @@ pub enum SamplingMode {
 }
 
 // What is marked at a held solver index: in use, assumed, no longer assumed.
-#[derive(Drop)]
+#[derive(Clone, Copy)]
 pub enum Mark {
     Used,
     Assumed,
@@ -301,7 +302,7 @@ pub enum Mark {
 }
 
 // Why a clause is deleted.
-#[derive(Drop)]
+#[derive(Clone, Copy)]
 pub enum DeleteClauseProof {
     Redundant,
     Satisfied,
@@ -310,7 +311,7 @@ pub enum DeleteClauseProof {
 
 // A note, by the names that it tells of: a user or a solver index granted to a global or withdrawn, a global deleted, its mode changed,
 // with yes for Sample.
-#[derive(Drop)]
+#[derive(Clone, Copy)]
 pub enum Note {
     UserGranted(Global, User),
     UserWithdrawn(Global),
@@ -321,21 +322,21 @@ pub enum Note {
 }
 
 // What a naming step tells of a global: the solver index granted to it, or that its index is withdrawn.
-#[derive(Drop)]
+#[derive(Clone, Copy)]
 pub enum SolverName {
     Granted(Solver),
     Withdrawn,
 }
 
 // The same of its user index.
-#[derive(Drop)]
+#[derive(Clone, Copy)]
 pub enum UserName {
     Granted(User),
     Withdrawn,
 }
 
 // The thirteen step kinds. Literals and hashes stand in slices beside the step.
-#[derive(Drop)]
+#[derive(Clone, Copy)]
 pub enum ProofStep {
     AddClause,
     AtClause(bool),
@@ -353,7 +354,7 @@ pub enum ProofStep {
 }
 
 // What DRAT writes for a step kind.
-#[derive(Drop)]
+#[derive(Clone, Copy)]
 pub enum Writes {
     Add,
     AddEach,
@@ -363,14 +364,14 @@ pub enum Writes {
 }
 
 // The rule of a step kind: whether its literals are renamed, and what is written.
-#[derive(Drop)]
+#[derive(Clone, Copy)]
 pub struct KindRule {
     pub renamed: bool,
     pub writes: Writes,
 }
 
 // What Simplify makes of a clause.
-#[derive(Drop)]
+#[derive(Clone, Copy)]
 pub enum Simplified {
     Kept,
     Dropped,

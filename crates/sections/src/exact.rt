@@ -1,7 +1,6 @@
 // Whether every entry has its mirror, by counting both. One tally serves all sections: a section takes one pass over its entries, and for each
 // entry that is not yet compared one pass over the section of its mirror.
 ghost use Rattle.std.specs.Prelude.{◌≡◌, true, [], ◌<◌};
-ghost use Rattle.base.specs.Lent.{old, new};
 ghost use Rattle.base.specs.Bounded.{every_of};
 ghost use Rattle.drat.specs.Grammar.{Codes};
 ghost use Rattle.scope.specs.Binary.{times, sections_of, section_at, has_mirror, mirrored};
@@ -12,7 +11,7 @@ use crate::{not_lit, section_of};
 
 // How often a word stands among others.
 fn count_of(es: &[u32], m: u32) -> usize
-    ensures { result ≡ times m (old es) }
+    ensures { result ≡ times m es.now }
 {
     let mut k = 0;
     let mut i = 0;
@@ -29,7 +28,7 @@ fn count_of(es: &[u32], m: u32) -> usize
 fn tally_all(es: &[u32], tally: &mut [usize])
     requires codes { Codes es.now }
     requires tallied { Tallied [] tally.old }
-    ensures { Tallied (old es) (new tally) }
+    ensures { Tallied es.now tally.new }
 {
     let mut i = 0;
     while i < es.len() {
@@ -46,7 +45,7 @@ fn slot_mirrored(lists: &[u32], place: &[usize], n: usize, l: usize, m: u32, k: 
     requires l_lt_n { l < n }
     requires m_lt_n { m < n }
     requires slot { Slot (sections_of n lists.now) l m k }
-    ensures { result ≡ has_mirror (sections_of n (old lists)) l m }
+    ensures { result ≡ has_mirror (sections_of n lists.now) l m }
 {
     if k == 0 {
         return true;
@@ -74,8 +73,8 @@ fn each_mirrored(
     requires l_lt_n { l < n }
     requires es_value { es.now ≡ section_at (sections_of n lists.now) l }
     requires tallied { Tallied es.now tally.old }
-    ensures value { result ≡ every_of (has_mirror (sections_of n (old lists)) l) (old es) }
-    ensures tallied_2 { result ≡ true → Tallied [] (new tally) }
+    ensures value { result ≡ every_of (has_mirror (sections_of n lists.now) l) es.now }
+    ensures tallied_2 { result ≡ true → Tallied [] tally.new }
 {
     let mut i = 0;
     while i < es.len() {
@@ -96,8 +95,8 @@ fn section_mirrored(lists: &[u32], place: &[usize], n: usize, l: usize, tally: &
     requires inside { Inside lists.now n }
     requires l_lt_n { l < n }
     requires tallied { Tallied [] tally.old }
-    ensures result_value { let ss = sections_of n (old lists) in result ≡ every_of (has_mirror ss l) (section_at ss l) }
-    ensures tallied_2 { result ≡ true → Tallied [] (new tally) }
+    ensures result_value { let ss = sections_of n lists.now in result ≡ every_of (has_mirror ss l) (section_at ss l) }
+    ensures tallied_2 { result ≡ true → Tallied [] tally.new }
 {
     let es = section_of(lists, place, n, l);
     tally_all(es, tally);
@@ -107,7 +106,7 @@ fn section_mirrored(lists: &[u32], place: &[usize], n: usize, l: usize, tally: &
 pub(crate) fn exactly_mirrored(lists: &[u32], place: &[usize], n: usize) -> bool
     requires placed { Placed lists.now n place.now }
     requires inside { Inside lists.now n }
-    ensures { result ≡ mirrored (sections_of n (old lists)) }
+    ensures { result ≡ mirrored (sections_of n lists.now) }
 {
     let mut tally = [0usize; 8192];
     let mut l = 0;

@@ -1,9 +1,10 @@
 // The lists of binary clauses in words: where each section stands, and whether every entry has its mirror.
+#![tactic(auto)]
+
 mod exact;
 mod queues;
 
 ghost use Rattle.std.specs.Prelude.{◌≡◌, true, ◌%◌, ◌≤◌, ◌<◌, length, ltb};
-ghost use Rattle.base.specs.Lent.{old, new};
 ghost use Rattle.base.specs.Bounded.{every_of};
 ghost use Rattle.scope.specs.Literals.{not_lit};
 ghost use Rattle.scope.specs.Binary.{cutsb, sections_of, section_at, mirrored};
@@ -24,8 +25,8 @@ pub fn cut_sections(lists: &[u32], n: usize, place: &mut [usize]) -> bool
     requires n_bound { n ≤ 8192 }
     requires n_value { n % 2 ≡ 0 }
     requires place_len { length place.old ≡ 8193 }
-    ensures value { result ≡ cutsb n (old lists) }
-    ensures placed { result ≡ true → Placed (old lists) n (new place) }
+    ensures value { result ≡ cutsb n lists.now }
+    ensures placed { result ≡ true → Placed lists.now n place.new }
 {
     let mut at: usize = 0;
     let mut l: usize = 0;
@@ -52,7 +53,7 @@ pub fn cut_sections(lists: &[u32], n: usize, place: &mut [usize]) -> bool
 fn section_of<'a>(lists: &'a [u32], place: &[usize], n: usize, l: usize) -> &'a [u32]
     requires placed { Placed lists.now n place.now }
     requires l_lt_n { l < n }
-    ensures { result.now ≡ section_at (sections_of n (old lists)) l }
+    ensures { result.now ≡ section_at (sections_of n lists.now) l }
 {
     let a = place[l] + 1;
     let b = place[l + 1];
@@ -61,7 +62,7 @@ fn section_of<'a>(lists: &'a [u32], place: &[usize], n: usize, l: usize) -> &'a 
 
 // Whether every word is below a bound.
 fn all_below(words: &[u32], bound: u32) -> bool
-    ensures { result ≡ every_of (λ m. ltb m bound) (old words) }
+    ensures { result ≡ every_of (λ m. ltb m bound) words.now }
 {
     let mut ok = true;
     let mut i = 0;
@@ -75,8 +76,8 @@ fn all_below(words: &[u32], bound: u32) -> bool
 // Whether every entry is the code of a section.
 fn all_inside(lists: &[u32], place: &[usize], n: usize) -> bool
     requires { Placed lists.now n place.now }
-    ensures inside { result ≡ true → Inside (old lists) n }
-    ensures value { mirrored (sections_of n (old lists)) ≡ true → result ≡ true }
+    ensures inside { result ≡ true → Inside lists.now n }
+    ensures value { mirrored (sections_of n lists.now) ≡ true → result ≡ true }
 {
     let mut l: usize = 0;
     while l < n {
@@ -92,7 +93,7 @@ fn all_inside(lists: &[u32], place: &[usize], n: usize) -> bool
 // they do not meet, each entry is counted.
 pub fn all_mirrored(lists: &[u32], place: &[usize], n: usize) -> bool
     requires { Placed lists.now n place.now }
-    ensures { result ≡ mirrored (sections_of n (old lists)) }
+    ensures { result ≡ mirrored (sections_of n lists.now) }
 {
     if !all_inside(lists, place, n) {
         return false;

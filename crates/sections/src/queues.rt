@@ -2,7 +2,6 @@
 // that in lists made so an entry and its mirror come to the heads together. Each section is a queue; an entry is taken with its mirror where both
 // are heads; else the section of the mirror comes first, and the one that waits for it is kept on a path.
 ghost use Rattle.std.specs.Prelude.{◌≡◌, true, ℕ, ◌+◌, ◌<◌, ◌≤◌, length, get_or};
-ghost use Rattle.base.specs.Lent.{old, new};
 ghost use Rattle.scope.specs.Binary.{sections_of, mirrored};
 ghost use Rattle.sections.specs.Places.{Placed, Inside};
 ghost use Rattle.sections.specs.Queues.{Even, Facing, Going, Turned};
@@ -10,7 +9,7 @@ ghost use Rattle.sections.specs.Queues.{Even, Facing, Going, Turned};
 use crate::not_lit;
 
 // What came of the head of a section: none is left; it is taken with its mirror; the section of its mirror comes first; its mirror is missing.
-#[derive(Drop)]
+#[derive(Clone, Copy)]
 enum Met {
     Done,
     Taken,
@@ -19,7 +18,7 @@ enum Met {
 }
 
 // The first section not yet begun, the number of sections on the path, and the turns left.
-#[derive(Drop)]
+#[derive(Clone, Copy)]
 struct Walk {
     next: usize,
     waiting: usize,
@@ -32,7 +31,7 @@ fn start_heads(place: &[usize], n: usize, head: &mut [usize])
     requires place_len { length place.now ≡ 8193 }
     requires head_len { length head.old ≡ 8192 }
     requires by_index { (l : ℕ) → l < n → get_or place.now l 0 < get_or place.now (l + 1) 0 }
-    ensures { (l : ℕ) → l < n → get_or (new head) l 0 ≡ get_or (old place) l 0 + 1 }
+    ensures { (l : ℕ) → l < n → get_or head.new l 0 ≡ get_or place.now l 0 + 1 }
 {
     let mut l = 0;
     while l < n {
@@ -55,7 +54,7 @@ fn meet_mirror(
     requires head_len { length head.old ≡ 8192 }
     requires even { Even lists.now n place.now head.old }
     requires facing { Facing lists.now n place.now head.old x h y }
-    ensures { Even (old lists) n (old place) (new head) }
+    ensures { Even lists.now n place.now head.new }
 {
     let k = head[y];
     if place[y + 1] <= k {
@@ -75,7 +74,7 @@ fn meet_head(lists: &[u32], place: &[usize], n: usize, x: usize, head: &mut [usi
     requires inside { Inside lists.now n }
     requires head_len { length head.old ≡ 8192 }
     requires even { Even lists.now n place.now head.old }
-    ensures { Even (old lists) n (old place) (new head) }
+    ensures { Even lists.now n place.now head.new }
 {
     if n <= x {
         return Met::Missing;
@@ -176,7 +175,7 @@ fn all_taken(place: &[usize], n: usize, head: &[usize]) -> bool
     requires n_bound { n ≤ 8192 }
     requires place_len { length place.now ≡ 8193 }
     requires head_len { length head.now ≡ 8192 }
-    ensures { result ≡ true → (l : ℕ) → l < n → get_or (old head) l 0 ≡ get_or (old place) (l + 1) 0 }
+    ensures { result ≡ true → (l : ℕ) → l < n → get_or head.now l 0 ≡ get_or place.now (l + 1) 0 }
 {
     let mut l = 0;
     while l < n {
@@ -192,7 +191,7 @@ fn all_taken(place: &[usize], n: usize, head: &[usize]) -> bool
 pub(crate) fn heads_meet(lists: &[u32], place: &[usize], n: usize) -> bool
     requires placed { Placed lists.now n place.now }
     requires inside { Inside lists.now n }
-    ensures { result ≡ true → mirrored (sections_of n (old lists)) ≡ true }
+    ensures { result ≡ true → mirrored (sections_of n lists.now) ≡ true }
 {
     let mut head = [0usize; 8192];
     let mut path = [0usize; 8192];

@@ -1,7 +1,7 @@
 // A clause by the values of its literals (closure of `unit_simplify`, src/unit_simplify.rs).
 ghost use Rattle.std.specs.Prelude.{◌≡◌, true, ◌≤◌, length};
 ghost use Rattle.base.specs.Bounded.{any_of};
-ghost use Rattle.base.specs.Lent.{old, new, Fills};
+ghost use Rattle.base.specs.Lent.{Fills, change};
 ghost use Rattle.scope.specs.Table.{Table};
 ghost use Rattle.scope.specs.Simplify.{simplified};
 ghost use Rattle.steps.specs.Names.{names_by, Nameable};
@@ -12,19 +12,19 @@ use steps::rename::rename_lit;
 use table::word_at;
 
 fn is_true(assignment: &[u32], code: u32) -> bool
-    ensures { result ≡ true_by (old assignment) code }
+    ensures { result ≡ true_by assignment.now code }
 {
     word_at(assignment, code / 2) == 2 - code % 2
 }
 
 fn is_false(assignment: &[u32], code: u32) -> bool
-    ensures { result ≡ false_by (old assignment) code }
+    ensures { result ≡ false_by assignment.now code }
 {
     word_at(assignment, code / 2) == 1 + code % 2
 }
 
 fn any_true(assignment: &[u32], lits: &[u32]) -> bool
-    ensures { result ≡ any_of (true_by (old assignment)) (old lits) }
+    ensures { result ≡ any_of (true_by assignment.now) lits.now }
 {
     let mut i = 0;
     while i < lits.len() {
@@ -38,7 +38,7 @@ fn any_true(assignment: &[u32], lits: &[u32]) -> bool
 
 // How many literals are not false.
 fn count_unfalse(assignment: &[u32], lits: &[u32]) -> usize
-    ensures { result ≡ length (unfalse_by (old assignment) (old lits)) }
+    ensures { result ≡ length (unfalse_by assignment.now lits.now) }
 {
     let mut k = 0;
     let mut i = 0;
@@ -53,7 +53,7 @@ fn count_unfalse(assignment: &[u32], lits: &[u32]) -> usize
 
 // A true literal drops the clause; otherwise false literals go. Two left then is binary; where none went, it is kept.
 pub fn sort_clause(assignment: &[u32], lits: &[u32]) -> Simplified
-    ensures { (t : Table) → t.assignment ≡ old assignment → result ≡ simplified t (old lits) }
+    ensures { (t : Table) → t.assignment ≡ assignment.now → result ≡ simplified t lits.now }
 {
     if any_true(assignment, lits) {
         return Simplified::Dropped;
@@ -78,8 +78,8 @@ pub fn keep_rest(
 ) -> usize
     requires nameable { Nameable gs.now true lits.now }
     requires lits_in_bounds { length (unfalse_by assignment.now lits.now) ≤ length out.old }
-    ensures value { result ≡ length (unfalse_by (old assignment) (old lits)) }
-    ensures fills { Fills out 0 (names_by (old gs) named (unfalse_by (old assignment) (old lits))) }
+    ensures value { result ≡ length (unfalse_by assignment.now lits.now) }
+    ensures fills { Fills (change out.old out.new) 0 (names_by gs.now named (unfalse_by assignment.now lits.now)) }
 {
     let mut k = 0;
     let mut i = 0;

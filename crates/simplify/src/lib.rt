@@ -1,14 +1,16 @@
 // Simplify a clause: a true literal drops it, false literals go, and the steps that say so are written.
+#![tactic(auto)]
+
 mod clause;
 
 ghost use Rattle.std.specs.Prelude.{◌≡◌, Bool, true, ℕ, ◌≤◌, length};
-ghost use Rattle.base.specs.Lent.{old, new, Fills};
+ghost use Rattle.base.specs.Lent.{Fills, change};
 ghost use Rattle.drat.specs.declared.Format.{Format};
 ghost use Rattle.drat.specs.Grammar.{encode};
 ghost use Rattle.scope.specs.declared.Simplified.TheVariants.{Kept, Dropped};
 ghost use Rattle.scope.specs.Table.{Table};
 ghost use Rattle.scope.specs.Sound.{soundb};
-ghost use Rattle.scope.specs.Contract.{before, given, quiet, Meets};
+ghost use Rattle.scope.specs.Contract.{given, Meets, reads};
 ghost use Rattle.scope.specs.Simplify.{flag_of, delete_cause, simplify_steps, simplify_of};
 ghost use Rattle.steps.specs.Names.{names_by, Nameable};
 ghost use Rattle.steps.specs.Refusals.{laid, laid_bytes};
@@ -35,8 +37,8 @@ fn clause_refusal(
     records: &[u32],
     lits: &[u32],
 ) -> u32
-    requires { soundb (given c gu ug sg gs assignment records) ≡ true }
-    ensures { result ≡ clause_refusal (before c gu ug sg gs assignment records) (old lits) }
+    requires { soundb (given c gu.now ug.now sg.now gs.now assignment.now records.now) ≡ true }
+    ensures { result ≡ clause_refusal (given c gu.now ug.now sg.now gs.now assignment.now records.now) lits.now }
 {
     literal_refusal(c, gs, true, lits)
 }
@@ -64,7 +66,7 @@ fn delete_cause(redundant: bool, otherwise: DeleteClauseProof) -> DeleteClausePr
 }
 
 // What was made of the clause, how many literals are left, the add step's flag, and how many bytes were filled.
-#[derive(Drop)]
+#[derive(Clone, Copy)]
 pub enum Reduced {
     Done(Simplified, usize, bool, usize),
     Refused(u32),
@@ -72,9 +74,9 @@ pub enum Reduced {
 
 // A clause that is kept: 2.
 fn keep_clause(lits: &[u32], out: &mut [u32]) -> Reduced
-    ensures { (f : Format) (t : Table) (redundant : Bool) (room : ℕ) → SortedAs t (old lits) Kept →
-        let o = simplify_of f t (old lits) redundant (length (old out)) room in
-        ((reduced result t.counts).answer ≡ o.answer) × Fills out 0 o.words }
+    ensures { (f : Format) (t : Table) (redundant : Bool) (room : ℕ) → SortedAs t lits.now Kept →
+        let o = simplify_of f t lits.now redundant (length out.old) room in
+        ((reduced result t.counts).answer ≡ o.answer) × Fills (change out.old out.new) 0 o.words }
 {
     if out.len() < lits.len() {
         return Reduced::Refused(2);
@@ -86,9 +88,9 @@ fn keep_clause(lits: &[u32], out: &mut [u32]) -> Reduced
 // A clause that is dropped, with one delete step: 2.
 fn drop_clause(gs: &[u32], f: Format, lits: &[u32], redundant: bool, bytes: &mut [u8]) -> Reduced
     requires { Nameable gs.now true lits.now }
-    ensures { (t : Table) (outs : ℕ) → SortedAs t (old lits) Dropped → t.global_from_solver ≡ old gs →
-        let o = simplify_of f t (old lits) redundant outs (length (old bytes)) in
-        ((reduced result t.counts).answer ≡ o.answer) × Fills bytes 0 o.bytes }
+    ensures { (t : Table) (outs : ℕ) → SortedAs t lits.now Dropped → t.global_from_solver ≡ gs.now →
+        let o = simplify_of f t lits.now redundant outs (length bytes.old) in
+        ((reduced result t.counts).answer ≡ o.answer) × Fills (change bytes.old bytes.new) 0 o.bytes }
 {
     let cause = delete_cause(redundant, DeleteClauseProof::Satisfied);
     let step = ProofStep::DeleteClause(cause);
@@ -113,10 +115,10 @@ fn put_both(
     requires cuts { Cuts what }
     requires written { Written rest.now }
     requires written_2 { Written clause.now }
-    ensures fact_1 { let steps = encode f (simplify_steps what redundant (old rest) (old clause)) in
-        result ≡ laid steps (length (old bytes)) }
-    ensures fact_2 { let steps = encode f (simplify_steps what redundant (old rest) (old clause)) in
-        Fills bytes 0 (laid_bytes steps (length (old bytes))) }
+    ensures value { let steps = encode f (simplify_steps what redundant rest.now clause.now) in
+        result ≡ laid steps (length bytes.old) }
+    ensures bytes { let steps = encode f (simplify_steps what redundant rest.now clause.now) in
+        Fills (change bytes.old bytes.new) 0 (laid_bytes steps (length bytes.old)) }
 {
     let flag = add_flag(what, redundant);
     let first = ProofStep::AtClause(flag);
@@ -147,9 +149,9 @@ fn name_both(
     requires nameable { Nameable gs.now true lits.now }
     requires lits_in_bounds { length lits.now ≤ length rest.old }
     requires lits_in_bounds_2 { length lits.now ≤ length clause.old }
-    ensures value { result ≡ length (unfalse_by (old assignment) (old lits)) }
-    ensures rest { Fills rest 0 (names_by (old gs) true (unfalse_by (old assignment) (old lits))) }
-    ensures clause { Fills clause 0 (names_by (old gs) true (old lits)) }
+    ensures value { result ≡ length (unfalse_by assignment.now lits.now) }
+    ensures rest { Fills (change rest.old rest.new) 0 (names_by gs.now true (unfalse_by assignment.now lits.now)) }
+    ensures clause { Fills (change clause.old clause.new) 0 (names_by gs.now true lits.now) }
 {
     rename_lits(gs, true, lits, clause);
     keep_rest(gs, assignment, true, lits, rest)
@@ -172,9 +174,9 @@ fn shorten_over(
     requires cuts { Cuts what }
     requires lits_in_bounds { length lits.now ≤ length rest.old }
     requires lits_in_bounds_2 { length lits.now ≤ length clause.old }
-    ensures { (t : Table) → SortedAs t (old lits) what → t.global_from_solver ≡ old gs → t.assignment ≡ old assignment →
-        let o = simplify_of f t (old lits) redundant (length (old out)) (length (old bytes)) in
-        ((reduced result t.counts).answer ≡ o.answer) × (Fills out 0 o.words × Fills bytes 0 o.bytes) }
+    ensures { (t : Table) → SortedAs t lits.now what → t.global_from_solver ≡ gs.now → t.assignment ≡ assignment.now →
+        let o = simplify_of f t lits.now redundant (length out.old) (length bytes.old) in
+        ((reduced result t.counts).answer ≡ o.answer) × (Fills (change out.old out.new) 0 o.words × Fills (change bytes.old bytes.new) 0 o.bytes) }
 {
     let k = name_both(gs, assignment, lits, rest, clause);
     if k < 2 {
@@ -205,9 +207,9 @@ fn shorten_clause(
 ) -> Reduced
     requires nameable { Nameable gs.now true lits.now }
     requires cuts { Cuts what }
-    ensures { (t : Table) → SortedAs t (old lits) what → t.global_from_solver ≡ old gs → t.assignment ≡ old assignment →
-        let o = simplify_of f t (old lits) redundant (length (old out)) (length (old bytes)) in
-        ((reduced result t.counts).answer ≡ o.answer) × (Fills out 0 o.words × Fills bytes 0 o.bytes) }
+    ensures { (t : Table) → SortedAs t lits.now what → t.global_from_solver ≡ gs.now → t.assignment ≡ assignment.now →
+        let o = simplify_of f t lits.now redundant (length out.old) (length bytes.old) in
+        ((reduced result t.counts).answer ≡ o.answer) × (Fills (change out.old out.new) 0 o.words × Fills (change bytes.old bytes.new) 0 o.bytes) }
 {
     if lits.len() <= 32 {
         let mut fewrest = [0u32; 32];
@@ -257,12 +259,12 @@ pub fn simplify_clause(
     out: &mut [u32],
     bytes: &mut [u8],
 ) -> Reduced
-    ensures meets { Meets (λ t room. simplify_of f t (old lits) redundant (length (old out)) (length (old bytes))) (reduced result c)
-        (quiet c gu ug sg gs assignment records) }
-    ensures out { Fills out 0
-        (simplify_of f (before c gu ug sg gs assignment records) (old lits) redundant (length (old out)) (length (old bytes))).words }
-    ensures bytes { Fills bytes 0
-        (simplify_of f (before c gu ug sg gs assignment records) (old lits) redundant (length (old out)) (length (old bytes))).bytes }
+    ensures meets { Meets (λ t room. simplify_of f t lits.now redundant (length out.old) (length bytes.old)) (reduced result c)
+        (reads c gu.now ug.now sg.now gs.now assignment.now records.now) }
+    ensures out { Fills (change out.old out.new) 0
+        (simplify_of f (given c gu.now ug.now sg.now gs.now assignment.now records.now) lits.now redundant (length out.old) (length bytes.old)).words }
+    ensures bytes { Fills (change bytes.old bytes.new) 0
+        (simplify_of f (given c gu.now ug.now sg.now gs.now assignment.now records.now) lits.now redundant (length out.old) (length bytes.old)).bytes }
 {
     if !is_sound(c, gu, ug, sg, gs, assignment, records) {
         return Reduced::Refused(1);
@@ -288,13 +290,13 @@ pub fn known_simplify_clause(
     out: &mut [u32],
     bytes: &mut [u8],
 ) -> Reduced
-    requires { soundb (given c gu ug sg gs assignment records) ≡ true }
-    ensures meets { Meets (λ t room. simplify_of f t (old lits) redundant (length (old out)) (length (old bytes))) (reduced result c)
-        (quiet c gu ug sg gs assignment records) }
-    ensures out { Fills out 0
-        (simplify_of f (before c gu ug sg gs assignment records) (old lits) redundant (length (old out)) (length (old bytes))).words }
-    ensures bytes { Fills bytes 0
-        (simplify_of f (before c gu ug sg gs assignment records) (old lits) redundant (length (old out)) (length (old bytes))).bytes }
+    requires { soundb (given c gu.now ug.now sg.now gs.now assignment.now records.now) ≡ true }
+    ensures meets { Meets (λ t room. simplify_of f t lits.now redundant (length out.old) (length bytes.old)) (reduced result c)
+        (reads c gu.now ug.now sg.now gs.now assignment.now records.now) }
+    ensures out { Fills (change out.old out.new) 0
+        (simplify_of f (given c gu.now ug.now sg.now gs.now assignment.now records.now) lits.now redundant (length out.old) (length bytes.old)).words }
+    ensures bytes { Fills (change bytes.old bytes.new) 0
+        (simplify_of f (given c gu.now ug.now sg.now gs.now assignment.now records.now) lits.now redundant (length out.old) (length bytes.old)).bytes }
 {
     let n = clause_refusal(c, gu, ug, sg, gs, assignment, records, lits);
     if n != 0 {

@@ -1,7 +1,6 @@
 // The thirteen step kinds in a table (document 01, "Rename and write").
 ghost use Rattle.std.specs.Prelude.{◌≡◌, ◌<◌};
 ghost use Rattle.base.specs.Choice.{pick};
-ghost use Rattle.base.specs.Lent.{old};
 ghost use Rattle.scope.specs.Steps.{rule_of, kind_of, has_hashes};
 ghost use Rattle.scope.specs.Write.{unmatched, lacked};
 ghost use Rattle.steps.specs.Kinds.{rule_at};
@@ -135,7 +134,7 @@ pub fn hashed(step: ProofStep, n: usize) -> usize
 
 // Units and hashes differ in number.
 pub fn differ(step: ProofStep, lits: &[u32], hashes: &[u64]) -> bool
-    ensures { result ≡ unmatched step (old lits) (old hashes) }
+    ensures { result ≡ unmatched step lits.now hashes.now }
 {
     (kind(step) == 2) & (lits.len() != hashes.len())
 }

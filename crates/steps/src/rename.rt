@@ -2,12 +2,12 @@
 ghost use Rattle.std.specs.Prelude.{◌≡◌, true, false, ◌≢◌, [], ℕ, ◌/◌, ◌≤◌, ◌<◌, eqb, length, get_or};
 ghost use Rattle.base.specs.Choice.{pick};
 ghost use Rattle.base.specs.Bounded.{any_of};
-ghost use Rattle.base.specs.Lent.{old, new, Fills};
+ghost use Rattle.base.specs.Lent.{Fills, change};
 ghost use Rattle.scope.specs.Literals.{index_of};
 ghost use Rattle.scope.specs.declared.ProofStep.{ProofStep};
 ghost use Rattle.scope.specs.Table.{Table};
 ghost use Rattle.scope.specs.Sound.{soundb};
-ghost use Rattle.scope.specs.Contract.{before, given, quiet, Does, Meets};
+ghost use Rattle.scope.specs.Contract.{given, Does, Meets, reads};
 ghost use Rattle.scope.specs.Steps.{rule_of};
 ghost use Rattle.scope.specs.Write.{rename_lit, unmatched, step_refusal, rename_refusal, rename_of};
 ghost use Rattle.steps.specs.Names.{names_by, Nameable, unnamed};
@@ -21,7 +21,7 @@ use table::{FoundGlobal, any_outside, holder, is_sound, word_at};
 
 // Some literal's index has no holder.
 fn any_unheld(gs: &[u32], lits: &[u32]) -> bool
-    ensures { result ≡ any_of (λ c. eqb (get_or (old gs) (index_of c) 0) 0) (old lits) }
+    ensures { result ≡ any_of (λ c. eqb (get_or gs.now (index_of c) 0) 0) lits.now }
 {
     let mut i = 0;
     while i < lits.len() {
@@ -35,7 +35,7 @@ fn any_unheld(gs: &[u32], lits: &[u32]) -> bool
 
 // The first refusal that literals have, 0 for none: 3, 8.
 pub fn literal_refusal(c: Counts, gs: &[u32], solvervars: bool, lits: &[u32]) -> u32
-    ensures { (t : Table) → t.counts ≡ c → t.global_from_solver ≡ old gs → result ≡ literal_refusal t solvervars (old lits) }
+    ensures { (t : Table) → t.counts ≡ c → t.global_from_solver ≡ gs.now → result ≡ literal_refusal t solvervars lits.now }
 {
     if 8192 < lits.len() {
         return 3;
@@ -56,7 +56,7 @@ pub fn literal_refusal(c: Counts, gs: &[u32], solvervars: bool, lits: &[u32]) ->
 pub fn rename_lit(gs: &[u32], solvervars: bool, code: u32) -> u32
     requires code_bound { get_or gs.now (code / 2) 0 ≤ 4096 }
     requires code_nonzero { solvervars ≡ true → get_or gs.now (code / 2) 0 ≢ 0 }
-    ensures { result ≡ rename_lit (λ s. get_or (old gs) s 0) solvervars code }
+    ensures { result ≡ rename_lit (λ s. get_or gs.now s 0) solvervars code }
 {
     if !solvervars {
         return code;
@@ -70,7 +70,7 @@ fn rename_unit(gs: &[u32], solvervars: bool, unit: &[u32]) -> u32
     requires unit_len { length unit.now ≡ 1 }
     requires unit_bound { get_or gs.now (get_or unit.now 0 0 / 2) 0 ≤ 4096 }
     requires unit_nonzero { solvervars ≡ true → get_or gs.now (get_or unit.now 0 0 / 2) 0 ≢ 0 }
-    ensures { result ≡ rename_lit (λ s. get_or (old gs) s 0) solvervars (get_or (old unit) 0 0) }
+    ensures { result ≡ rename_lit (λ s. get_or gs.now s 0) solvervars (get_or unit.now 0 0) }
 {
     rename_lit(gs, solvervars, unit[0])
 }
@@ -79,7 +79,7 @@ fn rename_unit(gs: &[u32], solvervars: bool, unit: &[u32]) -> u32
 pub fn rename_lits(gs: &[u32], solvervars: bool, lits: &[u32], out: &mut [u32])
     requires nameable { Nameable gs.now solvervars lits.now }
     requires lits_in_bounds { length lits.now ≤ length out.old }
-    ensures { Fills out 0 (names_by (old gs) solvervars (old lits)) }
+    ensures { Fills (change out.old out.new) 0 (names_by gs.now solvervars lits.now) }
 {
     let mut i = 0;
     while i < lits.len() {
@@ -91,7 +91,7 @@ pub fn rename_lits(gs: &[u32], solvervars: bool, lits: &[u32], out: &mut [u32])
 // Hashes pass unchanged.
 fn copy_hashes(hashes: &[u64], out: &mut [u64])
     requires { length hashes.now ≤ length out.old }
-    ensures { Fills out 0 (old hashes) }
+    ensures { Fills (change out.old out.new) 0 hashes.now }
 {
     let mut i = 0;
     while i < hashes.len() {
@@ -115,9 +115,9 @@ pub fn step_refusal(
     hashes: &[u64],
     k: usize,
 ) -> u32
-    requires records_value { soundb (given c gu ug sg gs assignment records) ≡ true }
+    requires records_value { soundb (given c gu.now ug.now sg.now gs.now assignment.now records.now) ≡ true }
     requires k_value { k ≡ pick (rule_of step).renamed (length lits.now) 0 }
-    ensures { result ≡ step_refusal (before c gu ug sg gs assignment records) step solvervars (old lits) (old hashes) 0 }
+    ensures { result ≡ step_refusal (given c gu.now ug.now sg.now gs.now assignment.now records.now) step solvervars lits.now hashes.now 0 }
 {
     if differ(step, lits, hashes) {
         return 14;
@@ -142,9 +142,9 @@ fn rename_refusal(
     room: usize,
     hashroom: usize,
 ) -> u32
-    requires records_value { soundb (given c gu ug sg gs assignment records) ≡ true }
+    requires records_value { soundb (given c gu.now ug.now sg.now gs.now assignment.now records.now) ≡ true }
     requires k_value { k ≡ pick (rule_of step).renamed (length lits.now) 0 }
-    ensures { result ≡ rename_refusal (before c gu ug sg gs assignment records) step solvervars (old lits) (old hashes) room hashroom }
+    ensures { result ≡ rename_refusal (given c gu.now ug.now sg.now gs.now assignment.now records.now) step solvervars lits.now hashes.now room hashroom }
 {
     let n = step_refusal(
         c, gu, ug, sg, gs, assignment, records, step, solvervars, lits, hashes, k,
@@ -163,7 +163,7 @@ fn rename_refusal(
 }
 
 // How many literals and how many hashes were filled, and the step, which is as given but for these.
-#[derive(Drop)]
+#[derive(Clone, Copy)]
 pub enum Renamed {
     Done(usize, usize, ProofStep),
     Refused(u32),
@@ -186,12 +186,12 @@ pub fn rename_step(
     out: &mut [u32],
     hashout: &mut [u64],
 ) -> Renamed
-    ensures meets { Meets (λ t room. rename_of t step solvervars (old lits) (old hashes) (length (old out)) (length (old hashout))) (renamed result c)
-        (quiet c gu ug sg gs assignment records) }
-    ensures out { Fills out 0
-        (rename_of (before c gu ug sg gs assignment records) step solvervars (old lits) (old hashes) (length (old out)) (length (old hashout))).words }
-    ensures hashout { Fills hashout 0
-        (rename_of (before c gu ug sg gs assignment records) step solvervars (old lits) (old hashes) (length (old out)) (length (old hashout))).more }
+    ensures meets { Meets (λ t room. rename_of t step solvervars lits.now hashes.now (length out.old) (length hashout.old)) (renamed result c)
+        (reads c gu.now ug.now sg.now gs.now assignment.now records.now) }
+    ensures out { Fills (change out.old out.new) 0
+        (rename_of (given c gu.now ug.now sg.now gs.now assignment.now records.now) step solvervars lits.now hashes.now (length out.old) (length hashout.old)).words }
+    ensures hashout { Fills (change hashout.old hashout.new) 0
+        (rename_of (given c gu.now ug.now sg.now gs.now assignment.now records.now) step solvervars lits.now hashes.now (length out.old) (length hashout.old)).more }
 {
     if !is_sound(c, gu, ug, sg, gs, assignment, records) {
         return Renamed::Refused(1);
@@ -218,13 +218,13 @@ pub fn known_rename_step(
     out: &mut [u32],
     hashout: &mut [u64],
 ) -> Renamed
-    requires { soundb (given c gu ug sg gs assignment records) ≡ true }
-    ensures meets { Meets (λ t room. rename_of t step solvervars (old lits) (old hashes) (length (old out)) (length (old hashout))) (renamed result c)
-        (quiet c gu ug sg gs assignment records) }
-    ensures out { Fills out 0
-        (rename_of (before c gu ug sg gs assignment records) step solvervars (old lits) (old hashes) (length (old out)) (length (old hashout))).words }
-    ensures hashout { Fills hashout 0
-        (rename_of (before c gu ug sg gs assignment records) step solvervars (old lits) (old hashes) (length (old out)) (length (old hashout))).more }
+    requires { soundb (given c gu.now ug.now sg.now gs.now assignment.now records.now) ≡ true }
+    ensures meets { Meets (λ t room. rename_of t step solvervars lits.now hashes.now (length out.old) (length hashout.old)) (renamed result c)
+        (reads c gu.now ug.now sg.now gs.now assignment.now records.now) }
+    ensures out { Fills (change out.old out.new) 0
+        (rename_of (given c gu.now ug.now sg.now gs.now assignment.now records.now) step solvervars lits.now hashes.now (length out.old) (length hashout.old)).words }
+    ensures hashout { Fills (change hashout.old hashout.new) 0
+        (rename_of (given c gu.now ug.now sg.now gs.now assignment.now records.now) step solvervars lits.now hashes.now (length out.old) (length hashout.old)).more }
 {
     let rule = rule_of(step);
     let k = carried(rule, lits.len());
@@ -255,7 +255,7 @@ pub fn known_rename_step(
 
 // Some literal's index has no holder, or a word that no sound table has.
 fn any_unnamed(gs: &[u32], lits: &[u32]) -> bool
-    ensures { result ≡ unnamed (old gs) (old lits) }
+    ensures { result ≡ unnamed gs.now lits.now }
 {
     let mut i = 0;
     while i < lits.len() {
@@ -272,7 +272,7 @@ fn any_unnamed(gs: &[u32], lits: &[u32]) -> bool
 fn rename_named(gs: &[u32], lits: &[u32], out: &mut [u32])
     requires lits_value { unnamed gs.now lits.now ≡ false }
     requires lits_in_bounds { length lits.now ≤ length out.old }
-    ensures { Fills out 0 (names_by (old gs) true (old lits)) }
+    ensures { Fills (change out.old out.new) 0 (names_by gs.now true lits.now) }
 {
     let mut i = 0;
     while i < lits.len() {
@@ -285,10 +285,10 @@ fn rename_named(gs: &[u32], lits: &[u32], out: &mut [u32])
 // Rename of the solver literals of a step without hashes (3, 8, 2), lent the map alone: what Rename does on every sound table that has it.
 // The same definition; its answer: specs/Answers.antt, `in_full`.
 pub fn rename_in(gs: &[u32], lits: &[u32], out: &mut [u32]) -> Recorded
-    ensures { (t : Table) (step : ProofStep) (k : ℕ) → soundb t ≡ true → t.global_from_solver ≡ old gs
-        → (rule_of step).renamed ≡ true → unmatched step (old lits) [] ≡ false
-        → let o = rename_of t step true (old lits) [] (length (old out)) k in
-        Does o (renamed (in_full result step) t.counts) t [] [] × (Fills out 0 o.words × (o.more ≡ [])) }
+    ensures { (t : Table) (step : ProofStep) (k : ℕ) → soundb t ≡ true → t.global_from_solver ≡ gs.now
+        → (rule_of step).renamed ≡ true → unmatched step lits.now [] ≡ false
+        → let o = rename_of t step true lits.now [] (length out.old) k in
+        Does o (renamed (in_full result step) t.counts) t [] [] × (Fills (change out.old out.new) 0 o.words × (o.more ≡ [])) }
 {
     if 8192 < lits.len() {
         return Recorded::Refused(3);

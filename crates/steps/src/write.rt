@@ -1,10 +1,10 @@
 // Write: the DRAT bytes of a step, its literals under global names (`add_step` of src/proof.rs, src/proof/drat.rs).
 ghost use Rattle.std.specs.Prelude.{◌≡◌, true, ◌+◌, ◌≤◌, length};
-ghost use Rattle.base.specs.Lent.{old, new, Fills};
+ghost use Rattle.base.specs.Lent.{Fills, change};
 ghost use Rattle.drat.specs.Grammar.{encode, Codes};
 ghost use Rattle.scope.specs.declared.Writes.TheVariants.{AddEach};
 ghost use Rattle.scope.specs.Sound.{soundb};
-ghost use Rattle.scope.specs.Contract.{before, given, quiet, Meets};
+ghost use Rattle.scope.specs.Contract.{given, Meets, reads};
 ghost use Rattle.scope.specs.Steps.{written};
 ghost use Rattle.scope.specs.Write.{write_of};
 ghost use Rattle.steps.specs.Names.{names_by, Nameable};
@@ -22,7 +22,7 @@ use table::is_sound;
 fn units_len(f: Format, lits: &[u32]) -> usize
     requires codes { Codes lits.now }
     requires lits_len_bound { length lits.now ≤ 8192 }
-    ensures value { result ≡ length (encode f (written AddEach (old lits))) }
+    ensures value { result ≡ length (encode f (written AddEach lits.now)) }
     ensures upper_bound { result ≤ 402685952 }
 {
     let mut n = 0;
@@ -38,8 +38,8 @@ fn units_len(f: Format, lits: &[u32]) -> usize
 fn put_units(f: Format, lits: &[u32], out: &mut [u8], at: usize) -> usize
     requires codes { Codes lits.now }
     requires lits_in_bounds { at + length (encode f (written AddEach lits.now)) ≤ length out.old }
-    ensures value { result ≡ at + length (encode f (written AddEach (old lits))) }
-    ensures fills { Fills out at (encode f (written AddEach (old lits))) }
+    ensures value { result ≡ at + length (encode f (written AddEach lits.now)) }
+    ensures fills { Fills (change out.old out.new) at (encode f (written AddEach lits.now)) }
 {
     let mut p = at;
     let mut i = 0;
@@ -54,7 +54,7 @@ fn put_units(f: Format, lits: &[u32], out: &mut [u8], at: usize) -> usize
 pub fn bytes_len(f: Format, writes: Writes, lits: &[u32]) -> usize
     requires codes { Codes lits.now }
     requires lits_len_bound { length lits.now ≤ 8192 }
-    ensures value { result ≡ length (encode f (written writes (old lits))) }
+    ensures value { result ≡ length (encode f (written writes lits.now)) }
     ensures upper_bound { result ≤ 402685952 }
 {
     match writes {
@@ -70,8 +70,8 @@ pub fn bytes_len(f: Format, writes: Writes, lits: &[u32]) -> usize
 pub fn put_bytes(f: Format, writes: Writes, lits: &[u32], out: &mut [u8], at: usize) -> usize
     requires codes { Codes lits.now }
     requires lits_in_bounds { at + length (encode f (written writes lits.now)) ≤ length out.old }
-    ensures value { result ≡ at + length (encode f (written writes (old lits))) }
-    ensures fills { Fills out at (encode f (written writes (old lits))) }
+    ensures value { result ≡ at + length (encode f (written writes lits.now)) }
+    ensures fills { Fills (change out.old out.new) at (encode f (written writes lits.now)) }
 {
     match writes {
         Writes::Add => put_step(f, Kind::Add, lits, out, at),
@@ -83,7 +83,7 @@ pub fn put_bytes(f: Format, writes: Writes, lits: &[u32], out: &mut [u8], at: us
 }
 
 // How many bytes were filled.
-#[derive(Drop)]
+#[derive(Clone, Copy)]
 pub enum Recorded {
     Done(usize),
     Refused(u32),
@@ -101,10 +101,10 @@ fn write_over(
 ) -> Recorded
     requires nameable { Nameable gs.now solvervars lits.now }
     requires lits_in_bounds { length lits.now ≤ length names.old }
-    ensures fact_1 { let bytes = encode f (written writes (names_by (old gs) solvervars (old lits))) in
-        result ≡ laid bytes (length (old out)) }
-    ensures fact_2 { let bytes = encode f (written writes (names_by (old gs) solvervars (old lits))) in
-        Fills out 0 (laid_bytes bytes (length (old out))) }
+    ensures value { let bytes = encode f (written writes (names_by gs.now solvervars lits.now)) in
+        result ≡ laid bytes (length out.old) }
+    ensures out { let bytes = encode f (written writes (names_by gs.now solvervars lits.now)) in
+        Fills (change out.old out.new) 0 (laid_bytes bytes (length out.old)) }
 {
     rename_lits(gs, solvervars, lits, names);
     let k = lits.len();
@@ -126,10 +126,10 @@ pub fn write_judged(
     out: &mut [u8],
 ) -> Recorded
     requires { Nameable gs.now solvervars lits.now }
-    ensures fact_1 { let bytes = encode f (written writes (names_by (old gs) solvervars (old lits))) in
-        result ≡ laid bytes (length (old out)) }
-    ensures fact_2 { let bytes = encode f (written writes (names_by (old gs) solvervars (old lits))) in
-        Fills out 0 (laid_bytes bytes (length (old out))) }
+    ensures value { let bytes = encode f (written writes (names_by gs.now solvervars lits.now)) in
+        result ≡ laid bytes (length out.old) }
+    ensures out { let bytes = encode f (written writes (names_by gs.now solvervars lits.now)) in
+        Fills (change out.old out.new) 0 (laid_bytes bytes (length out.old)) }
 {
     if lits.len() <= 32 {
         let mut few = [0u32; 32];
@@ -160,10 +160,10 @@ pub fn write_step(
     hashes: &[u64],
     out: &mut [u8],
 ) -> Recorded
-    ensures meets { Meets (λ t room. write_of f t step solvervars (old lits) (old hashes) (length (old out))) (recorded result c)
-        (quiet c gu ug sg gs assignment records) }
-    ensures out { Fills out 0
-        (write_of f (before c gu ug sg gs assignment records) step solvervars (old lits) (old hashes) (length (old out))).bytes }
+    ensures meets { Meets (λ t room. write_of f t step solvervars lits.now hashes.now (length out.old)) (recorded result c)
+        (reads c gu.now ug.now sg.now gs.now assignment.now records.now) }
+    ensures out { Fills (change out.old out.new) 0
+        (write_of f (given c gu.now ug.now sg.now gs.now assignment.now records.now) step solvervars lits.now hashes.now (length out.old)).bytes }
 {
     if !is_sound(c, gu, ug, sg, gs, assignment, records) {
         return Recorded::Refused(1);
@@ -190,11 +190,11 @@ pub fn known_write_step(
     hashes: &[u64],
     out: &mut [u8],
 ) -> Recorded
-    requires { soundb (given c gu ug sg gs assignment records) ≡ true }
-    ensures meets { Meets (λ t room. write_of f t step solvervars (old lits) (old hashes) (length (old out))) (recorded result c)
-        (quiet c gu ug sg gs assignment records) }
-    ensures out { Fills out 0
-        (write_of f (before c gu ug sg gs assignment records) step solvervars (old lits) (old hashes) (length (old out))).bytes }
+    requires { soundb (given c gu.now ug.now sg.now gs.now assignment.now records.now) ≡ true }
+    ensures meets { Meets (λ t room. write_of f t step solvervars lits.now hashes.now (length out.old)) (recorded result c)
+        (reads c gu.now ug.now sg.now gs.now assignment.now records.now) }
+    ensures out { Fills (change out.old out.new) 0
+        (write_of f (given c gu.now ug.now sg.now gs.now assignment.now records.now) step solvervars lits.now hashes.now (length out.old)).bytes }
 {
     let rule = rule_of(step);
     let k = carried(rule, lits.len());

@@ -4,8 +4,7 @@
 ghost use Rattle.std.specs.Prelude.{◌≡◌, true, ◌&&◌, not, ◌-◌, ◌≤◌, eqb, ltb, length};
 ghost use Rattle.base.specs.Bounded.{all_below, count};
 ghost use Rattle.base.specs.Choice.{pick};
-ghost use Rattle.base.specs.Lent.{old};
-ghost use Rattle.scope.specs.Contract.{given, before};
+ghost use Rattle.scope.specs.Contract.{given};
 ghost use Rattle.scope.specs.Sound.{sizesb, marksb, at_mostb, tailb, backb, namedb, deletedb, tailsb};
 ghost use Rattle.scope.specs.Table.{least_free, is_undeleted};
 ghost use Rattle.table.specs.Checks.{is_filled, rowb};
@@ -22,7 +21,7 @@ pub fn marks_ok(c: Counts) -> bool
 // At or above the mark the list has the blank.
 fn tail_ok(mark: u32, blank: u32, xs: &[u32]) -> bool
     requires { mark ≤ length xs.now }
-    ensures { result ≡ tailb mark blank (old xs) }
+    ensures { result ≡ tailb mark blank xs.now }
 {
     let mut ok = true;
     let mut i = mark as usize;
@@ -37,7 +36,7 @@ fn tail_ok(mark: u32, blank: u32, xs: &[u32]) -> bool
 fn two_tails_ok(mark: u32, xs: &[u32], ys: &[u32]) -> bool
     requires mark_in_bounds { mark ≤ length xs.now }
     requires ys_len { length ys.now ≡ length xs.now }
-    ensures { result ≡ (tailb mark 0 (old xs) && tailb mark 0 (old ys)) }
+    ensures { result ≡ (tailb mark 0 xs.now && tailb mark 0 ys.now) }
 {
     let mut ok = true;
     let mut i = mark as usize;
@@ -52,7 +51,7 @@ fn two_tails_ok(mark: u32, xs: &[u32], ys: &[u32]) -> bool
 pub fn at_most(m: u32, xs: &[u32], mark: u32) -> bool
     requires mark_in_bounds { mark ≤ length xs.now }
     requires xs_value { tailb mark 0 xs.now ≡ true }
-    ensures { result ≡ at_mostb m (old xs) }
+    ensures { result ≡ at_mostb m xs.now }
 {
     let n = mark as usize;
     let mut ok = true;
@@ -77,7 +76,7 @@ fn back_ok(a: &[u32], b: &[u32], mark: u32) -> bool
     requires a_value { tailb mark 0 a.now ≡ true }
     requires in_bounds { 1 ≤ length b.now }
     requires b_len_bound { length b.now ≤ 4096 }
-    ensures { result ≡ backb (old a) (old b) }
+    ensures { result ≡ backb a.now b.now }
 {
     if !at_most(b.len() as u32, a, mark) {
         return false;
@@ -103,7 +102,7 @@ fn one_if(x: u32) -> u32
 fn filled(xs: &[u32], mark: u32) -> u32
     requires mark_in_bounds { mark ≤ length xs.now }
     requires xs_value { tailb mark 0 xs.now ≡ true }
-    ensures { result ≡ count (length (old xs)) (is_filled (old xs)) }
+    ensures { result ≡ count (length xs.now) (is_filled xs.now) }
 {
     let n = mark as usize;
     let mut k: u32 = 0;
@@ -123,7 +122,7 @@ pub fn pair_ok(a: &[u32], b: &[u32], amark: u32, bmark: u32) -> bool
     requires b_value { tailb bmark 0 b.now ≡ true }
     requires in_bounds { 1 ≤ length b.now }
     requires b_len_bound { length b.now ≤ 4096 }
-    ensures { result ≡ (backb (old a) (old b) && backb (old b) (old a)) }
+    ensures { result ≡ (backb a.now b.now && backb b.now a.now) }
 {
     if !back_ok(a, b, amark) {
         return false;
@@ -147,7 +146,7 @@ pub fn rows_ok(records: &[u32], ug: &[u32], sg: &[u32], mark: u32) -> bool
     requires records_value { tailb mark 47 records.now ≡ true }
     requires ug_value { tailb mark 0 ug.now ≡ true }
     requires sg_value { tailb mark 0 sg.now ≡ true }
-    ensures { result ≡ (at_mostb 71 (old records) && namedb (old records) (old ug) && deletedb (old records) (old sg)) }
+    ensures { result ≡ (at_mostb 71 records.now && namedb records.now ug.now && deletedb records.now sg.now) }
 {
     let n = mark as usize;
     let mut ok = true;
@@ -169,9 +168,9 @@ pub fn tails_ok(
     assignment: &[u32],
     records: &[u32],
 ) -> bool
-    requires records_value { sizesb (given c gu ug sg gs assignment records) ≡ true }
+    requires records_value { sizesb (given c gu.now ug.now sg.now gs.now assignment.now records.now) ≡ true }
     requires c_value { marksb c ≡ true }
-    ensures { result ≡ tailsb (before c gu ug sg gs assignment records) }
+    ensures { result ≡ tailsb (given c gu.now ug.now sg.now gs.now assignment.now records.now) }
 {
     tail_ok(c.user, 0, gu)
         & two_tails_ok(c.global, ug, sg)
@@ -190,7 +189,7 @@ fn one_undeleted(w: u32) -> u32
 fn undeleted(records: &[u32], mark: u32) -> u32
     requires mark_in_bounds { mark ≤ length records.now }
     requires records_value { tailb mark 47 records.now ≡ true }
-    ensures { result ≡ count (length (old records)) (is_undeleted (old records)) }
+    ensures { result ≡ count (length records.now) (is_undeleted records.now) }
 {
     let n = mark as usize;
     let mut k: u32 = 0;
@@ -205,7 +204,7 @@ fn undeleted(records: &[u32], mark: u32) -> u32
 // Every word below n is filled.
 fn all_filled(xs: &[u32], n: u32) -> bool
     requires { n ≤ length xs.now }
-    ensures { result ≡ all_below n (is_filled (old xs)) }
+    ensures { result ≡ all_below n (is_filled xs.now) }
 {
     let m = n as usize;
     let mut ok = true;
@@ -220,7 +219,7 @@ fn all_filled(xs: &[u32], n: u32) -> bool
 // The number is the least index below the mark at which the map has 0, else the mark.
 fn next_ok(xs: &[u32], mark: u32, next: u32) -> bool
     requires { mark ≤ length xs.now }
-    ensures { result ≡ eqb next (least_free (old xs) mark) }
+    ensures { result ≡ eqb next (least_free xs.now mark) }
 {
     if mark < next {
         return false;
@@ -239,7 +238,7 @@ pub fn stored_ok(c: Counts, gs: &[u32], records: &[u32]) -> bool
     requires solver_in_bounds { c.solver ≤ length gs.now }
     requires global_in_bounds { c.global ≤ length records.now }
     requires records_value { tailb c.global 47 records.now ≡ true }
-    ensures { result ≡ (eqb c.used (count (length (old records)) (is_undeleted (old records))) && eqb c.next (least_free (old gs) c.solver)) }
+    ensures { result ≡ (eqb c.used (count (length records.now) (is_undeleted records.now)) && eqb c.next (least_free gs.now c.solver)) }
 {
     (c.used == undeleted(records, c.global)) & next_ok(gs, c.solver, c.next)
 }

@@ -1,11 +1,13 @@
 // Whether a table is sound, the words of its maps, refusal 8, and the words of a note: what the calls over a table share.
+#![tactic(auto)]
+
 mod checks;
 
 ghost use Rattle.std.specs.Prelude.{◌≡◌, ◌∷◌, [], ◌+◌, ◌^◌, ◌≤◌, ◌<◌, leb, length, get_or};
 ghost use Rattle.base.specs.Bounded.{any_of};
 ghost use Rattle.base.specs.Choice.{pick};
-ghost use Rattle.base.specs.Lent.{old, Fills};
-ghost use Rattle.scope.specs.Contract.{before};
+ghost use Rattle.base.specs.Lent.{Fills, change};
+ghost use Rattle.scope.specs.Contract.{given};
 ghost use Rattle.scope.specs.Literals.{index_of};
 ghost use Rattle.scope.specs.Marks.{held_else};
 ghost use Rattle.scope.specs.Notes.{note_words};
@@ -18,26 +20,26 @@ use checks::{at_most, marks_ok, pair_ok, rows_ok, stored_ok, tails_ok};
 use scope::{Counts, Global, Note, Solver, User};
 
 // The three words of a note.
-#[derive(Drop)]
+#[derive(Clone, Copy)]
 struct NoteWords {
     kind: u32,
     global: u32,
     last: u32,
 }
 
-#[derive(Drop)]
+#[derive(Clone, Copy)]
 pub enum FoundUser {
     At(User),
     Nothing,
 }
 
-#[derive(Drop)]
+#[derive(Clone, Copy)]
 pub enum FoundGlobal {
     At(Global),
     Nothing,
 }
 
-#[derive(Drop)]
+#[derive(Clone, Copy)]
 pub enum FoundSolver {
     At(Solver),
     Nothing,
@@ -45,7 +47,7 @@ pub enum FoundSolver {
 
 // The word of an index, 0 past the end.
 pub fn word_at(xs: &[u32], i: u32) -> u32
-    ensures { result ≡ get_or (old xs) i 0 }
+    ensures { result ≡ get_or xs.now i 0 }
 {
     let j = i as usize;
     if xs.len() <= j {
@@ -56,7 +58,7 @@ pub fn word_at(xs: &[u32], i: u32) -> u32
 
 // The global of a user.
 pub fn global_of(gu: &[u32], user: User) -> FoundGlobal
-    ensures { result ≡ found_global (get_or (old gu) user.0 0) }
+    ensures { result ≡ found_global (get_or gu.now user.0 0) }
 {
     let w = word_at(gu, user.0);
     if w == 0 {
@@ -67,7 +69,7 @@ pub fn global_of(gu: &[u32], user: User) -> FoundGlobal
 
 // The user of a global.
 pub fn user_of(ug: &[u32], global: Global) -> FoundUser
-    ensures { result ≡ found_user (get_or (old ug) global.0 0) }
+    ensures { result ≡ found_user (get_or ug.now global.0 0) }
 {
     let w = word_at(ug, global.0);
     if w == 0 {
@@ -78,7 +80,7 @@ pub fn user_of(ug: &[u32], global: Global) -> FoundUser
 
 // The solver index that a global holds.
 pub fn solver_of(sg: &[u32], global: Global) -> FoundSolver
-    ensures { result ≡ found_solver (get_or (old sg) global.0 0) }
+    ensures { result ≡ found_solver (get_or sg.now global.0 0) }
 {
     let w = word_at(sg, global.0);
     if w == 0 {
@@ -89,7 +91,7 @@ pub fn solver_of(sg: &[u32], global: Global) -> FoundSolver
 
 // The global that holds a solver index.
 pub fn holder(gs: &[u32], solver: Solver) -> FoundGlobal
-    ensures { result ≡ found_global (get_or (old gs) solver.0 0) }
+    ensures { result ≡ found_global (get_or gs.now solver.0 0) }
 {
     let w = word_at(gs, solver.0);
     if w == 0 {
@@ -100,7 +102,7 @@ pub fn holder(gs: &[u32], solver: Solver) -> FoundGlobal
 
 // Refusal 8, where nobody holds the solver index; 0 for none.
 pub fn held_refusal(gs: &[u32], solver: Solver) -> u32
-    ensures { (t : Table) → t.global_from_solver ≡ old gs → result ≡ held_else t solver.0 0 }
+    ensures { (t : Table) → t.global_from_solver ≡ gs.now → result ≡ held_else t solver.0 0 }
 {
     let FoundGlobal::At(_) = holder(gs, solver) else {
         return 8;
@@ -110,7 +112,7 @@ pub fn held_refusal(gs: &[u32], solver: Solver) -> u32
 
 // A literal's index is at or above the capacity.
 pub fn any_outside(capacity: u32, lits: &[u32]) -> bool
-    ensures { result ≡ any_of (λ c. leb capacity (index_of c)) (old lits) }
+    ensures { result ≡ any_of (λ c. leb capacity (index_of c)) lits.now }
 {
     let mut found = false;
     let mut i = 0;
@@ -124,7 +126,7 @@ pub fn any_outside(capacity: u32, lits: &[u32]) -> bool
 // The literals as they are, from the start of `out` on.
 pub fn copy_lits(lits: &[u32], out: &mut [u32])
     requires { length lits.now ≤ length out.old }
-    ensures { Fills out 0 (old lits) }
+    ensures { Fills (change out.old out.new) 0 lits.now }
 {
     let mut i = 0;
     while i < lits.len() {
@@ -182,7 +184,7 @@ fn words_of(note: Note) -> NoteWords
 pub fn put_note(notes: &mut [u32], at: usize, note: Note)
     requires at_in_bounds { at + 3 ≤ length notes.old }
     requires note_bound { last_of note < 2 ^ 32 }
-    ensures { Fills notes at (note_words (note_of note)) }
+    ensures { Fills (change notes.old notes.new) at (note_words (note_of note)) }
 {
     let w = words_of(note);
     notes[at] = w.kind;
@@ -200,7 +202,7 @@ pub fn sizes_ok(
     assignment: &[u32],
     records: &[u32],
 ) -> bool
-    ensures { result ≡ sizesb (before c gu ug sg gs assignment records) }
+    ensures { result ≡ sizesb (given c gu.now ug.now sg.now gs.now assignment.now records.now) }
 {
     let n = c.capacity as usize;
     (1 <= c.capacity)
@@ -223,7 +225,7 @@ pub fn is_sound(
     assignment: &[u32],
     records: &[u32],
 ) -> bool
-    ensures { result ≡ soundb (before c gu ug sg gs assignment records) }
+    ensures { result ≡ soundb (given c gu.now ug.now sg.now gs.now assignment.now records.now) }
 {
     if !sizes_ok(c, gu, ug, sg, gs, assignment, records) {
         return false;

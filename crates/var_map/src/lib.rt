@@ -1,7 +1,9 @@
 // Open and Lookup (document 01; the crate's `VarMap::get`). How the contracts read: crates/scope/specs/Contract.antt.
+#![tactic(auto)]
+
 ghost use Rattle.std.specs.Prelude.{◌≡◌, true, [], length, replicate};
-ghost use Rattle.base.specs.Lent.{old, new};
-ghost use Rattle.scope.specs.Contract.{quiet, Does, Meets};
+ghost use Rattle.base.specs.Lent.{change};
+ghost use Rattle.scope.specs.Contract.{quiet, Does, Meets, reads};
 ghost use Rattle.scope.specs.Sound.{soundb};
 ghost use Rattle.scope.specs.Table.{Table};
 ghost use Rattle.scope.specs.Open.{open_counts, open_of};
@@ -14,34 +16,34 @@ use table::{
     word_at,
 };
 
-#[derive(Drop)]
+#[derive(Clone, Copy)]
 pub enum Opened {
     Done(Counts),
     Refused(u32),
 }
 
-#[derive(Drop)]
+#[derive(Clone, Copy)]
 pub enum GotUser {
     At(User),
     Nothing,
     Refused(u32),
 }
 
-#[derive(Drop)]
+#[derive(Clone, Copy)]
 pub enum GotGlobal {
     At(Global),
     Nothing,
     Refused(u32),
 }
 
-#[derive(Drop)]
+#[derive(Clone, Copy)]
 pub enum GotSolver {
     At(Solver),
     Nothing,
     Refused(u32),
 }
 
-#[derive(Drop)]
+#[derive(Clone, Copy)]
 pub enum GotWord {
     Word(u32),
     Nothing,
@@ -50,7 +52,7 @@ pub enum GotWord {
 
 // Every word becomes the value.
 fn blank(xs: &mut [u32], value: u32)
-    ensures { new xs ≡ replicate (length (old xs)) value }
+    ensures { xs.new ≡ replicate (length xs.old) value }
 {
     let mut i = 0;
     while i < xs.len() {
@@ -71,7 +73,8 @@ pub fn open_table(
     records: &mut [u32],
 ) -> Opened
     ensures { Meets (λ t room. open_of t) (opened result (open_counts capacity))
-        (quiet (open_counts capacity) gu ug sg gs assignment records) }
+        (quiet (open_counts capacity) (change gu.old gu.new) (change ug.old ug.new) (change sg.old sg.new) (change gs.old gs.new)
+            (change assignment.old assignment.new) (change records.old records.new)) }
 {
     let c = Counts {
         capacity: capacity,
@@ -106,7 +109,7 @@ pub fn get_global_from_user(
     user: User,
 ) -> GotGlobal
     ensures { Meets (λ t room. global_from_user_of t user.0) (got_global result c)
-        (quiet c gu ug sg gs assignment records) }
+        (reads c gu.now ug.now sg.now gs.now assignment.now records.now) }
 {
     if !is_sound(c, gu, ug, sg, gs, assignment, records) {
         return GotGlobal::Refused(1);
@@ -117,7 +120,7 @@ pub fn get_global_from_user(
 // Lookup in the one list that it reads, of a table known to be sound, which is not tested: any words may be lent.
 // The same definition and answer, of every sound table that has the list. The others likewise.
 pub fn global_from_user_in(gu: &[u32], user: User) -> GotGlobal
-    ensures { (t : Table) → soundb t ≡ true → t.global_from_user ≡ old gu
+    ensures { (t : Table) → soundb t ≡ true → t.global_from_user ≡ gu.now
         → Does (global_from_user_of t user.0) (got_global result t.counts) t [] [] }
 {
     let FoundGlobal::At(found) = global_of(gu, user) else {
@@ -138,7 +141,7 @@ pub fn get_user_from_global(
     global: Global,
 ) -> GotUser
     ensures { Meets (λ t room. user_from_global_of t global.0) (got_user result c)
-        (quiet c gu ug sg gs assignment records) }
+        (reads c gu.now ug.now sg.now gs.now assignment.now records.now) }
 {
     if !is_sound(c, gu, ug, sg, gs, assignment, records) {
         return GotUser::Refused(1);
@@ -148,7 +151,7 @@ pub fn get_user_from_global(
 
 // The same from a global to its user.
 pub fn user_from_global_in(ug: &[u32], global: Global) -> GotUser
-    ensures { (t : Table) → soundb t ≡ true → t.user_from_global ≡ old ug
+    ensures { (t : Table) → soundb t ≡ true → t.user_from_global ≡ ug.now
         → Does (user_from_global_of t global.0) (got_user result t.counts) t [] [] }
 {
     let FoundUser::At(found) = user_of(ug, global) else {
@@ -169,7 +172,7 @@ pub fn get_solver_from_global(
     global: Global,
 ) -> GotSolver
     ensures { Meets (λ t room. solver_from_global_of t global.0) (got_solver result c)
-        (quiet c gu ug sg gs assignment records) }
+        (reads c gu.now ug.now sg.now gs.now assignment.now records.now) }
 {
     if !is_sound(c, gu, ug, sg, gs, assignment, records) {
         return GotSolver::Refused(1);
@@ -179,7 +182,7 @@ pub fn get_solver_from_global(
 
 // The same from a global to its solver index.
 pub fn solver_from_global_in(sg: &[u32], global: Global) -> GotSolver
-    ensures { (t : Table) → soundb t ≡ true → t.solver_from_global ≡ old sg
+    ensures { (t : Table) → soundb t ≡ true → t.solver_from_global ≡ sg.now
         → Does (solver_from_global_of t global.0) (got_solver result t.counts) t [] [] }
 {
     let FoundSolver::At(found) = solver_of(sg, global) else {
@@ -200,7 +203,7 @@ pub fn get_global_from_solver(
     solver: Solver,
 ) -> GotGlobal
     ensures { Meets (λ t room. global_from_solver_of t solver.0) (got_global result c)
-        (quiet c gu ug sg gs assignment records) }
+        (reads c gu.now ug.now sg.now gs.now assignment.now records.now) }
 {
     if !is_sound(c, gu, ug, sg, gs, assignment, records) {
         return GotGlobal::Refused(1);
@@ -210,7 +213,7 @@ pub fn get_global_from_solver(
 
 // The same from a solver index to the global that holds it.
 pub fn global_from_solver_in(gs: &[u32], solver: Solver) -> GotGlobal
-    ensures { (t : Table) → soundb t ≡ true → t.global_from_solver ≡ old gs
+    ensures { (t : Table) → soundb t ≡ true → t.global_from_solver ≡ gs.now
         → Does (global_from_solver_of t solver.0) (got_global result t.counts) t [] [] }
 {
     let FoundGlobal::At(found) = holder(gs, solver) else {
@@ -231,7 +234,7 @@ pub fn get_record(
     global: Global,
 ) -> GotWord
     ensures { Meets (λ t room. record_word_of t global.0) (got_word result c)
-        (quiet c gu ug sg gs assignment records) }
+        (reads c gu.now ug.now sg.now gs.now assignment.now records.now) }
 {
     if !is_sound(c, gu, ug, sg, gs, assignment, records) {
         return GotWord::Refused(1);
@@ -241,7 +244,7 @@ pub fn get_record(
 
 // The same of the record of a global, below the watermark `mark` of globals.
 pub fn record_in(mark: u32, records: &[u32], global: Global) -> GotWord
-    ensures { (t : Table) → soundb t ≡ true → t.counts.global ≡ mark → t.records ≡ old records
+    ensures { (t : Table) → soundb t ≡ true → t.counts.global ≡ mark → t.records ≡ records.now
         → Does (record_word_of t global.0) (got_word result t.counts) t [] [] }
 {
     if mark <= global.0 {
@@ -262,7 +265,7 @@ pub fn get_assignment(
     solver: Solver,
 ) -> GotWord
     ensures { Meets (λ t room. assignment_word_of t solver.0) (got_word result c)
-        (quiet c gu ug sg gs assignment records) }
+        (reads c gu.now ug.now sg.now gs.now assignment.now records.now) }
 {
     if !is_sound(c, gu, ug, sg, gs, assignment, records) {
         return GotWord::Refused(1);
@@ -272,7 +275,7 @@ pub fn get_assignment(
 
 // The same of the assignment word of a solver index, below the watermark `mark` of solver indices.
 pub fn assignment_in(mark: u32, assignment: &[u32], solver: Solver) -> GotWord
-    ensures { (t : Table) → soundb t ≡ true → t.counts.solver ≡ mark → t.assignment ≡ old assignment
+    ensures { (t : Table) → soundb t ≡ true → t.counts.solver ≡ mark → t.assignment ≡ assignment.now
         → Does (assignment_word_of t solver.0) (got_word result t.counts) t [] [] }
 {
     if mark <= solver.0 {
