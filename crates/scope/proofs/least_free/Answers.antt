@@ -1,0 +1,9 @@
+use Rattle.scope.proofs.CursorLaws.{free_found, free_end}
+use borrow.Author.Rules.{rules}
+use Rattle.scope.proofs.least_free.Goals as goal
+
+pub returns-then-xs-i-eq0 : goal.returns-then-xs-i-eq0
+returns-then-xs-i-eq0 c = free_found _ _ _ c.loop-i.invariant c.if-xs-i-eq0.true
+
+pub returns : goal.returns
+returns c = free_end _ _ _ c.loop-i.invariant c.loop-i-test.false
