@@ -97,11 +97,11 @@ runs_out f s j i h k ok e =
     ∙ e
 
 -- a part judged, and what is ahead of it
-pub part_holds : (r x y : Bool) → not r ≡ false → r && x ≡ y → x ≡ y
+pub part_holds : (r x y : Bool) → r ≡ true → r && x ≡ y → x ≡ y
 part_holds true x y h e = e
 part_holds false x y h e = let z : ◌≡◌ {A = ℕ} 0 1 = cc in absurd (omega arith)
 
-pub part_fails : (r x y : Bool) → not r ≡ true → r && x ≡ y → false ≡ y
+pub part_fails : (r x y : Bool) → r ≡ false → r && x ≡ y → false ≡ y
 part_fails true x y h e = let z : ◌≡◌ {A = ℕ} 0 1 = cc in absurd (omega arith)
 part_fails false x y h e = e
 

@@ -110,11 +110,11 @@ module _ (gu sg records : List ℕ) (sampling : Bool) (u : ℕ) (h : is_ready gu
       go (suc g) e = more g (get_or sg g 0) (omega arith) refl
 
 -- the literal at a place, where all users pass the test
-module _ (gu sg records lits : List ℕ) (sampling b : Bool) (q : b ≡ every_of (λ c. is_ready gu sg records sampling (index_of c)) lits) (e : not b ≡ false)
+module _ (gu sg records lits : List ℕ) (sampling b : Bool) (q : b ≡ every_of (λ c. is_ready gu sg records sampling (index_of c)) lits) (e : b ≡ true)
     (i : ℕ) (l : i < length lits) where
   pub ready_at : ReadyWords gu sg (index_of (get_or lits i 0))
   ready_at =
-      ready_words gu sg records sampling _ (every_at (λ c. is_ready gu sg records sampling (index_of c)) lits i 0 (sym q ∙ not-false b e) l)
+      ready_words gu sg records sampling _ (every_at (λ c. is_ready gu sg records sampling (index_of c)) lits i 0 (sym q ∙ e) l)
 
   pub user_there : index_of (get_or lits i 0) < length gu
   user_there = word_inside gu _ ready_at.mapped
@@ -309,14 +309,14 @@ module _ (gu sg records lits : List ℕ) (sampling : Bool) (out : List ℕ) wher
     here : (t : Table) → t.global_from_user ≡ gu → t.solver_from_global ≡ sg → t.records ≡ records → every_of (passes t sampling) lits ≡ r
     here t a b d = rw (a, b, d) (sym q)
 
-    pub in_unready : not r ≡ true → Says false out
+    pub in_unready : r ≡ false → Says false out
     in_unready e t y a b d = once_not t lits sampling out out
-        (λ room k n. true≢false (sym (all_pass t lits sampling y (length out) room k n) ∙ here t a b d ∙ not-true r e))
+        (λ room k n. true≢false (sym (all_pass t lits sampling y (length out) room k n) ∙ here t a b d ∙ e))
 
-    pub in_ready : (out' : List ℕ) → ltb 8192 (length lits) || ltb (length out) (length lits) ≡ false → not r ≡ false
+    pub in_ready : (out' : List ℕ) → ltb 8192 (length lits) || ltb (length out) (length lits) ≡ false → r ≡ true
         → out' ≡ sets out 0 (map (held_code gu sg) lits) → Says true out'
     in_ready out' f e o t y a b d =
         let k = fits_both (length lits) (length out) f in
-        let h = all_held t lits sampling y (length out) k.0 k.1 (here t a b d ∙ not-false r e) in
+        let h = all_held t lits sampling y (length out) k.0 k.1 (here t a b d ∙ e) in
         let o' : out' ≡ sets out 0 (map (held_code t.global_from_user t.solver_from_global) lits) = rw (a, b) o in
         once_done t lits sampling out out' (λ words. pose_held t lits sampling out out' words y h o')

@@ -28,11 +28,11 @@ use Rattle.table.specs.Checks.{is_filled, rowb}
 use Rattle.table.proofs.PairCounts.{back_has, back_low, pair_counts}
 
 -- a test that a branch found true, or not
-pub yes_of : {b x : Bool} → b ≡ x → not b ≡ false → x ≡ true
-yes_of {b} e n = sym e ∙ not-false b n
+pub yes_of : {b x : Bool} → b ≡ x → b ≡ true → x ≡ true
+yes_of {b} e n = sym e ∙ n
 
-pub no_of : {b x : Bool} → b ≡ x → not b ≡ true → x ≡ false
-no_of {b} e n = sym e ∙ not-true b n
+pub no_of : {b x : Bool} → b ≡ x → b ≡ false → x ≡ false
+no_of {b} e n = sym e ∙ n
 
 false_is : (x : Bool) → (x ≡ true → ⊥) → false ≡ x
 false_is true h = absurd (h refl)
@@ -159,7 +159,7 @@ most_end m mark xs i ok l h e q =
     e ∙ ap (λ (k : ℕ). all_below k (most_at m xs)) q
     ∙ all_mark (length xs) mark (most_at m xs) l (λ j k. rw (tail_of mark 0 xs h j k) (le-leb 0 m (omega arith)))
 
-pub most_has : (m : ℕ) (xs : List ℕ) (b : Bool) → b ≡ at_mostb m xs → not b ≡ false → (i : ℕ) → i < length xs → get_or xs i 0 ≤ m
+pub most_has : (m : ℕ) (xs : List ℕ) (b : Bool) → b ≡ at_mostb m xs → b ≡ true → (i : ℕ) → i < length xs → get_or xs i 0 ≤ m
 unfolding at_mostb
 most_has m xs b e n i l = leb-true _ _ (all_at (length xs) (most_at m xs) (yes_of e n) i l)
 
@@ -169,7 +169,7 @@ abbrev pub back_at : List ℕ → List ℕ → ℕ → Bool
 back_at a b i = eqb (get_or a i 0) 0 || eqb (get_or b (get_or a i 0 - 1) 0) (i + 1)
 
 -- a word of the first map that is past the end of the second is not taken back
-pub back_past : (a b : List ℕ) (ok : Bool) → ok ≡ at_mostb (length b) a → not ok ≡ true → false ≡ backb a b
+pub back_past : (a b : List ℕ) (ok : Bool) → ok ≡ at_mostb (length b) a → ok ≡ false → false ≡ backb a b
 unfolding at_mostb
 back_past a b ok e n =
     false_is (backb a b) (λ h. true≢false (sym (all_intro (length a) (most_at (length b) a) (λ i l. le-leb _ _ (back_low a b (back_has a b h) i))) ∙ no_of e n))
@@ -184,10 +184,10 @@ back_end a b mark i ok l h e q =
     e ∙ ap (λ (k : ℕ). all_below k (back_at a b)) q
     ∙ all_mark (length a) mark (back_at a b) l (λ j k. rw (tail_of mark 0 a h j k) refl)
 
-pub no_pair : (a b : List ℕ) (ok : Bool) → ok ≡ backb a b → not ok ≡ true → false ≡ backb a b && backb b a
+pub no_pair : (a b : List ℕ) (ok : Bool) → ok ≡ backb a b → ok ≡ false → false ≡ backb a b && backb b a
 no_pair a b ok e n = rw (no_of e n)
 
-pub pair_is : (a b : List ℕ) (ok : Bool) (x y : ℕ) → ok ≡ backb a b → not ok ≡ false → x ≡ count (length a) (is_filled a) → y ≡ count (length b) (is_filled b)
+pub pair_is : (a b : List ℕ) (ok : Bool) (x y : ℕ) → ok ≡ backb a b → ok ≡ true → x ≡ count (length a) (is_filled a) → y ≡ count (length b) (is_filled b)
     → eqb x y ≡ backb a b && backb b a
 pair_is a b ok x y e n p q =
     let k : backb a b ≡ true = yes_of e n in
@@ -227,21 +227,21 @@ pub next_past : (xs : List ℕ) (mark next : ℕ) → mark < next → false ≡ 
 next_past xs mark next l = sym (ne_eqb _ _ (λ (e : next ≡ least_free xs mark). let m = free_most xs mark in omega arith))
 
 -- below it all is filled
-pub next_gap : (xs : List ℕ) (mark next : ℕ) (ok : Bool) → ok ≡ all_below next (is_filled xs) → not ok ≡ true → false ≡ eqb next (least_free xs mark)
+pub next_gap : (xs : List ℕ) (mark next : ℕ) (ok : Bool) → ok ≡ all_below next (is_filled xs) → ok ≡ false → false ≡ eqb next (least_free xs mark)
 next_gap xs mark next ok e n =
     sym (ne_eqb _ _ (λ (q : next ≡ least_free xs mark). true≢false
     (sym (all_intro next (is_filled xs) (λ i l. ap not (ne_eqb _ 0 (free_before xs mark i (omega arith))))) ∙ no_of e n)))
 
-next_cursor : (xs : List ℕ) (mark next : ℕ) (ok : Bool) → next ≤ mark → ok ≡ all_below next (is_filled xs) → not ok ≡ false → AllMapped xs mark next
+next_cursor : (xs : List ℕ) (mark next : ℕ) (ok : Bool) → next ≤ mark → ok ≡ all_below next (is_filled xs) → ok ≡ true → AllMapped xs mark next
 next_cursor xs mark next ok l e n =
     record { within = l; below = λ k m. not-true _ (all_at next (is_filled xs) (yes_of e n) k m) }
 
 -- and it is the mark, or free
-pub next_mark : (xs : List ℕ) (mark next : ℕ) (ok : Bool) → next ≤ mark → ok ≡ all_below next (is_filled xs) → not ok ≡ false → next ≡ mark
+pub next_mark : (xs : List ℕ) (mark next : ℕ) (ok : Bool) → next ≤ mark → ok ≡ all_below next (is_filled xs) → ok ≡ true → next ≡ mark
     → true ≡ eqb next (least_free xs mark)
 next_mark xs mark next ok l e n q = sym (eq-eqb _ _ (free_end xs mark next (next_cursor xs mark next ok l e n) (omega arith)))
 
-pub next_here : (xs : List ℕ) (mark next : ℕ) (ok : Bool) → next ≤ mark → ok ≡ all_below next (is_filled xs) → not ok ≡ false → (next ≡ mark → ⊥)
+pub next_here : (xs : List ℕ) (mark next : ℕ) (ok : Bool) → next ≤ mark → ok ≡ all_below next (is_filled xs) → ok ≡ true → (next ≡ mark → ⊥)
     → (b : Bool) → (b ≡ true → get_or xs next 0 ≡ 0) → (get_or xs next 0 ≡ 0 → b ≡ true) → b ≡ eqb next (least_free xs mark)
 next_here xs mark next ok l e n q b to from = go b refl
   where
@@ -296,25 +296,25 @@ pub tails_is : (t : Table) → tailsb t ≡ true → Tails t
 unfolding tailsb
 tails_is t h = let k = simp and_iff at h in search
 
-pub no_sizes : (t : Table) (b : Bool) → b ≡ sizesb t → not b ≡ true → false ≡ soundb t
+pub no_sizes : (t : Table) (b : Bool) → b ≡ sizesb t → b ≡ false → false ≡ soundb t
 unfolding soundb listsb
 no_sizes t b e n =
     let x = no_of e n in
     false_is (soundb t) (λ h. let k = simp and_iff at h in true≢false (cc))
 
-pub no_marks : (t : Table) (b : Bool) → b ≡ marksb t.counts → not b ≡ true → false ≡ soundb t
+pub no_marks : (t : Table) (b : Bool) → b ≡ marksb t.counts → b ≡ false → false ≡ soundb t
 unfolding soundb listsb
 no_marks t b e n =
     let x = no_of e n in
     false_is (soundb t) (λ h. let k = simp and_iff at h in true≢false (cc))
 
-pub no_tails : (t : Table) (b : Bool) → b ≡ tailsb t → not b ≡ true → false ≡ soundb t
+pub no_tails : (t : Table) (b : Bool) → b ≡ tailsb t → b ≡ false → false ≡ soundb t
 unfolding soundb listsb
 no_tails t b e n =
     let x = no_of e n in
     false_is (soundb t) (λ h. let k = simp and_iff at h in true≢false (cc))
 
-pub no_pairs : (t : Table) (b : Bool) → b ≡ pairsb t → not b ≡ true → false ≡ soundb t
+pub no_pairs : (t : Table) (b : Bool) → b ≡ pairsb t → b ≡ false → false ≡ soundb t
 unfolding soundb listsb
 no_pairs t b e n =
     let x = no_of e n in

@@ -48,7 +48,7 @@ blank_end xs ys value i h l =
 
 -- ---- the call
 
-pub refused_10 : (t : Table) (c : Counts) (b : Bool) → b ≡ sizesb t → not b ≡ true
+pub refused_10 : (t : Table) (c : Counts) (b : Bool) → b ≡ sizesb t → b ≡ false
     → Does (open_of t) (record { answer = refused 10 []; counts = c }) t [] []
 unfolding open_of unless notes_words
 refused_10 t c b e n =
@@ -65,7 +65,7 @@ unfolding sizesb
 open_lengths n gu ug sg gs a r h = let k = simp truth at h in (omega arith, omega arith, omega arith, omega arith, omega arith, omega arith)
 
 pub opened_empty : (n : ℕ) (gu ug sg gs a r gu' ug' sg' gs' a' r' : List ℕ) (b : Bool)
-    → b ≡ sizesb (table_of (open_counts n) gu ug sg gs a r) → not b ≡ false
+    → b ≡ sizesb (table_of (open_counts n) gu ug sg gs a r) → b ≡ true
     → gu' ≡ replicate (length gu) 0 → ug' ≡ replicate (length ug) 0 → sg' ≡ replicate (length sg) 0
     → gs' ≡ replicate (length gs) 0 → a' ≡ replicate (length a) 0 → r' ≡ replicate (length r) 47
     → Does (open_of (table_of (open_counts n) gu ug sg gs a r)) (record { answer = accepted []; counts = open_counts n })
