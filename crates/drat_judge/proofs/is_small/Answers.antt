@@ -1,0 +1,7 @@
+use borrow.Author.Rules.{rules}
+use Rattle.drat_judge.specs.Local.{small}
+use Rattle.drat_judge.proofs.is_small.Goals as goal
+
+pub returns : goal.returns
+unfolding small
+returns c = cc

@@ -1,0 +1,10 @@
+use mathlib.Core.Path.{sym, ◌∙◌}
+use Rattle.drat_scan.proofs.PlaceLaws.{gap_some}
+use borrow.Author.Rules.{rules}
+use Rattle.drat_scan.proofs.place.gap_after.Goals as goal
+
+pub returns-then-is_sep : goal.returns-then-is_sep
+returns-then-is_sep c =
+    let a = c.args in
+    gap_some a.s.now a.code a.end c.past_seps.result (sym c.is_sep.ensures ∙ c.if-is_sep.true)
+    c.past_seps.ensures.0

@@ -1,0 +1,27 @@
+use mathlib.Core.Path.{refl, sym, ◌∙◌}
+use native.Mathlib.Omega.{arith}
+use Rattle.drat.proofs.At.{seps_past}
+use Rattle.drat_scan.proofs.PlaceLaws.{seps_none, seps_one}
+use borrow.Author.Rules.{rules}
+use Rattle.drat_scan.proofs.place.past_seps.Goals as goal
+
+pub returns-then-not-is_sep : goal.returns-then-not-is_sep
+returns-then-not-is_sep c =
+    let a = c.args in
+    let l = c.loop-i in
+    let z = seps_none a.s.now l.i c.loop-i-test.true (sym c.is_sep.ensures ∙ c.if-not-is_sep.true) in
+    (omega (arith, z, l.invariant.1), l.invariant.0)
+
+pub loop-i-preserved : goal.loop-i-preserved
+loop-i-preserved c =
+    let a = c.args in
+    let l = c.loop-i in
+    let z = seps_one a.s.now l.i (sym c.is_sep.ensures ∙ c.if-not-is_sep.false) in
+    (λ h. omega arith, omega (arith, z, l.invariant.1))
+
+pub returns : goal.returns
+returns c =
+    let a = c.args in
+    let l = c.loop-i in
+    let z = seps_past a.s.now l.i c.loop-i-test.false in
+    (omega (arith, z, l.invariant.1), l.invariant.0)

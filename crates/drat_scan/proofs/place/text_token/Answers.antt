@@ -1,0 +1,49 @@
+use mathlib.Core.Path.{sym, ap, ◌∙◌}
+use lib.ListN.{drop}
+use native.Mathlib.Omega.{arith}
+use borrow.Author.Tests.{eq-eqb}
+use Rattle.drat.proofs.At.{text_here, token_past, gap_after, gap_stop, gap_bad}
+use Rattle.drat.proofs.Places.{signed_moves}
+use Rattle.drat.specs.Reading.{then_gap}
+use Rattle.drat.specs.declared.Format.TheVariants.{Text}
+use Rattle.drat_scan.proofs.PlaceLaws.{text_literal}
+use borrow.Author.Rules.{rules}
+use Rattle.drat_scan.proofs.place.text_token.Goals as goal
+
+pub returns-then-s-at : goal.returns-then-s-at
+returns-then-s-at c =
+    let a = c.args in
+    sym (token_past a.s.now a.at c.if-s-at.true Text)
+
+pub returns-then-s-at-eq48 : goal.returns-then-s-at-eq48
+returns-then-s-at-eq48 c =
+    let a = c.args in
+    c.close_at.ensures ∙ sym (text_here a.s.now a.at c.if-s-at.false ∙ simp (eq-eqb _ _ c.if-s-at-eq48.true))
+
+pub returns-in-Lit : goal.returns-in-Lit
+returns-in-Lit c =
+    let a = c.args in
+    let s = a.s.now in
+    let t = text_literal s a.at c.if-s-at.false
+    c.if-s-at-eq48.false in
+    let e = sym c.signed_at.ensures ∙ c.in-Lit.is in
+    let code = c.in-Lit.code in
+    let end = c.in-Lit.end in
+    let after = (signed_moves a.at (drop a.at s) code end e).0 in
+    c.gap_after.ensures ∙ sym (t ∙ ap (then_gap a.at (drop a.at s)) e ∙ gap_after s a.at end (omega (arith, after)) code)
+
+pub returns-in-Stop : goal.returns-in-Stop
+returns-in-Stop c =
+    let a = c.args in
+    let s = a.s.now in
+    let t = text_literal s a.at c.if-s-at.false c.if-s-at-eq48.false in
+    sym (t ∙ ap (then_gap a.at (drop a.at s)) (sym c.signed_at.ensures ∙ c.in-Stop.is)
+    ∙ gap_stop a.at (drop a.at s) _)
+
+pub returns-in-Bad : goal.returns-in-Bad
+returns-in-Bad c =
+    let a = c.args in
+    let s = a.s.now in
+    let t = text_literal s a.at c.if-s-at.false c.if-s-at-eq48.false in
+    sym (t ∙ ap (then_gap a.at (drop a.at s)) (sym c.signed_at.ensures ∙ c.in-Bad.is)
+    ∙ gap_bad a.at (drop a.at s))

@@ -1,0 +1,110 @@
+use Prim.Native.Nat.{ℕ, ◌+◌}
+use mathlib.Core.Logic.{⊎_elim}
+use mathlib.Core.Path.{sym, ap, ◌∙◌, subst}
+use native.Mathlib.Omega.{arith}
+use Rattle.drat.proofs.Places.{opens_at, lit_at, stop_at, token_le}
+use Rattle.drat.proofs.Sound.{Bytes}
+use Rattle.drat.specs.declared.Scanned.TheVariants.{Whole, Fault}
+use Rattle.drat_scan.proofs.ScanLaws.{Between, between_start, inside_start, inside_more, between_more, between_wrong, between_bad, between_end}
+use borrow.Author.Rules.{rules}
+use Rattle.drat_scan.proofs.scan.scan.Goals as goal
+
+pub steps-init : goal.steps-init
+steps-init c =
+    let a = c.args in
+    let s = a.s.now in
+    let hb : Bytes s = λ i. omega (arith, c.shared_slice_known-1.given i) in
+    subst (λ (x : ℕ). Between a.f s x 0 0) (sym c.past-at.ensures) (between_start a.f s hb)
+
+pub loop-next-init : goal.loop-next-init
+loop-next-init c =
+    let a = c.args in
+    let s = a.s.now in
+    let hb : Bytes s = λ i. omega (arith, c.shared_slice_known-1.given i) in
+    let o = c.steps in
+    let k = c.in-Opens.field-0 in
+    let first = c.in-Opens.first in
+    let eo = sym c.opening_at.ensures ∙ c.in-Opens.is in
+    let u = opens_at a.f s hb o.at o.invariant.outer.within k first eo in
+    inside_start a.f s first o.n u.2 (omega (arith, u.1, o.invariant.outer.small))
+
+pub loop-next-smaller : goal.loop-next-smaller
+loop-next-smaller c =
+    let a = c.args in
+    let s = a.s.now in
+    let hb : Bytes s = λ i. omega (arith, c.shared_slice_known-1.given i) in
+    let l = c.loop-next in
+    let ch = c.in-Lit.field-0 in
+    let nx = c.in-Lit.next in
+    let et = sym c.token_at.ensures ∙ c.in-Lit.is in
+    let v = lit_at a.f s hb l.at l.invariant.inner.within ch nx et in
+    omega (arith, v.1, v.2)
+
+pub loop-next-preserved : goal.loop-next-preserved
+loop-next-preserved c =
+    let a = c.args in
+    let s = a.s.now in
+    let hb : Bytes s = λ i. omega (arith, c.shared_slice_known-1.given i) in
+    let o = c.steps in
+    let first = c.in-Opens.first in
+    let l = c.loop-next in
+    let ch = c.in-Lit.field-0 in
+    let nx = c.in-Lit.next in
+    let et = sym c.token_at.ensures ∙ c.in-Lit.is in
+    inside_more a.f s first o.n l.at l.n ch nx hb l.invariant et
+
+pub steps-smaller : goal.steps-smaller
+steps-smaller c =
+    let a = c.args in
+    let s = a.s.now in
+    let hb : Bytes s = λ i. omega (arith, c.shared_slice_known-1.given i) in
+    let o = c.steps in
+    let k = c.in-Opens.field-0 in
+    let first = c.in-Opens.first in
+    let eo = sym c.opening_at.ensures ∙ c.in-Opens.is in
+    let u = opens_at a.f s hb o.at o.invariant.outer.within k first eo in
+    let l = c.loop-next in
+    let nx = c.in-Stop.next in
+    let et = sym c.token_at.ensures ∙ c.in-Stop.is in
+    let v = stop_at a.f s hb l.at l.invariant.inner.within nx et in
+    let p = c.past-at-in-Stop in
+    omega (arith, v.1, u.1, l.invariant.inner.after, p.ensures, token_le a.f s hb nx v.2)
+
+pub steps-preserved : goal.steps-preserved
+steps-preserved c =
+    let a = c.args in
+    let s = a.s.now in
+    let hb : Bytes s = λ i. omega (arith, c.shared_slice_known-1.given i) in
+    let o = c.steps in
+    let k = c.in-Opens.field-0 in
+    let first = c.in-Opens.first in
+    let eo = sym c.opening_at.ensures ∙ c.in-Opens.is in
+    let l = c.loop-next in
+    let nx = c.in-Stop.next in
+    let et = sym c.token_at.ensures ∙ c.in-Stop.is in
+    let p = c.past-at-in-Stop in
+    subst (λ (x : ℕ). Between a.f s x l.n (o.m + 1)) (sym p.ensures)
+    (between_more a.f s o.at o.n o.m hb o.invariant k first l.at l.n nx eo l.invariant et)
+
+pub returns-then-place-s : goal.returns-then-place-s
+returns-then-place-s c =
+    let a = c.args in
+    let s = a.s.now in
+    let hb : Bytes s = λ i. omega (arith, c.shared_slice_known-1.given i) in
+    let o = c.steps in
+    ⊎_elim (λ w. absurd (omega (arith, w.0.taken, w.3, c.if-place-s.true)))
+    (⊎_elim (λ w. ap Fault w.6 ∙ between_wrong a.f s o.at o.n o.m hb o.invariant w.0.left (sym w.1.ensures ∙ w.3.given.1))
+    (λ w. ap Fault w.11 ∙ between_bad a.f s o.at o.n o.m hb o.invariant w.0.left w.3.given.0.0 w.3.given.0.1.0 w.5.at
+    w.5.n
+    (sym w.1.ensures ∙ w.3.given.1) w.5.inv (sym w.6.ensures ∙ w.8.given.1)))
+    c.if-s-at.branch
+
+pub returns-else-place-s : goal.returns-else-place-s
+returns-else-place-s c =
+    let a = c.args in
+    let s = a.s.now in
+    let hb : Bytes s = λ i. omega (arith, c.shared_slice_known-1.given i) in
+    let o = c.steps in
+    ⊎_elim (λ w. ap (λ (x : ℕ). Whole x o.m) w.2 ∙ between_end a.f s o.at o.n o.m hb o.invariant w.0.taken)
+    (⊎_elim (λ w. absurd (omega (arith, w.0.left, w.6, c.if-place-s.false))) (λ w. absurd (omega (arith, w.0.left, w.11, c.if-place-s.false))))
+    c.if-s-at.branch

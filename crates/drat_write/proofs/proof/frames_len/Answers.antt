@@ -1,0 +1,31 @@
+use Prim.Native.Nat.{◌<◌}
+use mathlib.Core.Path.{ap}
+use native.Mathlib.Omega.{arith}
+use lib.ListN.{length}
+use Rattle.drat.proofs.ListedLaws.{frames_next, frames_done}
+use Rattle.drat.proofs.Steps.{opens_le, ends_le}
+use Rattle.drat.specs.Grammar.{opens}
+use Rattle.drat.specs.declared.Kind.{Kind}
+use borrow.Author.Rules.{rules}
+use Rattle.drat_write.proofs.proof.frames_len.Reads as reads
+use Rattle.drat_write.proofs.end_len.Reads as end-len-reads
+use Rattle.drat_write.proofs.open_len.Reads as open-len-reads
+use Rattle.drat_write.proofs.proof.kind_in.Reads as kind-in-reads
+use Rattle.drat_write.proofs.proof.frames_len.Goals as goal
+
+pub loop-i-preserved : goal.loop-i-preserved
+loop-i-preserved c =
+    let a = c.args in
+    let l = c.loop-i in
+    let h : l.i < length a.kinds.now = omega arith in
+    let e = ap (λ (k : Kind). length (opens a.f k)) c.kind_in.ensures in (
+      omega arith,
+      omega (arith, e, c.open_len.ensures, c.end_len.ensures, frames_next a.f a.kinds.now l.i h),
+      omega (arith, c.open_len.ensures, c.end_len.ensures, opens_le a.f c.kind_in.result, ends_le a.f),
+    )
+
+pub returns-clause-value : goal.returns-clause-value
+returns-clause-value c =
+    let a = c.args in
+    let l = c.loop-i in
+    omega (arith, frames_done a.f a.kinds.now l.i c.loop-i-test.false)

@@ -1,0 +1,23 @@
+use Prim.Native.Nat.{◌<◌}
+use mathlib.Core.Path.{ap}
+use native.Mathlib.Omega.{arith}
+use lib.ListN.{length}
+use Rattle.drat.proofs.Steps.{numbers_next_length, numbers_done}
+use borrow.Author.Rules.{rules}
+use Rattle.drat_write.proofs.proof.numbers_len.Reads as reads
+use Rattle.drat_write.proofs.number_len.Reads as number-len-reads
+use Rattle.drat_write.proofs.proof.numbers_len.Goals as goal
+
+pub loop-i-preserved : goal.loop-i-preserved
+loop-i-preserved c =
+    let a = c.args in
+    let l = c.loop-i in
+    let h : l.i < length a.codes.now = omega arith in
+    (omega arith, omega (arith, c.number_len.ensures.value, numbers_next_length a.f a.codes.now l.i h), omega (arith, c.number_len.ensures.upper_bound))
+
+pub returns-clause-value : goal.returns-clause-value
+returns-clause-value c =
+    let a = c.args in
+    let l = c.loop-i in
+    let d = numbers_done a.f a.codes.now l.i c.loop-i-test.false in
+    omega (arith, ap length d)

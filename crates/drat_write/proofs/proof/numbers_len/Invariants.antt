@@ -1,0 +1,16 @@
+use Prim.Native.Nat.{◌+◌, ◌-◌, ◌*◌, ◌≤◌}
+use mathlib.Core.Path.{◌≡◌}
+use native.Mathlib.Omega.{arith}
+use lib.ListN.{length, drop}
+use Rattle.drat.specs.Grammar.{numbers}
+use borrow.Author.Rules.{rules}
+use Rattle.drat_write.proofs.proof.numbers_len.Reads as reads
+use Rattle.drat_write.proofs.number_len.Reads as number-len-reads
+use Rattle.drat_write.proofs.proof.numbers_len.Given as goal
+
+abbrev pub invariant-loop-i : goal.invariant-loop-i
+invariant-loop-i l =
+    (l.i ≤ length l.codes) × (l.k + length (numbers l.f (drop l.i l.codes)) ≡ length (numbers l.f l.codes)) × (l.k ≤ 6 * l.i)
+
+abbrev pub decreases-loop-i : goal.decreases-loop-i
+decreases-loop-i l = length l.codes - l.i
