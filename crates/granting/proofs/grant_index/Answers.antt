@@ -50,7 +50,7 @@ returns-in_default-clause-by_index_2 c =
 
 pub returns-clause-by_index : goal.returns-clause-by_index
 returns-clause-by_index c =
-    (kept_done _ _ _ _ _ _ _ _ _ (solver_word_lem _ _ c.solver_of.ensures ∙ ap solver_word c.in-At.is)).0
+    (kept_done _ _ _ _ _ _ c.args.at _ c.args.notes.now (solver_word_lem _ _ c.solver_of.ensures ∙ ap solver_word c.in-At.is)).0
 
 pub returns-clause-by_index_2 : goal.returns-clause-by_index_2
 returns-clause-by_index_2 c =
