@@ -12,14 +12,14 @@ use Rattle.drat_read.proofs.find.Goals as goal
 pub returns-then-is_ample : goal.returns-then-is_ample
 returns-then-is_ample c =
     let a = c.args in
-    let hb : Bytes a.bytes.now = λ i. omega (arith, c.shared_slice_known-1.given i) in
+    let hb : Bytes a.bytes.now = λ i. omega (arith, c.type_inv.bytes i) in
     let r = c.is_ample.ensures c.if-is_ample.true in
     ample_fits a.f a.bytes.now a.a a.b a.c hb (c.is_known.ensures c.if-is_known.true) r.0 r.1 r.2
 
 pub returns-then-is_known : goal.returns-then-is_known
 returns-then-is_known c =
     let a = c.args in
-    let hb : Bytes a.bytes.now = λ i. omega (arith, c.shared_slice_known-1.given i) in
+    let hb : Bytes a.bytes.now = λ i. omega (arith, c.type_inv.bytes i) in
     let w = c.counts_of-w in
     let e = ap₂ Whole w.ensures.0 w.ensures.1 ∙ counts_are a.f a.bytes.now hb (c.is_known.ensures c.if-is_known.true) in
     subst (Found a.f a.bytes.now a.a a.b a.c) (sym c.room_for.ensures)

@@ -17,7 +17,7 @@ pub bounds-s-at : goal.bounds-s-at
 bounds-s-at c =
     let a = c.args in
     let s = a.s.now in
-    let hb : Bytes s = λ i. omega (arith, c.shared_slice_known-1.given i) in
+    let hb : Bytes s = λ i. omega (arith, c.type_inv.s i) in
     let l = c.loop-at in
     filling_inside Binary s a.codes.now l.codes a.from a.first l.at l.n hb l.invariant
 
@@ -25,7 +25,7 @@ pub code_at-w-requires-clause-lit : goal.code_at-w-requires-clause-lit
 code_at-w-requires-clause-lit c =
     let a = c.args in
     let s = a.s.now in
-    let hb : Bytes s = λ i. omega (arith, c.shared_slice_known-1.given i) in
+    let hb : Bytes s = λ i. omega (arith, c.type_inv.s i) in
     let l = c.loop-at in
     filling_lit Binary s a.codes.now l.codes a.from a.first l.at l.n hb l.invariant c.loop-at-test.true
 
@@ -33,7 +33,7 @@ pub bounds-codes-n : goal.bounds-codes-n
 bounds-codes-n c =
     let a = c.args in
     let s = a.s.now in
-    let hb : Bytes s = λ i. omega (arith, c.shared_slice_known-1.given i) in
+    let hb : Bytes s = λ i. omega (arith, c.type_inv.s i) in
     let l = c.loop-at in
     let d = filling_more Binary s a.codes.now l.codes a.from a.first l.at l.n hb l.invariant c.code_at-w.result.code
     c.code_at-w.result.next c.code_at-w.ensures in
@@ -44,7 +44,7 @@ pub loop-at-smaller : goal.loop-at-smaller
 loop-at-smaller c =
     let a = c.args in
     let s = a.s.now in
-    let hb : Bytes s = λ i. omega (arith, c.shared_slice_known-1.given i) in
+    let hb : Bytes s = λ i. omega (arith, c.type_inv.s i) in
     let l = c.loop-at in
     let d = filling_more Binary s a.codes.now l.codes a.from a.first l.at l.n hb l.invariant c.code_at-w.result.code
     c.code_at-w.result.next c.code_at-w.ensures in
@@ -54,7 +54,7 @@ pub loop-at-preserved : goal.loop-at-preserved
 loop-at-preserved c =
     let a = c.args in
     let s = a.s.now in
-    let hb : Bytes s = λ i. omega (arith, c.shared_slice_known-1.given i) in
+    let hb : Bytes s = λ i. omega (arith, c.type_inv.s i) in
     let l = c.loop-at in
     let d = filling_more Binary s a.codes.now l.codes a.from a.first l.at l.n hb l.invariant c.code_at-w.result.code
     c.code_at-w.result.next c.code_at-w.ensures in
@@ -64,7 +64,7 @@ pub returns : goal.returns
 returns c =
     let a = c.args in
     let s = a.s.now in
-    let hb : Bytes s = λ i. omega (arith, c.shared_slice_known-1.given i) in
+    let hb : Bytes s = λ i. omega (arith, c.type_inv.s i) in
     let l = c.loop-at in
     let d = filling_stop Binary s a.codes.now l.codes a.from a.first l.at l.n hb l.invariant c.loop-at-test.false in
     d.1

@@ -15,7 +15,7 @@ pub loop-at-init : goal.loop-at-init
 loop-at-init c =
     let a = c.args in
     let s = a.s.now in
-    let hb : Bytes s = λ i. omega (arith, c.shared_slice_known-1.given i) in
+    let hb : Bytes s = λ i. omega (arith, c.type_inv.s i) in
     subst (λ (x : ℕ). Outer a.f s a.codes.now a.ends.now a.kinds.now a.codes.now a.ends.now a.kinds.now x 0 0) (sym
     c.past-at.ensures)
     (outer_start a.f s a.codes.now a.ends.now a.kinds.now hb)
@@ -24,7 +24,7 @@ pub start_at-b-requires : goal.start_at-b-requires
 start_at-b-requires c =
     let a = c.args in
     let s = a.s.now in
-    let hb : Bytes s = λ i. omega (arith, c.shared_slice_known-1.given i) in
+    let hb : Bytes s = λ i. omega (arith, c.type_inv.s i) in
     let l = c.loop-at in
     fill_here a.f s a.codes.now a.ends.now a.kinds.now l.codes l.ends l.kinds l.at l.n l.m hb l.invariant
     (length a.codes.now) (length a.ends.now) (length a.kinds.now) c.requires c.loop-at-test.true
@@ -33,7 +33,7 @@ pub body_from-p-requires : goal.body_from-p-requires
 body_from-p-requires c =
     let a = c.args in
     let s = a.s.now in
-    let hb : Bytes s = λ i. omega (arith, c.shared_slice_known-1.given i) in
+    let hb : Bytes s = λ i. omega (arith, c.type_inv.s i) in
     let l = c.loop-at in
     let b = c.start_at-b in
     subst (BodyFits a.f s b.result.first l.n) (sym (ap length l.invariant.codes_held ∙ length-sets a.codes.now 0 (codes_of l.invariant.ss)))
@@ -45,7 +45,7 @@ pub offset_bounds-ends-m : goal.offset_bounds-ends-m
 offset_bounds-ends-m c =
     let a = c.args in
     let s = a.s.now in
-    let hb : Bytes s = λ i. omega (arith, c.shared_slice_known-1.given i) in
+    let hb : Bytes s = λ i. omega (arith, c.type_inv.s i) in
     let l = c.loop-at in
     let r = fill_room a.f s a.codes.now a.ends.now a.kinds.now l.codes l.ends l.kinds l.at l.n l.m hb l.invariant
     (length a.codes.now) (length a.ends.now) (length a.kinds.now) c.requires
@@ -56,7 +56,7 @@ pub bounds-ends-m : goal.bounds-ends-m
 bounds-ends-m c =
     let a = c.args in
     let s = a.s.now in
-    let hb : Bytes s = λ i. omega (arith, c.shared_slice_known-1.given i) in
+    let hb : Bytes s = λ i. omega (arith, c.type_inv.s i) in
     let l = c.loop-at in
     let r = fill_room a.f s a.codes.now a.ends.now a.kinds.now l.codes l.ends l.kinds l.at l.n l.m hb l.invariant
     (length a.codes.now) (length a.ends.now) (length a.kinds.now) c.requires
@@ -68,7 +68,7 @@ pub bounds-kinds-m : goal.bounds-kinds-m
 bounds-kinds-m c =
     let a = c.args in
     let s = a.s.now in
-    let hb : Bytes s = λ i. omega (arith, c.shared_slice_known-1.given i) in
+    let hb : Bytes s = λ i. omega (arith, c.type_inv.s i) in
     let l = c.loop-at in
     let r = fill_room a.f s a.codes.now a.ends.now a.kinds.now l.codes l.ends l.kinds l.at l.n l.m hb l.invariant
     (length a.codes.now) (length a.ends.now) (length a.kinds.now) c.requires
@@ -80,7 +80,7 @@ pub loop-at-smaller : goal.loop-at-smaller
 loop-at-smaller c =
     let a = c.args in
     let s = a.s.now in
-    let hb : Bytes s = λ i. omega (arith, c.shared_slice_known-1.given i) in
+    let hb : Bytes s = λ i. omega (arith, c.type_inv.s i) in
     let l = c.loop-at in
     let b = c.start_at-b in
     let q = c.body_from-p in
@@ -92,7 +92,7 @@ pub loop-at-preserved : goal.loop-at-preserved
 loop-at-preserved c =
     let a = c.args in
     let s = a.s.now in
-    let hb : Bytes s = λ i. omega (arith, c.shared_slice_known-1.given i) in
+    let hb : Bytes s = λ i. omega (arith, c.type_inv.s i) in
     let l = c.loop-at in
     let b = c.start_at-b in
     let q = c.body_from-p in
@@ -105,6 +105,6 @@ pub returns : goal.returns
 returns c =
     let a = c.args in
     let s = a.s.now in
-    let hb : Bytes s = λ i. omega (arith, c.shared_slice_known-1.given i) in
+    let hb : Bytes s = λ i. omega (arith, c.type_inv.s i) in
     let l = c.loop-at in
     fill_end a.f s a.codes.now a.ends.now a.kinds.now l.codes l.ends l.kinds l.at l.n l.m hb l.invariant c.loop-at-test.false

@@ -19,7 +19,7 @@ pub bounds-s-at : goal.bounds-s-at
 bounds-s-at c =
     let a = c.args in
     let s = a.s.now in
-    let hb : Bytes s = λ i. omega (arith, c.shared_slice_known-1.given i) in
+    let hb : Bytes s = λ i. omega (arith, c.type_inv.s i) in
     let l = c.loop-at in
     filling_inside Text s a.codes.now l.codes a.from a.first l.at l.n hb l.invariant
 
@@ -27,7 +27,7 @@ pub literal_at-w-requires : goal.literal_at-w-requires
 literal_at-w-requires c =
     let a = c.args in
     let s = a.s.now in
-    let hb : Bytes s = λ i. omega (arith, c.shared_slice_known-1.given i) in
+    let hb : Bytes s = λ i. omega (arith, c.type_inv.s i) in
     let l = c.loop-at in
     filling_number s a.codes.now l.codes a.from a.first l.at l.n hb l.invariant c.loop-at-test.true
 
@@ -35,7 +35,7 @@ pub bounds-codes-n : goal.bounds-codes-n
 bounds-codes-n c =
     let a = c.args in
     let s = a.s.now in
-    let hb : Bytes s = λ i. omega (arith, c.shared_slice_known-1.given i) in
+    let hb : Bytes s = λ i. omega (arith, c.type_inv.s i) in
     let l = c.loop-at in
     let w = c.literal_at-w in
     let r = filling_read s a.codes.now l.codes a.from a.first l.at l.n hb l.invariant c.loop-at-test.true w.result.code
@@ -49,7 +49,7 @@ pub overflow_add-w : goal.overflow_add-w
 overflow_add-w c =
     let a = c.args in
     let s = a.s.now in
-    let hb : Bytes s = λ i. omega (arith, c.shared_slice_known-1.given i) in
+    let hb : Bytes s = λ i. omega (arith, c.type_inv.s i) in
     let l = c.loop-at in
     let w = c.literal_at-w in
     let r = filling_read s a.codes.now l.codes a.from a.first l.at l.n hb l.invariant c.loop-at-test.true w.result.code
@@ -60,7 +60,7 @@ pub past_gap-at-requires : goal.past_gap-at-requires
 past_gap-at-requires c =
     let a = c.args in
     let s = a.s.now in
-    let hb : Bytes s = λ i. omega (arith, c.shared_slice_known-1.given i) in
+    let hb : Bytes s = λ i. omega (arith, c.type_inv.s i) in
     let l = c.loop-at in
     let w = c.literal_at-w in
     filling_gap s a.codes.now l.codes a.from a.first l.at l.n hb l.invariant c.loop-at-test.true w.result.code
@@ -70,7 +70,7 @@ pub loop-at-smaller : goal.loop-at-smaller
 loop-at-smaller c =
     let a = c.args in
     let s = a.s.now in
-    let hb : Bytes s = λ i. omega (arith, c.shared_slice_known-1.given i) in
+    let hb : Bytes s = λ i. omega (arith, c.type_inv.s i) in
     let l = c.loop-at in
     let w = c.literal_at-w in
     let r = filling_read s a.codes.now l.codes a.from a.first l.at l.n hb l.invariant c.loop-at-test.true
@@ -83,7 +83,7 @@ pub loop-at-preserved : goal.loop-at-preserved
 loop-at-preserved c =
     let a = c.args in
     let s = a.s.now in
-    let hb : Bytes s = λ i. omega (arith, c.shared_slice_known-1.given i) in
+    let hb : Bytes s = λ i. omega (arith, c.type_inv.s i) in
     let l = c.loop-at in
     let w = c.literal_at-w in
     let r = filling_read s a.codes.now l.codes a.from a.first l.at l.n hb l.invariant c.loop-at-test.true
@@ -97,6 +97,6 @@ pub returns : goal.returns
 returns c =
     let a = c.args in
     let s = a.s.now in
-    let hb : Bytes s = λ i. omega (arith, c.shared_slice_known-1.given i) in
+    let hb : Bytes s = λ i. omega (arith, c.type_inv.s i) in
     let l = c.loop-at in
     (filling_stop Text s a.codes.now l.codes a.from a.first l.at l.n hb l.invariant c.loop-at-test.false).1

@@ -21,7 +21,7 @@ pub past_gap-requires : goal.past_gap-requires
 past_gap-requires c =
     let a = c.args in
     let s = a.s.now in
-    let hb : Bytes s = λ i. omega (arith, c.shared_slice_known-1.given i) in
+    let hb : Bytes s = λ i. omega (arith, c.type_inv.s i) in
     let k = c.kind_by-kind.result in
     let o = subst (λ (f : Format). IsStep (one_step f a.at (drop a.at s))) c.in-Text.is c.requires in
     text_gap s a.at k hb o c.kind_by-kind.ensures.0
@@ -37,7 +37,7 @@ pub returns-in-Text : goal.returns-in-Text
 returns-in-Text c =
     let a = c.args in
     let s = a.s.now in
-    let hb : Bytes s = λ i. omega (arith, c.shared_slice_known-1.given i) in
+    let hb : Bytes s = λ i. omega (arith, c.type_inv.s i) in
     let k = c.kind_by-kind.result in
     opened a.f s a.at k c.past_gap.result hb c.requires
     c.kind_by-kind.ensures.0
@@ -47,7 +47,7 @@ pub returns-in-Binary : goal.returns-in-Binary
 returns-in-Binary c =
     let a = c.args in
     let s = a.s.now in
-    let hb : Bytes s = λ i. omega (arith, c.shared_slice_known-1.given i) in
+    let hb : Bytes s = λ i. omega (arith, c.type_inv.s i) in
     let k = c.kind_by-kind.result in
     opened a.f s a.at k (a.at + 1) hb c.requires c.kind_by-kind.ensures.0
     (sym (ap (λ (f : Format). first_place f s a.at k) c.in-Binary.is))
