@@ -53,7 +53,7 @@ solvers_inside t y = record { at = λ g. go g (get_or t.solver_from_global g 0) 
         omega arith
 
 -- each literal of a run is done as it is looked up, whatever was done before
-pub run_done : {lits : List ℕ} {a b : ℕ} {out m : List ℕ} (t s : Table) (at : ℕ) (words words' out₀ : List ℕ)
+pub run_done : {lits : List ℕ} {a : ℕ} {out : List ℕ} (t s : Table) (at : ℕ) (words words' out₀ : List ℕ) {b : ℕ} {m : List ℕ}
     → HeldRun s.global_from_user s.solver_from_global lits a out b m
     → LitsDone t lits a at s words words' out₀ out → LitsDone t lits b at s words words' out₀ m
 run_done t s at words words' out₀ none d = d
