@@ -1,6 +1,5 @@
 use Rattle.base.proofs.KeepLaws.{kept_start, count_some, count_none, count_end, count_most}
 use Rattle.scope.specs.Binary.{times}
-use mathlib.Core.Logic.{⊎_elim}
 use borrow.Author.Tests.{eq-eqb, ne_eqb}
 use lib.Dec.{eqb}
 use lib.ListN.{length}
@@ -8,6 +7,7 @@ use mathlib.Core.Path.{sym, ap, ◌∙◌}
 use native.Mathlib.Omega.{arith}
 use borrow.Author.Rules.{rules}
 use Rattle.sections.proofs.exact.count_of.Goals as goal
+use Rattle.sections.proofs.exact.count_of.Goals.{then-es-i, else-es-i}
 
 pub loop-i-init : goal.loop-i-init
 loop-i-init c = (omega arith, sym (ap length (kept_start (λ x. eqb x c.args.m) c.args.es.now)))
@@ -19,10 +19,11 @@ overflow_add-k c =
 pub loop-i-preserved : goal.loop-i-preserved
 loop-i-preserved c = (
       omega arith,
-      ⊎_elim (λ w. w.1 ∙ count_some (λ x. eqb x c.args.m) c.args.es.now _ _ c.loop-i-test.true
-          (eq-eqb _ _ w.0.taken) c.loop-i.invariant.1)
-          (λ w. w.1 ∙ count_none (λ x. eqb x c.args.m) c.args.es.now _ _ c.loop-i-test.true (ne_eqb _ _ w.0.left)
-          c.loop-i.invariant.1) c.if-es-i.branch,
+      elim c.if-es-i.branch [
+        then-es-i w ↦ w.k-is ∙ count_some (λ x. eqb x c.args.m) c.args.es.now _ _ c.loop-i-test.true
+          (eq-eqb _ _ w.if-es-i.true) c.loop-i.invariant.1
+      | else-es-i w ↦ w.k-is ∙ count_none (λ x. eqb x c.args.m) c.args.es.now _ _ c.loop-i-test.true
+          (ne_eqb _ _ w.if-es-i.false) c.loop-i.invariant.1 ],
     )
 
 pub returns : goal.returns

@@ -1,4 +1,5 @@
 use Rattle.sections.proofs.TallyLaws.{clear_start, clear_slot, clear_more, clear_end}
+use Rattle.sections.proofs.InsideLaws.{inside_at}
 use Rattle.base.proofs.MemberLaws.{every_start, every_step, every_fails}
 use Rattle.scope.specs.Binary.{sections_of, has_mirror}
 use mathlib.Core.Bool.{true}
@@ -31,7 +32,7 @@ loop-i-preserved c = (
       every_step (has_mirror (sections_of c.args.n c.args.lists.now) c.args.l) c.args.es.now _ 0
           c.loop-i-test.true c.loop-i.invariant.1 (sym c.slot_mirrored.ensures ∙ c.if-not-slot_mirrored.false),
       clear_more c.args.es.now c.loop-i.tally c.loop-i.i c.loop-i-test.true
-          c.loop-i.invariant.2 (omega (arith, low c, c.requires.placed.few)),
+          c.loop-i.invariant.2 (omega (arith, inside_at c.args.lists.now c.args.n c.requires.inside c.args.l _ c.requires.es_value c.loop-i.i c.loop-i-test.true, c.requires.placed.few)),
     )
 
 pub returns-clause-tallied_2 : goal.returns-clause-tallied_2

@@ -6,7 +6,7 @@ use Rattle.sections.proofs.queues.heads_meet.Goals as goal
 
 pub loop-walk-init : goal.loop-walk-init
 loop-walk-init c = (
-      c.start_heads.auto.head.0,
+      c.start_heads.auto.head,
       refl,
       even_start c.args.lists.now c.args.n c.args.place.now c.requires.placed _
           c.start_heads.ensures,
