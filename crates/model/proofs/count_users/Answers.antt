@@ -1,10 +1,10 @@
-use mathlib.Core.Logic.{⊎_elim}
 use mathlib.Core.Path.{sym, ap, ◌∙◌}
 use lib.ListN.{length}
 use native.Mathlib.Omega.{arith}
 use Rattle.model.proofs.ValueLaws.{user_asks}
 use Rattle.model.proofs.RowLaws.{users_start, users_count_some, users_count_none, users_count_end, users_count_bound}
 use Rattle.model.proofs.count_users.Goals as goal
+use Rattle.model.proofs.count_users.Goals.{then-v-ne0, else-v-ne0}
 
 pub loop-u-init : goal.loop-u-init
 loop-u-init c = (omega arith, sym (ap length (users_start _)))
@@ -23,9 +23,9 @@ overflow_add-k c = let x = users_count_bound _ _ _ c.loop-u.invariant.1 in omega
 pub loop-u-preserved : goal.loop-u-preserved
 loop-u-preserved c = (
   omega arith,
-  ⊎_elim (λ w. w.1 ∙ users_count_some _ _ _ _ c.user_value-v.ensures.value w.0.taken
-      c.loop-u.invariant.1) (λ w. w.1
-      ∙ users_count_none _ _ _ _ c.user_value-v.ensures.value w.0.left c.loop-u.invariant.1) c.if-v-ne0.branch,
+  elim c.if-v-ne0.branch [
+    then-v-ne0 w ↦ w.k-is ∙ users_count_some _ _ _ _ c.user_value-v.ensures.value w.if-v-ne0.true c.loop-u.invariant.1
+  | else-v-ne0 w ↦ w.k-is ∙ users_count_none _ _ _ _ c.user_value-v.ensures.value w.if-v-ne0.false c.loop-u.invariant.1 ],
 )
 
 pub returns : goal.returns

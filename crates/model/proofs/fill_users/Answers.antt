@@ -1,11 +1,11 @@
 use Rattle.model.proofs.RowLaws.{users_fill_there, users_start, users_count_some, users_count_none, users_count_end}
 use Rattle.model.proofs.RowLaws.{users_count_bound, users_count_room, users_fill_start, users_fill_some, users_fill_none, users_fill_end}
 use Rattle.model.proofs.ValueLaws.{user_asks, user_mark}
-use mathlib.Core.Logic.{⊎_elim}
 use mathlib.Core.Path.{sym, ap, ◌∙◌}
 use lib.ListN.{length}
 use native.Mathlib.Omega.{arith}
 use Rattle.model.proofs.fill_users.Goals as goal
+use Rattle.model.proofs.fill_users.Goals.{then-v-ne0, else-v-ne0}
 
 pub loop-u-init : goal.loop-u-init
 loop-u-init c = (omega arith, sym (ap length (users_start _)), users_fill_start _ _)
@@ -35,19 +35,18 @@ pub overflow_add-k : goal.overflow_add-k
 overflow_add-k c = let x = users_count_bound _ _ _ c.loop-u.invariant.1 in omega arith
 
 pub loop-u-preserved : goal.loop-u-preserved
-loop-u-preserved c = ⊎_elim
-    (λ w. (
+loop-u-preserved c = elim c.if-v-ne0.branch [
+    then-v-ne0 w ↦ (
       omega arith,
-      w.2 ∙ users_count_some _ _ _ _ c.user_value-v.ensures.value w.0.taken c.loop-u.invariant.1,
-      w.1 ∙ users_fill_some _ _ _ _ _ _ _ c.loop-u.invariant.2 c.loop-u.invariant.1
-          c.user_value-v.ensures.value w.0.taken (omega arith),
-    ))
-    (λ w. (
+      w.k-is ∙ users_count_some _ _ _ _ c.user_value-v.ensures.value w.if-v-ne0.true c.loop-u.invariant.1,
+      w.users-is ∙ users_fill_some _ _ _ _ _ _ _ c.loop-u.invariant.2 c.loop-u.invariant.1
+          c.user_value-v.ensures.value w.if-v-ne0.true (omega arith),
+    )
+  | else-v-ne0 w ↦ (
       omega arith,
-      w.2 ∙ users_count_none _ _ _ _ c.user_value-v.ensures.value w.0.left c.loop-u.invariant.1,
-      w.1
-          ∙ users_fill_none _ _ _ _ _ c.loop-u.invariant.2 c.user_value-v.ensures.value w.0.left,
-    )) c.if-v-ne0.branch
+      w.k-is ∙ users_count_none _ _ _ _ c.user_value-v.ensures.value w.if-v-ne0.false c.loop-u.invariant.1,
+      w.users-is ∙ users_fill_none _ _ _ _ _ c.loop-u.invariant.2 c.user_value-v.ensures.value w.if-v-ne0.false,
+    ) ]
 
 pub returns-clause-value : goal.returns-clause-value
 returns-clause-value c =

@@ -1,5 +1,4 @@
 use Rattle.simplify.specs.Values.{false_by}
-use mathlib.Core.Logic.{⊎_elim}
 use Rattle.base.proofs.KeepLaws.{kept_start, count_some, count_none, count_most}
 use lib.ListN.{length}
 use mathlib.Core.Bool.{not}
@@ -7,6 +6,7 @@ use mathlib.Core.Path.{sym, ap, ◌∙◌}
 use native.Mathlib.Omega.{arith}
 use borrow.Author.Rules.{rules}
 use Rattle.simplify.proofs.clause.count_unfalse.Goals as goal
+use Rattle.simplify.proofs.clause.count_unfalse.Goals.{then-not-is_false, else-not-is_false}
 
 pub loop-i-init : goal.loop-i-init
 loop-i-init c = (
@@ -23,11 +23,11 @@ overflow_add-k c = let z = count_most (λ x. not (false_by c.args.assignment.now
 pub loop-i-preserved : goal.loop-i-preserved
 loop-i-preserved c = (
   omega arith,
-  ⊎_elim
-      (λ w. w.1 ∙ count_some (λ x. not (false_by c.args.assignment.now x))
+  elim c.if-not-is_false.branch [
+    then-not-is_false w ↦ w.k-is ∙ count_some (λ x. not (false_by c.args.assignment.now x))
       c.args.lits.now _ _ c.loop-i-test.true
-      (sym (ap not c.is_false.ensures) ∙ w.0.taken) c.loop-i.invariant.1)
-      (λ w. w.1 ∙ count_none (λ x. not (false_by c.args.assignment.now x))
+      (ap not (sym c.is_false.ensures ∙ w.if-not-is_false.true)) c.loop-i.invariant.1
+  | else-not-is_false w ↦ w.k-is ∙ count_none (λ x. not (false_by c.args.assignment.now x))
       c.args.lits.now _ _ c.loop-i-test.true
-      (sym (ap not c.is_false.ensures) ∙ w.0.left) c.loop-i.invariant.1) c.if-not-is_false.branch,
+      (ap not (sym c.is_false.ensures ∙ w.if-not-is_false.false)) c.loop-i.invariant.1 ],
 )

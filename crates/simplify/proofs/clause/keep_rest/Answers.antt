@@ -1,14 +1,14 @@
 use Rattle.scope.specs.Write.{rename_lit, rename_lits}
 use Rattle.simplify.specs.Values.{false_by}
-use mathlib.Core.Logic.{⊎_elim}
 use Rattle.base.proofs.KeepLaws.{kept_start, count_some, count_none, count_most, count_room, store_start, store_some}
 use Rattle.base.proofs.KeepLaws.{store_none, store_end, store_there}
 use lib.ListN.{length, get_or}
-use mathlib.Core.Bool.{not}
-use mathlib.Core.Path.{refl, sym, ap, ◌∙◌}
+use mathlib.Core.Bool.{true, false, not}
+use mathlib.Core.Path.{◌≡◌, refl, sym, ap, ◌∙◌}
 use native.Mathlib.Omega.{arith}
 use borrow.Author.Rules.{rules}
 use Rattle.simplify.proofs.clause.keep_rest.Goals as goal
+use Rattle.simplify.proofs.clause.keep_rest.Goals.{then-not-is_false, else-not-is_false}
 
 pub loop-i-init : goal.loop-i-init
 loop-i-init c = (
@@ -34,7 +34,7 @@ bounds-out-k c =
     store_there (λ x. not (false_by c.args.assignment.now x)) c.args.lits.now
     (rename_lit (λ s. get_or c.args.gs.now s 0) c.args.named) c.args.out.now _ c.loop-i.i _
     (count_room (λ x. not (false_by c.args.assignment.now x)) c.args.lits.now _ _ c.loop-i-test.true
-    (sym (ap not c.is_false.ensures) ∙ c.if-not-is_false.true) c.loop-i.invariant.1)
+    (ap not (sym c.is_false.ensures ∙ c.if-not-is_false.true)) c.loop-i.invariant.1)
     c.requires.lits_in_bounds c.loop-i.invariant.2
 
 pub overflow_add-k : goal.overflow_add-k
@@ -44,25 +44,25 @@ overflow_add-k c =
 
 pub loop-i-preserved : goal.loop-i-preserved
 loop-i-preserved c =
-    ⊎_elim (λ w. let e = sym (ap not c.is_false.ensures) ∙ w.0.taken in (
-      omega arith,
-      w.3 ∙ count_some (λ x. not (false_by c.args.assignment.now x)) c.args.lits.now _ _
+    elim c.if-not-is_false.branch [
+      then-not-is_false w ↦ let e : not (false_by c.args.assignment.now (get_or c.args.lits.now c.loop-i.i 0)) ≡ true =
+        ap not (sym c.is_false.ensures ∙ w.if-not-is_false.true) in (
+        omega arith,
+        w.k-is ∙ count_some (λ x. not (false_by c.args.assignment.now x)) c.args.lits.now _ _
           c.loop-i-test.true e c.loop-i.invariant.1,
-      w.2
-          ∙ store_some (λ x. not (false_by c.args.assignment.now x)) c.args.lits.now
+        w.out-is ∙ store_some (λ x. not (false_by c.args.assignment.now x)) c.args.lits.now
           (rename_lit (λ s. get_or c.args.gs.now s 0) c.args.named) c.args.out.now _ _ _ _
-          c.loop-i-test.true e
-          c.loop-i.invariant.1 c.loop-i.invariant.2 w.1.ensures,
-    )) (λ w. let e =
-    sym (ap not c.is_false.ensures) ∙ w.0.left in (
-      omega arith,
-      w.2 ∙ count_none (λ x. not (false_by c.args.assignment.now x)) c.args.lits.now _ _
+          c.loop-i-test.true e c.loop-i.invariant.1 c.loop-i.invariant.2 w.rename_lit.ensures,
+      )
+    | else-not-is_false w ↦ let e : not (false_by c.args.assignment.now (get_or c.args.lits.now c.loop-i.i 0)) ≡ false =
+        ap not (sym c.is_false.ensures ∙ w.if-not-is_false.false) in (
+        omega arith,
+        w.k-is ∙ count_none (λ x. not (false_by c.args.assignment.now x)) c.args.lits.now _ _
           c.loop-i-test.true e c.loop-i.invariant.1,
-      w.1
-          ∙ store_none (λ x. not (false_by c.args.assignment.now x)) c.args.lits.now
+        w.out-is ∙ store_none (λ x. not (false_by c.args.assignment.now x)) c.args.lits.now
           (rename_lit (λ s. get_or c.args.gs.now s 0) c.args.named) c.args.out.now _ _ c.loop-i-test.true e
           c.loop-i.invariant.2,
-    )) c.if-not-is_false.branch
+      ) ]
 
 pub returns-clause-fills : goal.returns-clause-fills
 unfolding rename_lits

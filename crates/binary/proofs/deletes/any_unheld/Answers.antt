@@ -1,0 +1,38 @@
+use Rattle.base.specs.Bounded.{any_of}
+use Rattle.table.proofs.FoundLaws.{global_word_lem}
+use Rattle.steps.proofs.LiteralLaws.{word_filled}
+use Rattle.binary.specs.Entries.{unheld_by}
+use Rattle.binary.proofs.EachLaws.{filled_all, any_empty, any_passed, any_found, any_done}
+use borrow.Author.Tests.{eq-eqb}
+use mathlib.Core.Logic.{⊎_elim}
+use mathlib.Core.Path.{refl, sym, ap, ◌∙◌}
+use native.Mathlib.Omega.{arith}
+use borrow.Author.Rules.{rules}
+use Rattle.binary.proofs.deletes.any_unheld.Goals as goal
+
+pub returns-in_default : goal.returns-in_default
+returns-in_default c =
+    λ lists p.
+    any_found (unheld_by c.args.gs.now) lists c.args.n c.args.place.now p c.loop-l.l c.loop-l-test.true
+    c.if-place-l.true
+    (eq-eqb _ 0 (global_word_lem _ _ (sym c.in_default.is ∙ c.holder.ensures)))
+    ∙ c.loop-l.invariant.1 lists p ∙ ap (any_of (unheld_by c.args.gs.now)) (sym (filled_all c.args.n lists))
+
+pub loop-l-preserved : goal.loop-l-preserved
+loop-l-preserved c = (
+      omega arith,
+      λ lists p. ⊎_elim
+          (λ w. any_passed (unheld_by c.args.gs.now) lists c.args.n c.args.place.now p c.loop-l.l
+          c.loop-l-test.true w.0.taken
+          (word_filled _ _ (global_word_lem _ _ (sym w.3.given.1 ∙ w.1.ensures))) ∙ c.loop-l.invariant.1 lists p)
+          (λ w. any_empty (unheld_by c.args.gs.now) lists c.args.n c.args.place.now p c.loop-l.l
+          c.loop-l-test.true w.left
+          ∙ c.loop-l.invariant.1 lists p)
+          c.if-place-l.branch,
+    )
+
+pub returns : goal.returns
+returns c =
+    λ lists p.
+    any_done (unheld_by c.args.gs.now) lists c.args.n c.args.place.now p c.loop-l.l c.loop-l-test.false
+    ∙ c.loop-l.invariant.1 lists p ∙ ap (any_of (unheld_by c.args.gs.now)) (sym (filled_all c.args.n lists))
