@@ -39,7 +39,7 @@ shorten_clause-requires-clause-nameable c =
 
 pub shorten_clause-requires-clause-cuts : goal.shorten_clause-requires-clause-cuts
 shorten_clause-requires-clause-cuts c =
-    let h = c.in-Shortened in ?
+    cuts_tag _ c.in-Shortened.is
 
 pub returns-in-Kept-clause-meets : goal.returns-in-Kept-clause-meets
 returns-in-Kept-clause-meets c =
