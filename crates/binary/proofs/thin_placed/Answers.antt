@@ -1,6 +1,7 @@
 use Rattle.scope.specs.Binary.{sections_of}
 use Rattle.binary.specs.Entries.{words_by, entries_by, bytes_by}
 use Rattle.binary.proofs.ThinLaws.{words_count, lacks_words, fits}
+use Prim.Native.Nat.{◌+◌, ◌/◌}
 use native.Mathlib.Omega.{arith}
 use borrow.Author.Rules.{rules}
 use Rattle.binary.proofs.thin_placed.Goals as goal
@@ -40,7 +41,7 @@ returns-clause-value c =
     (fits (words_by c.args.assignment.now (sections_of c.args.n c.args.lists.now))
     (entries_by c.args.assignment.now (sections_of c.args.n c.args.lists.now))
     (bytes_by c.args.f c.args.gs.now c.args.assignment.now (sections_of c.args.n c.args.lists.now))
-    c.args.out.now c.args.bytes.now _ _ _ _ _ _ c.deletes_len-laid.ensures c.in-Done.is
+    c.args.out.now c.args.bytes.now _ (c.args.n + c.count_all-kept.result) (c.count_all-kept.result / 2) _ _ _ c.deletes_len-laid.ensures c.in-Done.is
     c.put_lists.ensures c.put_deletes.ensures
     (omega (arith, z, c.count_all-kept.ensures.value)) (omega (arith, z, c.count_all-kept.ensures.value, c.if-out-words.false))
     (omega (arith, c.count_all-kept.ensures.value))).0
@@ -51,7 +52,7 @@ returns-clause-out c =
     (fits (words_by c.args.assignment.now (sections_of c.args.n c.args.lists.now))
     (entries_by c.args.assignment.now (sections_of c.args.n c.args.lists.now))
     (bytes_by c.args.f c.args.gs.now c.args.assignment.now (sections_of c.args.n c.args.lists.now))
-    c.args.out.now c.args.bytes.now _ _ _ _ _ _ c.deletes_len-laid.ensures c.in-Done.is
+    c.args.out.now c.args.bytes.now _ (c.args.n + c.count_all-kept.result) (c.count_all-kept.result / 2) _ _ _ c.deletes_len-laid.ensures c.in-Done.is
     c.put_lists.ensures c.put_deletes.ensures
     (omega (arith, z, c.count_all-kept.ensures.value)) (omega (arith, z, c.count_all-kept.ensures.value, c.if-out-words.false))
     (omega (arith, c.count_all-kept.ensures.value))).1.0
@@ -62,7 +63,7 @@ returns-clause-bytes c =
     (fits (words_by c.args.assignment.now (sections_of c.args.n c.args.lists.now))
     (entries_by c.args.assignment.now (sections_of c.args.n c.args.lists.now))
     (bytes_by c.args.f c.args.gs.now c.args.assignment.now (sections_of c.args.n c.args.lists.now))
-    c.args.out.now c.args.bytes.now _ _ _ _ _ _ c.deletes_len-laid.ensures c.in-Done.is
+    c.args.out.now c.args.bytes.now _ (c.args.n + c.count_all-kept.result) (c.count_all-kept.result / 2) _ _ _ c.deletes_len-laid.ensures c.in-Done.is
     c.put_lists.ensures c.put_deletes.ensures
     (omega (arith, z, c.count_all-kept.ensures.value)) (omega (arith, z, c.count_all-kept.ensures.value, c.if-out-words.false))
     (omega (arith, c.count_all-kept.ensures.value))).1.1

@@ -12,7 +12,7 @@ overflow_add-k c =
     let a = at_kept (stays_by c.args.assignment.now c.loop-l.l) c.args.lists.now c.args.n c.args.place.now
     c.requires
     c.loop-l.l c.loop-l-test.true in
-    omega (arith, c.count_kept-k.ensures, c.loop-l.invariant.2, c.shared_slice_known-3-1.given (c.loop-l.l + 1))
+    omega (arith, c.count_kept-k.ensures, c.loop-l.invariant.2)
 
 pub loop-l-preserved : goal.loop-l-preserved
 loop-l-preserved c =

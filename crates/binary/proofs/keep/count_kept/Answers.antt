@@ -1,11 +1,11 @@
 use Rattle.binary.specs.Entries.{stays_by}
 use Rattle.base.proofs.KeepLaws.{kept_start, count_some, count_none, count_most}
 use lib.ListN.{length}
-use mathlib.Core.Logic.{⊎_elim}
 use mathlib.Core.Path.{sym, ap, ◌∙◌}
 use native.Mathlib.Omega.{arith}
 use borrow.Author.Rules.{rules}
 use Rattle.binary.proofs.keep.count_kept.Goals as goal
+use Rattle.binary.proofs.keep.count_kept.Goals.{then-stays, else-stays}
 
 pub loop-i-init : goal.loop-i-init
 loop-i-init c = (
@@ -22,9 +22,9 @@ overflow_add-k c =
 pub loop-i-preserved : goal.loop-i-preserved
 loop-i-preserved c = (
       omega arith,
-      ⊎_elim
-          (λ w. w.1 ∙ count_some (stays_by c.args.assignment.now c.args.l) c.args.es.now _ _ c.loop-i-test.true
-          (sym c.stays.ensures ∙ w.0.taken) c.loop-i.invariant.1)
-          (λ w. w.1 ∙ count_none (stays_by c.args.assignment.now c.args.l) c.args.es.now _ _ c.loop-i-test.true
-          (sym c.stays.ensures ∙ w.0.left) c.loop-i.invariant.1) c.if-stays.branch,
+      elim c.if-stays.branch [
+        then-stays w ↦ w.k-is ∙ count_some (stays_by c.args.assignment.now c.args.l) c.args.es.now _ _ c.loop-i-test.true
+          (sym c.stays.ensures ∙ w.if-stays.true) c.loop-i.invariant.1
+      | else-stays w ↦ w.k-is ∙ count_none (stays_by c.args.assignment.now c.args.l) c.args.es.now _ _ c.loop-i-test.true
+          (sym c.stays.ensures ∙ w.if-stays.false) c.loop-i.invariant.1 ],
     )
