@@ -11,7 +11,7 @@ put_section-at-requires-clause-es_len_bound c =
     let z = from_length (λ l es. section_words (kept_by c.args.assignment.now l es)) c.args.lists.now c.args.n
     c.args.place.now c.requires.placed c.loop-l.l c.loop-l-test.true in
     at_small 4294967296 c.args.lists.now c.args.n c.args.place.now c.requires.placed
-          (λ i. omega (arith, c.shared_slice_known-2-1.given i))
+          (λ i. omega (arith, c.type_inv.lists i))
           c.loop-l.l c.loop-l-test.true
 
 pub put_section-at-requires-clause-es_in_bounds : goal.put_section-at-requires-clause-es_in_bounds
