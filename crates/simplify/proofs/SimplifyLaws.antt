@@ -243,12 +243,16 @@ module _ (f : Format) (t : Table) (gs lits : List ℕ) (redundant : Bool) (w : W
 pub cut_rest : (what : Simplified) (t : Table) (lits : List ℕ) → Cuts what → rest_of what t lits ≡ unfalse t lits
 cut_rest Shortened t lits shortened = refl
 cut_rest Binary t lits binary = refl
+cut_rest Kept t lits x = elim x [ ]
+cut_rest Dropped t lits x = elim x [ ]
 
 cut_steps : (what : Simplified) (redundant : Bool) (rest clause : List ℕ) → Cuts what
     → simplify_steps what redundant rest clause ≡ clause_steps (AtClause (flag_of what redundant)) rest ++ clause_steps
     (DeleteClause (delete_cause redundant simpler)) clause
 cut_steps Shortened redundant rest clause shortened = refl
 cut_steps Binary redundant rest clause binary = refl
+cut_steps Kept redundant rest clause x = elim x [ ]
+cut_steps Dropped redundant rest clause x = elim x [ ]
 
 -- both steps, one that adds and one that deletes
 module _ (f : Format) (what : Simplified) (redundant : Bool) (v w : Writes) (rest clause : List ℕ) (i : v ≡ adds) (d : w ≡ deletes) (k : Cuts what) where

@@ -7,13 +7,11 @@ use native.Mathlib.Omega.{arith}
 use lib.Dec.{eqb, ltb}
 use lib.ListN.{length}
 use borrow.Author.Tests.{lt-ltb, le-ltb, eq-eqb, ne_eqb}
-use types.Run.{OneOf, miss}
-use denote.Enum.Declared.{tag_of}
+use mathlib.Core.Logic.{◌⊎◌, ⊎_elim}
 use Rattle.base.specs.Choice.{pick}
 use Rattle.base.specs.Bounded.{any_of, keep_of}
 use Rattle.scope.specs.declared.Simplified.{Simplified}
 use Rattle.scope.specs.declared.Simplified.TheVariants.{Kept, Dropped, Shortened, Binary}
-use Rattle.scope.specs.contracts.Simplified as S
 use Rattle.scope.specs.Table.{Table}
 use Rattle.scope.specs.Simplify.{is_true, is_false, unfalse, simplified, simplified_number}
 use Rattle.simplify.specs.Values.{true_by, false_by, unfalse_by}
@@ -86,8 +84,5 @@ module _ (t : Table) (lits : List ℕ) where
       go false false d w q binary = cc
 
 -- the arm for both
-pub cuts_tag : (w : Simplified) → OneOf (2 ∷ 3 ∷ []) (tag_of S.the_type w) → Cuts w
-cuts_tag Kept h = absurd (miss (2 ∷ 3 ∷ []) 0 tt h)
-cuts_tag Dropped h = absurd (miss (2 ∷ 3 ∷ []) 1 tt h)
-cuts_tag Shortened h = shortened
-cuts_tag Binary h = binary
+pub cuts_tag : (w : Simplified) → (w ≡ Shortened) ⊎ (w ≡ Binary) → Cuts w
+cuts_tag w h = ⊎_elim (λ e. subst Cuts (sym e) shortened) (λ e. subst Cuts (sym e) binary) h

@@ -1,0 +1,18 @@
+use Rattle.base.specs.Bounded.{any_of}
+use Rattle.sections.specs.Places.{Placed}
+use Rattle.binary.specs.Entries.{unheld_by}
+use Rattle.binary.proofs.EachLaws.{from, filled}
+use Prim.Native.Nat.{ℕ, ◌≤◌, ◌-◌}
+use mathlib.Core.List.{List}
+use mathlib.Core.Path.{◌≡◌, refl}
+use native.Mathlib.Omega.{arith}
+use borrow.Author.Rules.{rules}
+use Rattle.binary.proofs.deletes.any_unheld.Given as goal
+
+abbrev pub invariant-loop-l : goal.invariant-loop-l
+invariant-loop-l l =
+    (l.l ≤ l.n)
+    × ((lists : List ℕ) → Placed lists l.n l.place → any_of (unheld_by l.gs) (from filled l.n lists l.l) ≡ any_of (unheld_by l.gs) (from filled l.n lists 0))
+
+abbrev pub decreases-loop-l : goal.decreases-loop-l
+decreases-loop-l l = l.n - l.l

@@ -1,0 +1,19 @@
+use Rattle.scope.specs.Binary.{sections_of}
+use Rattle.drat.specs.Grammar.{encode}
+use Rattle.binary.specs.Entries.{deletes_by, bytes_by}
+use Rattle.binary.proofs.EachLaws.{from}
+use Prim.Native.Nat.{◌+◌, ◌≤◌, ◌-◌}
+use lib.ListN.{length}
+use mathlib.Core.Path.{◌≡◌}
+use native.Mathlib.Omega.{arith}
+use borrow.Author.Rules.{rules}
+use Rattle.binary.proofs.deletes.deletes_len.Given as goal
+
+abbrev pub invariant-loop-l : goal.invariant-loop-l
+invariant-loop-l l =
+    (l.l ≤ l.n)
+    × (l.used + length (encode l.f (from (deletes_by l.gs l.assignment) l.n l.lists l.l)) ≡ length (bytes_by l.f l.gs l.assignment (sections_of l.n l.lists)))
+    × (l.used ≤ l.room)
+
+abbrev pub decreases-loop-l : goal.decreases-loop-l
+decreases-loop-l l = l.n - l.l

@@ -1,0 +1,20 @@
+use Rattle.scope.specs.Binary.{sections_of}
+use Rattle.drat.specs.Grammar.{encode}
+use Rattle.binary.specs.Entries.{deletes_by, bytes_by}
+use Rattle.binary.proofs.EachLaws.{from}
+use lib.Seq.{sets}
+use Prim.Native.Nat.{◌+◌, ◌≤◌, ◌-◌}
+use lib.ListN.{length}
+use mathlib.Core.Path.{◌≡◌, refl}
+use native.Mathlib.Omega.{arith}
+use Rattle.binary.proofs.deletes.put_deletes.Given as goal
+
+abbrev pub invariant-loop-l : goal.invariant-loop-l
+invariant-loop-l l =
+    (l.l ≤ l.n)
+    × (length l.bytes ≡ length l.initial.bytes)
+    × (l.at + length (encode l.f (from (deletes_by l.gs l.assignment) l.n l.lists l.l)) ≡ length (bytes_by l.f l.gs l.assignment (sections_of l.n l.lists)))
+    × (sets l.bytes l.at (encode l.f (from (deletes_by l.gs l.assignment) l.n l.lists l.l)) ≡ sets l.initial.bytes 0 (bytes_by l.f l.gs l.assignment (sections_of l.n l.lists)))
+
+abbrev pub decreases-loop-l : goal.decreases-loop-l
+decreases-loop-l l = l.n - l.l

@@ -1,0 +1,19 @@
+use Rattle.scope.specs.Binary.{sections_of}
+use Rattle.binary.specs.Entries.{kept_by, entries_by}
+use Rattle.binary.proofs.EachLaws.{from}
+use Prim.Native.Nat.{◌+◌, ◌≤◌, ◌-◌}
+use lib.ListN.{length, get_or}
+use mathlib.Core.Path.{◌≡◌}
+use native.Mathlib.Omega.{arith}
+use borrow.Author.Rules.{rules}
+use Rattle.binary.proofs.keep.count_all.Given as goal
+
+abbrev pub invariant-loop-l : goal.invariant-loop-l
+invariant-loop-l l =
+    (l.l ≤ l.n)
+    × (l.k + length (from (kept_by l.assignment) l.n l.lists l.l) ≡ length (entries_by l.assignment (sections_of l.n l.lists)))
+    × (l.k ≤ get_or l.place l.l 0)
+    × (l.k ≤ length l.lists)
+
+abbrev pub decreases-loop-l : goal.decreases-loop-l
+decreases-loop-l l = l.n - l.l

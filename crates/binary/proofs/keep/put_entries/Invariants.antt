@@ -1,0 +1,19 @@
+use Rattle.binary.specs.Entries.{stays_by, kept_by}
+use Rattle.binary.proofs.RowLaws.{kept_later}
+use Prim.Native.Nat.{◌+◌, ◌≤◌, ◌-◌}
+use lib.ListN.{length}
+use lib.Seq.{sets}
+use mathlib.Core.Path.{◌≡◌, refl}
+use native.Mathlib.Omega.{arith}
+use borrow.Author.Rules.{rules}
+use Rattle.binary.proofs.keep.put_entries.Given as goal
+
+abbrev pub invariant-loop-i : goal.invariant-loop-i
+invariant-loop-i l =
+    (l.i ≤ length l.es)
+    × (length l.out ≡ length l.initial.out)
+    × (l.k + length (kept_later (stays_by l.assignment l.l) l.es l.i) ≡ l.at + length (kept_by l.assignment l.l l.es))
+    × (sets l.out l.k (kept_later (stays_by l.assignment l.l) l.es l.i) ≡ sets l.initial.out l.at (kept_by l.assignment l.l l.es))
+
+abbrev pub decreases-loop-i : goal.decreases-loop-i
+decreases-loop-i l = length l.es - l.i

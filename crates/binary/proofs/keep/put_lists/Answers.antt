@@ -1,0 +1,39 @@
+use Rattle.scope.specs.Binary.{section_words}
+use Rattle.binary.specs.Entries.{kept_by}
+use Rattle.binary.proofs.EachLaws.{from_length, from_put, from_done, at_small}
+use lib.Seq.{sets}
+use mathlib.Core.Path.{refl, sym, ap, ◌∙◌}
+use native.Mathlib.Omega.{arith}
+use Rattle.binary.proofs.keep.put_lists.Goals as goal
+
+pub put_section-at-requires-clause-es_len_bound : goal.put_section-at-requires-clause-es_len_bound
+put_section-at-requires-clause-es_len_bound c =
+    let z = from_length (λ l es. section_words (kept_by c.args.assignment.now l es)) c.args.lists.now c.args.n
+    c.args.place.now c.requires.placed c.loop-l.l c.loop-l-test.true in
+    at_small 4294967296 c.args.lists.now c.args.n c.args.place.now c.requires.placed
+          (λ i. omega (arith, c.type_inv.lists i))
+          c.loop-l.l c.loop-l-test.true
+
+pub put_section-at-requires-clause-es_in_bounds : goal.put_section-at-requires-clause-es_in_bounds
+put_section-at-requires-clause-es_in_bounds c =
+    let z = from_length (λ l es. section_words (kept_by c.args.assignment.now l es)) c.args.lists.now c.args.n
+    c.args.place.now c.requires.placed c.loop-l.l c.loop-l-test.true in
+    omega (arith, c.requires.lists_in_bounds, c.loop-l.invariant.1, c.loop-l.invariant.2)
+
+pub loop-l-preserved : goal.loop-l-preserved
+loop-l-preserved c =
+    let z = from_length (λ l es. section_words (kept_by c.args.assignment.now l es)) c.args.lists.now c.args.n
+    c.args.place.now c.requires.placed c.loop-l.l c.loop-l-test.true in (
+      omega arith,
+      c.put_section-at.auto.out ∙ c.loop-l.invariant.1,
+      omega (arith, c.put_section-at.ensures.value, c.loop-l.invariant.2),
+      from_put (λ l es. section_words (kept_by c.args.assignment.now l es)) c.args.lists.now c.args.n
+          c.args.place.now c.requires.placed c.loop-l.l c.loop-l-test.true _ _ _ _
+          c.put_section-at.ensures.fills c.put_section-at.ensures.value ∙ c.loop-l.invariant.3,
+    )
+
+pub returns : goal.returns
+returns c =
+    let d = from_done (λ l es. section_words (kept_by c.args.assignment.now l es)) c.args.lists.now c.args.n
+    c.args.place.now c.requires.placed c.loop-l.l c.loop-l-test.false in
+    sym (ap (sets c.loop-l.out c.loop-l.at) d) ∙ c.loop-l.invariant.3

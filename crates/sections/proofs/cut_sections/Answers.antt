@@ -1,0 +1,27 @@
+use Rattle.sections.proofs.CutLaws.{cut_missing, cut_short, cut_more, cut_over, cut_whole}
+use mathlib.Core.Path.{sym}
+use native.Mathlib.Omega.{arith}
+use borrow.Author.Rules.{rules}
+use Rattle.sections.proofs.cut_sections.Goals as goal
+
+pub returns-then-lists-at-clause-value : goal.returns-then-lists-at-clause-value
+returns-then-lists-at-clause-value c =
+    sym (cut_missing c.args.lists.now c.args.n _ _ _ c.loop-l.invariant c.loop-l-test.true (omega arith))
+
+pub returns-then-lists-at-2-clause-value : goal.returns-then-lists-at-2-clause-value
+returns-then-lists-at-2-clause-value c =
+    sym (cut_short c.args.lists.now c.args.n _ _ _ c.loop-l.invariant
+          c.loop-l-test.true (omega arith) (omega arith))
+
+pub loop-l-preserved : goal.loop-l-preserved
+loop-l-preserved c =
+    cut_more c.args.lists.now c.args.n _ _ _ c.loop-l.invariant _ c.requires.n_bound
+    c.loop-l-test.true (omega arith) (omega arith) (omega arith)
+
+pub returns-then-at-lists-clause-value : goal.returns-then-at-lists-clause-value
+returns-then-at-lists-clause-value c =
+    sym (cut_over c.args.lists.now c.args.n _ _ _ c.loop-l.invariant c.loop-l-test.false (omega arith))
+
+pub returns-clause-value : goal.returns-clause-value
+returns-clause-value c =
+    sym (cut_whole c.args.lists.now c.args.n _ _ _ c.loop-l.invariant c.loop-l-test.false (omega arith))

@@ -1,0 +1,31 @@
+use Rattle.sections.proofs.TallyLaws.{tally_none}
+use Rattle.sections.proofs.InsideLaws.{mirror_at, mirrored_is, all_upto}
+use Rattle.base.proofs.BelowLaws.{all_none, all_more, all_fails}
+use mathlib.Core.Bool.{true}
+use mathlib.Core.Path.{sym, ◌∙◌}
+use native.Mathlib.Omega.{arith}
+use borrow.Author.Rules.{rules}
+use Rattle.sections.proofs.exact.exactly_mirrored.Goals as goal
+
+pub loop-l-init : goal.loop-l-init
+loop-l-init c = (omega arith, all_none (mirror_at c.args.lists.now c.args.n), tally_none)
+
+pub returns-then-not-section_mirrored : goal.returns-then-not-section_mirrored
+returns-then-not-section_mirrored c =
+    sym (mirrored_is c.args.lists.now c.args.n ∙ all_fails c.args.n (mirror_at c.args.lists.now c.args.n)
+    c.loop-l.l c.loop-l-test.true
+    (sym c.section_mirrored.ensures.result_value ∙ c.if-not-section_mirrored.true))
+
+pub loop-l-preserved : goal.loop-l-preserved
+loop-l-preserved c = (
+      omega arith,
+      all_more c.loop-l.l (mirror_at c.args.lists.now c.args.n) c.loop-l.invariant.1
+          (sym c.section_mirrored.ensures.result_value ∙ c.if-not-section_mirrored.false),
+      c.section_mirrored.ensures.tallied_2
+          c.if-not-section_mirrored.false,
+    )
+
+pub returns : goal.returns
+returns c =
+    sym (mirrored_is c.args.lists.now c.args.n ∙ all_upto c.loop-l.l c.args.n
+    (mirror_at c.args.lists.now c.args.n) (omega arith) c.loop-l.invariant.1)

@@ -1,0 +1,16 @@
+use Rattle.sections.proofs.InsideLaws.{mirror_at}
+use Rattle.sections.specs.Tally.{Tallied}
+use Rattle.base.specs.Bounded.{all_below}
+use mathlib.Core.List.{[]}
+use mathlib.Core.Bool.{true}
+use mathlib.Core.Path.{◌≡◌}
+use Prim.Native.Nat.{◌-◌, ◌≤◌}
+use native.Mathlib.Omega.{arith}
+use borrow.Author.Rules.{rules}
+use Rattle.sections.proofs.exact.exactly_mirrored.Given as goal
+
+abbrev pub invariant-loop-l : goal.invariant-loop-l
+invariant-loop-l l = (l.l ≤ l.n) × (all_below l.l (mirror_at l.lists l.n) ≡ true) × Tallied [] l.tally
+
+abbrev pub decreases-loop-l : goal.decreases-loop-l
+decreases-loop-l l = l.n - l.l

@@ -1,0 +1,14 @@
+use native.Mathlib.Omega.{arith}
+use mathlib.Core.Path.{◌≡◌, refl}
+use Prim.Native.Nat.{◌+◌, ◌*◌, ◌≤◌}
+use lib.ListN.{length}
+use Rattle.sections.specs.Queues.{Even}
+use borrow.Author.Rules.{rules}
+use Rattle.sections.proofs.queues.heads_meet.Given as goal
+
+abbrev pub invariant-loop-walk : goal.invariant-loop-walk
+invariant-loop-walk l =
+    (length l.head ≡ 8192) × (length l.path ≡ 8192) × Even l.lists l.n l.place l.head × (l.walk.waiting ≤ 8192) × (l.walk.next + l.walk.turns ≤ 2 * length l.lists + 16384)
+
+abbrev pub decreases-loop-walk : goal.decreases-loop-walk
+decreases-loop-walk l = l.walk.turns

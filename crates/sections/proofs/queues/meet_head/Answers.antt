@@ -1,0 +1,25 @@
+use Rattle.sections.proofs.QueueLaws.{head_entry, even_one}
+use mathlib.Core.Path.{refl, sym, ◌∙◌}
+use native.Mathlib.Omega.{arith}
+use borrow.Author.Rules.{rules}
+use Rattle.sections.proofs.queues.meet_head.Goals as goal
+
+pub meet_mirror-requires-clause-facing : goal.meet_mirror-requires-clause-facing
+meet_mirror-requires-clause-facing c =
+    let low = head_entry c.args.lists.now c.args.n c.args.place.now c.requires.placed c.args.head.now
+    c.requires.even c.requires.inside _ _ c.if-n-x.false refl
+    c.if-place-x.false in
+    record {
+            low = c.if-n-x.false;
+            is = refl;
+            ahead = c.if-place-x.false;
+            other = omega (arith, c.not_lit-y.ensures, c.requires.placed.even);
+            mirror = c.not_lit-y.ensures;
+            apart = c.if-y-x.true;
+          }
+
+pub returns : goal.returns
+returns c =
+    even_one c.args.lists.now c.args.n c.args.place.now c.requires.placed c.args.head.now c.requires.head_len
+    c.requires.even _ _ c.if-n-x.false refl c.if-place-x.false
+    (sym c.not_lit-y.ensures ∙ c.if-y-x.false)

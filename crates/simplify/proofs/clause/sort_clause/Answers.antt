@@ -1,0 +1,25 @@
+use Rattle.simplify.proofs.SortLaws.{sort_dropped, sort_kept, sort_binary, sort_shortened}
+use mathlib.Core.Path.{sym, ◌∙◌}
+use borrow.Author.Rules.{rules}
+use Rattle.simplify.proofs.clause.sort_clause.Goals as goal
+
+pub returns-then-any_true : goal.returns-then-any_true
+returns-then-any_true c =
+    λ t p. sort_dropped t _ p c.args.lits.now (sym c.any_true.ensures ∙ c.if-any_true.true)
+
+pub returns-then-lits-k : goal.returns-then-lits-k
+returns-then-lits-k c =
+    λ t p. sort_kept t _ p c.args.lits.now _
+    (sym c.any_true.ensures ∙ c.if-any_true.false) c.count_unfalse-k.ensures c.if-lits-k.true
+
+pub returns-then-k-eq2 : goal.returns-then-k-eq2
+returns-then-k-eq2 c =
+    λ t p. sort_binary t _ p c.args.lits.now _
+    (sym c.any_true.ensures ∙ c.if-any_true.false) c.count_unfalse-k.ensures
+    c.if-lits-k.false c.if-k-eq2.true
+
+pub returns : goal.returns
+returns c =
+    λ t p. sort_shortened t _ p c.args.lits.now _
+    (sym c.any_true.ensures ∙ c.if-any_true.false) c.count_unfalse-k.ensures
+    c.if-lits-k.false c.if-k-eq2.false
