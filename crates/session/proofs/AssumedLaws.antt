@@ -160,6 +160,8 @@ pub assumed_named : (f : Format) (σ : State) (xs : List Turn) (lits globals : L
     → (unheld (run f σ xs).table true lits ≡ false) × (rename_lits (holders (run f σ xs).table) true lits ≡ globals)
 unfolding unheld not_held any_of rename_lits
 assumed_named f σ xs [] [] h = (refl, refl)
+assumed_named f σ xs [] (d ∷ ds) h = elim h [ ]
+assumed_named f σ xs (c ∷ cs) [] h = elim h [ ]
 assumed_named f σ xs (c ∷ cs) (d ∷ ds) (a, e, n, h) =
     let w = (assumed_of_lem _ (index_of d) (index_of c) (assumed_stays f σ xs (index_of d) (index_of c) a n)).1.held in
     let (held, named) = assumed_named f σ xs cs ds h in

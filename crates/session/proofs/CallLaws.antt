@@ -368,7 +368,7 @@ simplify_owed f t lits redundant rooms = owed f _ t _ _ (λ e.
       byte_count = refl;
       word_room = ltb-false rooms.words (length rest) (or_left _ _ z);
       byte_room = ltb-false rooms.bytes _ (or_right (ltb rooms.words (length rest)) _ z);
-      enters = λ notes h. by_kind (simplified t lits) [] notes (solver_lits t notes h lits held) (solver_lits t notes h (unfalse t lits) kept);
+      enters = λ notes h. by_kind (simplified t lits) _ notes (solver_lits t notes h lits held) (solver_lits t notes h (unfalse t lits) kept);
       valid = valid_kind (simplified t lits) (solver_codes t lits p held) (solver_codes t (unfalse t lits) p kept);
     })))
   where

@@ -137,6 +137,7 @@ users_owed f x t from o (accepting e l) p c s = users_path from l.path p c (s o.
 
 -- a note hides nothing
 no_hides : (g : ℕ) (ns : List Note) → Among (hides g) (map noted ns) → ⊥
+no_hides g [] x' = elim x' [ ]
 no_hides g (n ∷ ns) (later a) = no_hides g ns a
 
 -- ---- the laws
@@ -384,6 +385,7 @@ none_call f (Calls.write step solver_vars lits hashes) rooms t d = none_unless _
 none_call f Calls.model rooms t d = none_unless _ t _ refl
 
 note_among : {n : Note} (ns : List Note) → Among (noted n) (map noted ns) → Among n ns
+note_among {n = n} [] x' = elim x' [ ]
 note_among (n ∷ ns) first = first
 note_among (n ∷ ns) (later a) = later (note_among ns a)
 

@@ -1,0 +1,24 @@
+use Rattle.modes.proofs.ChangeLaws.{show_fits, show_leaves}
+use Rattle.modes.proofs.NotesLaws.{there_live}
+use native.Mathlib.Omega.{arith}
+use borrow.Author.Rules.{rules}
+use Rattle.modes.proofs.show.Goals as goal
+
+pub map-counts-requires-clause-user_in_bounds : goal.map-counts-requires-clause-user_in_bounds
+map-counts-requires-clause-user_in_bounds c =
+    (show_fits _ _ _ _ c.requires.shows _ c.least_free.ensures).0
+
+pub map-counts-requires-clause-user_lt_capacity : goal.map-counts-requires-clause-user_lt_capacity
+map-counts-requires-clause-user_lt_capacity c =
+    (show_fits _ _ _ _ c.requires.shows _ c.least_free.ensures).1.1.1.0
+
+pub map-counts-requires-clause-used_bound : goal.map-counts-requires-clause-used_bound
+map-counts-requires-clause-used_bound c =
+    (show_fits _ _ _ _ c.requires.shows _ c.least_free.ensures).1.1.1.1.1
+
+pub returns-clause-leaves : goal.returns-clause-leaves
+returns-clause-leaves c =
+    let l = (there_live _ _ c.requires.shows.there).words in
+    let u = c.least_free.ensures in
+    let n = c.put_note.ensures in
+    λ x. show_leaves _ _ _ l _ u _ _ _ _ (c.map-counts.ensures.value, (c.map-counts.ensures.gu_value, (c.map-counts.ensures.ug_value, c.map-counts.ensures.records_value))) _ _ _ _ n c.put_note-2.ensures

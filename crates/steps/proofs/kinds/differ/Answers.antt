@@ -1,0 +1,6 @@
+use Rattle.steps.proofs.KindLaws.{differ_is}
+use borrow.Author.Rules.{rules}
+use Rattle.steps.proofs.kinds.differ.Goals as goal
+
+pub returns : goal.returns
+returns c = differ_is c.args.step _ _ _ c.kind.ensures

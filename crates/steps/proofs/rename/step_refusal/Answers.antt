@@ -1,0 +1,14 @@
+use Rattle.steps.proofs.StepLaws.{refuse_14, refuse_literals}
+use mathlib.Core.Path.{refl, sym, ◌∙◌}
+use borrow.Author.Rules.{rules}
+use Rattle.steps.proofs.rename.step_refusal.Goals as goal
+
+pub returns-then-differ : goal.returns-then-differ
+returns-then-differ c =
+    refuse_14 _ c.args.step c.args.solvervars c.args.lits.now c.args.hashes.now c.requires.records_value (sym
+    c.differ.ensures ∙ c.if-differ.true)
+
+pub returns : goal.returns
+returns c =
+    refuse_literals _ c.args.step c.args.solvervars c.args.lits.now c.args.hashes.now _ _ c.requires.records_value (sym
+    c.differ.ensures ∙ c.if-differ.false) c.requires.k_value (c.literal_refusal.ensures _ refl refl)

@@ -1,0 +1,50 @@
+use mathlib.Core.Path.{refl, sym, ap, ◌∙◌}
+use lib.Seq.{sets}
+use lib.ListN.{length}
+use native.Mathlib.Omega.{arith}
+use Rattle.steps.proofs.UnitLaws.{units_length, units_done, units_put}
+use borrow.Author.Rules.{rules}
+use Rattle.steps.proofs.write.put_units.Goals as goal
+
+pub put_step-p-requires-clause-lits_in_bounds : goal.put_step-p-requires-clause-lits_in_bounds
+put_step-p-requires-clause-lits_in_bounds c =
+    omega (
+    arith,
+    units_length c.args.f c.args.lits.now
+        c.loop-i.i c.loop-i-test.true,
+    c.requires.lits_in_bounds,
+    c.loop-i.invariant.1,
+    c.loop-i.invariant.2,
+  )
+
+pub loop-i-preserved : goal.loop-i-preserved
+loop-i-preserved c = (
+  omega arith,
+  c.put_step-p.auto.out
+      ∙ c.loop-i.invariant.1,
+  omega (
+    arith,
+    c.put_step-p.ensures.value,
+    units_length c.args.f
+        c.args.lits.now
+        c.loop-i.i
+        c.loop-i-test.true,
+  ),
+  units_put
+      c.args.f
+      c.args.lits.now _ _ _ _
+      c.loop-i.i c.loop-i-test.true
+      c.put_step-p.ensures.fills c.put_step-p.ensures.value ∙ c.loop-i.invariant.3,
+)
+
+pub returns-clause-value : goal.returns-clause-value
+returns-clause-value c =
+    let d = units_done c.args.f c.args.lits.now c.loop-i.i
+    c.loop-i-test.false in
+    omega (arith, ap length d)
+
+pub returns-clause-fills : goal.returns-clause-fills
+returns-clause-fills c =
+    let d = units_done c.args.f c.args.lits.now c.loop-i.i
+    c.loop-i-test.false in
+    sym (ap (sets c.loop-i.out c.loop-i.p) d) ∙ c.loop-i.invariant.3

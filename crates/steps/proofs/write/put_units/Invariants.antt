@@ -1,0 +1,21 @@
+use mathlib.Core.Path.{refl, ◌≡◌}
+use Prim.Native.Nat.{◌+◌, ◌-◌, ◌≤◌}
+use lib.Seq.{sets}
+use lib.ListN.{length}
+use native.Mathlib.Omega.{arith}
+use Rattle.scope.specs.Steps.{written}
+use Rattle.scope.specs.declared.Writes.TheVariants.{AddEach}
+use Rattle.drat.specs.Grammar.{encode}
+use Rattle.steps.proofs.UnitLaws.{units_from}
+use borrow.Author.Rules.{rules}
+use Rattle.steps.proofs.write.put_units.Given as goal
+
+abbrev pub invariant-loop-i : goal.invariant-loop-i
+invariant-loop-i l =
+    (l.i ≤ length l.lits)
+    × (length l.out ≡ length l.initial.out)
+    × (l.p + length (units_from l.f l.lits l.i) ≡ l.at + length (encode l.f (written AddEach l.lits)))
+    × (sets l.out l.p (units_from l.f l.lits l.i) ≡ sets l.initial.out l.at (encode l.f (written AddEach l.lits)))
+
+abbrev pub decreases-loop-i : goal.decreases-loop-i
+decreases-loop-i l = length l.lits - l.i

@@ -1,0 +1,18 @@
+use Rattle.steps.proofs.WriteLaws.{write_unsound}
+use Rattle.table.proofs.CheckLaws.{no_of}
+use borrow.Author.Rules.{rules}
+use Rattle.steps.proofs.write.write_step.Goals as goal
+
+pub returns-then-not-is_sound-clause-meets : goal.returns-then-not-is_sound-clause-meets
+returns-then-not-is_sound-clause-meets c =
+    let args = c.args in
+    let z = write_unsound args.f _ args.step args.solvervars args.lits.now args.hashes.now args.out.now
+    (no_of c.is_sound.ensures c.if-not-is_sound.true) in
+    z.does
+
+pub returns-then-not-is_sound-clause-out : goal.returns-then-not-is_sound-clause-out
+returns-then-not-is_sound-clause-out c =
+    let args = c.args in
+    let z = write_unsound args.f _ args.step args.solvervars args.lits.now args.hashes.now args.out.now
+    (no_of c.is_sound.ensures c.if-not-is_sound.true) in
+    z.bytes

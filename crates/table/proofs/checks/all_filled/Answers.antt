@@ -1,0 +1,11 @@
+use mathlib.Core.Path.{refl}
+use native.Mathlib.Omega.{arith}
+use Rattle.table.proofs.CheckLaws.{all_start, all_step}
+use borrow.Author.Rules.{rules}
+use Rattle.table.proofs.checks.all_filled.Goals as goal
+
+pub loop-i-init : goal.loop-i-init
+loop-i-init c = (search rules, all_start _)
+
+pub loop-i-preserved : goal.loop-i-preserved
+loop-i-preserved c = (omega arith, all_step _ _ _ _ c.loop-i.invariant.1 refl)

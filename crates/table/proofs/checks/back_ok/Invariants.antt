@@ -1,0 +1,13 @@
+use Rattle.table.proofs.CheckLaws.{back_at}
+use Rattle.base.specs.Bounded.{all_below}
+use native.Mathlib.Omega.{arith}
+use mathlib.Core.Path.{◌≡◌, refl}
+use Prim.Native.Nat.{◌-◌, ◌≤◌}
+use borrow.Author.Rules.{rules}
+use Rattle.table.proofs.checks.back_ok.Given as goal
+
+abbrev pub invariant-loop-i : goal.invariant-loop-i
+invariant-loop-i l = (l.i ≤ l.mark) × (l.ok ≡ all_below l.i (back_at l.a l.b))
+
+abbrev pub decreases-loop-i : goal.decreases-loop-i
+decreases-loop-i l = l.mark - l.i

@@ -1,0 +1,13 @@
+use Rattle.table.proofs.CheckLaws.{row_at}
+use Rattle.base.specs.Bounded.{all_below}
+use native.Mathlib.Omega.{arith}
+use mathlib.Core.Path.{◌≡◌}
+use Prim.Native.Nat.{◌-◌, ◌≤◌}
+use borrow.Author.Rules.{rules}
+use Rattle.table.proofs.checks.rows_ok.Given as goal
+
+abbrev pub invariant-loop-i : goal.invariant-loop-i
+invariant-loop-i l = (l.i ≤ l.n) × (l.ok ≡ all_below l.i (row_at l.records l.ug l.sg))
+
+abbrev pub decreases-loop-i : goal.decreases-loop-i
+decreases-loop-i l = l.n - l.i

@@ -1,0 +1,16 @@
+use Rattle.table.proofs.CheckLaws.{tail_start, two_step, two_end}
+use native.Mathlib.Omega.{arith}
+use mathlib.Core.Bool.{◌&&◌}
+use mathlib.Core.Path.{ap₂}
+use borrow.Author.Rules.{rules}
+use Rattle.table.proofs.checks.two_tails_ok.Goals as goal
+
+pub loop-i-init : goal.loop-i-init
+loop-i-init c = (search rules, search rules, ap₂ ◌&&◌ (tail_start _ _ _) (tail_start _ _ _))
+
+pub loop-i-preserved : goal.loop-i-preserved
+loop-i-preserved c =
+    (omega arith, omega arith, two_step _ _ _ _ _ c.loop-i.invariant.0 c.loop-i-test.true c.requires.ys_len c.loop-i.invariant.2)
+
+pub returns : goal.returns
+returns c = two_end _ _ _ _ _ c.loop-i.invariant.2 (omega arith) c.requires.ys_len

@@ -1,0 +1,15 @@
+use Rattle.table.proofs.CheckLaws.{tail_at}
+use Rattle.base.specs.Bounded.{all_below}
+use native.Mathlib.Omega.{arith}
+use lib.ListN.{length}
+use mathlib.Core.Bool.{◌&&◌}
+use mathlib.Core.Path.{◌≡◌}
+use Prim.Native.Nat.{◌-◌, ◌≤◌}
+use borrow.Author.Rules.{rules}
+use Rattle.table.proofs.checks.two_tails_ok.Given as goal
+
+abbrev pub invariant-loop-i : goal.invariant-loop-i
+invariant-loop-i l = (l.mark ≤ l.i) × (l.i ≤ length l.xs) × (l.ok ≡ (all_below l.i (tail_at l.mark 0 l.xs) && all_below l.i (tail_at l.mark 0 l.ys)))
+
+abbrev pub decreases-loop-i : goal.decreases-loop-i
+decreases-loop-i l = length l.xs - l.i

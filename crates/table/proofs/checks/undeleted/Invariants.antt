@@ -1,0 +1,13 @@
+use Prim.Native.Nat.{◌-◌, ◌≤◌}
+use mathlib.Core.Path.{◌≡◌}
+use native.Mathlib.Omega.{arith}
+use Rattle.base.specs.Bounded.{count}
+use Rattle.scope.specs.Table.{is_undeleted}
+use borrow.Author.Rules.{rules}
+use Rattle.table.proofs.checks.undeleted.Given as goal
+
+abbrev pub invariant-loop-i : goal.invariant-loop-i
+invariant-loop-i l = (l.i ≤ l.n) × (l.k ≤ l.i) × (l.k ≡ count l.i (is_undeleted l.records))
+
+abbrev pub decreases-loop-i : goal.decreases-loop-i
+decreases-loop-i l = l.n - l.i

@@ -1,0 +1,12 @@
+use mathlib.Core.Path.{refl}
+use native.Mathlib.Omega.{arith}
+use Rattle.base.proofs.StoreLaws.{copy_next}
+use borrow.Author.Rules.{rules}
+use Rattle.table.proofs.copy_lits.Goals as goal
+
+pub loop-i-preserved : goal.loop-i-preserved
+loop-i-preserved c = (
+  omega arith,
+  copy_next (λ x. x) c.args.out.now c.args.lits.now _ _ _
+      c.loop-i-test.true c.loop-i.invariant.1 refl,
+)

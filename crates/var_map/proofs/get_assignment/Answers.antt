@@ -1,0 +1,10 @@
+use mathlib.Core.Path.{refl}
+use Rattle.scope.specs.Lookup.{assignment_word_of}
+use Rattle.table.proofs.CheckLaws.{no_of}
+use Rattle.var_map.proofs.LookupLaws.{lookup_1}
+use borrow.Author.Rules.{rules}
+use Rattle.var_map.proofs.get_assignment.Goals as goal
+
+pub returns-then-not-is_sound : goal.returns-then-not-is_sound
+unfolding assignment_word_of
+returns-then-not-is_sound c = lookup_1 _ _ _ (no_of c.is_sound.ensures c.if-not-is_sound.true)
