@@ -53,34 +53,28 @@ fn word8(want: &[u8], i: usize) -> u8 {
 }
 
 fn holds32(lent: &[u32; 32], want: &[u32]) -> bool {
-    let mut i: usize = 0;
-    while i < 32 {
+    for i in 0..32 {
         if lent[i] != word32(want, i) {
             return false;
         }
-        i += 1;
     }
     true
 }
 
 fn holds64(lent: &[u64; 32], want: &[u64]) -> bool {
-    let mut i: usize = 0;
-    while i < 32 {
+    for i in 0..32 {
         if lent[i] != word64(want, i) {
             return false;
         }
-        i += 1;
     }
     true
 }
 
 fn holds8(lent: &[u8; 128], want: &[u8]) -> bool {
-    let mut i: usize = 0;
-    while i < 128 {
+    for i in 0..128 {
         if lent[i] != word8(want, i) {
             return false;
         }
-        i += 1;
     }
     true
 }

@@ -84,11 +84,9 @@ fn put_next(to: &mut [u8], at: usize, b: u8, k: u32) -> usize {
 fn rebroken(from: &[u8], seed: u32, to: &mut [u8]) -> usize {
     let mut n = put_gap(to, 0, seed);
     let mut k = seed;
-    let mut i: usize = 0;
-    while i < from.len() {
+    for b in from {
         k = 40503 * (k % 65536) / 16;
-        n = put_next(to, n, from[i], k);
-        i += 1;
+        n = put_next(to, n, *b, k);
     }
     n
 }
