@@ -71,7 +71,7 @@ grow {p} {v} n (b ∷ m) h =
     let w : b - 48 + 10 * v ≡ with_digit v b = omega arith in
     let d : Numeral decimal (p ++ b ∷ []) (with_digit v b) =
     subst₂ (λ (x y : ℕ). Numeral decimal (p ++ x ∷ []) y) e w (more {d = b - 48} (omega arith) n) in
-    subst (λ (x : List ℕ). Numeral decimal x (value_from (with_digit v b) m)) (append_assoc p (b ∷ []) m) (grow d m h.1)
+    subst (λ (x : List ℕ). Numeral decimal x (value_from (with_digit v b) m)) (append_assoc p (b ∷ []) m) (grow {p = p ++ b ∷ []} {v = with_digit v b} d m h.1)
 
 first_digit : (b : ℕ) → digit b ≡ true → (b ≡ 48 → ⊥) → Numeral decimal (b ∷ []) (with_digit 0 b)
 first_digit b h z =

@@ -38,7 +38,7 @@ pub run_more : {gu sg lits : List ℕ} {a b : ℕ} {out m : List ℕ} (s w : ℕ
 run_more {gu} {sg} {lits} {a} {b} {out} {m} s w r l e q =
     subst (λ (x : ℕ). HeldRun gu sg lits a out (b + 1) (set m b x)) (sym q) (more s r l e)
 
-pub run_length : {gu sg lits : List ℕ} {a b : ℕ} {out m : List ℕ} → HeldRun gu sg lits a out b m → length m ≡ length out
+pub run_length : {gu sg lits : List ℕ} {a : ℕ} {out : List ℕ} {b : ℕ} {m : List ℕ} → HeldRun gu sg lits a out b m → length m ≡ length out
 run_length none = refl
 run_length (more {b = b} {m = m} s r l e) = length-set m b _ ∙ run_length r
 
@@ -46,18 +46,18 @@ held_code_lem : (gu sg : List ℕ) (c s : ℕ) → held_word gu sg (index_of c) 
 unfolding held_code
 held_code_lem gu sg c s e = omega arith
 
-pub run_up : {gu sg lits : List ℕ} {a b : ℕ} {out m : List ℕ} → HeldRun gu sg lits a out b m → a ≤ b
+pub run_up : {gu sg lits : List ℕ} {a : ℕ} {out : List ℕ} {b : ℕ} {m : List ℕ} → HeldRun gu sg lits a out b m → a ≤ b
 run_up none = omega arith
 run_up (more s r l e) = let x = run_up r in omega arith
 
 -- from the start on: whose users have solver indices, and what was stored
-pub run_held : {gu sg lits : List ℕ} {b : ℕ} {out m : List ℕ} → HeldRun gu sg lits 0 out b m
+pub run_held : {gu sg lits out : List ℕ} {b : ℕ} {m : List ℕ} → HeldRun gu sg lits 0 out b m
     → HeldTo gu sg lits b × (m ≡ copied (held_code gu sg) out lits b)
-run_held {gu} {sg} {lits} {b} {out} none = (
+run_held {gu} {sg} {lits} {out} {b} none = (
   record { most = omega arith; held = λ i l. absurd (omega arith) },
   copy_start (held_code gu sg) out lits,
 )
-run_held {gu} {sg} {lits} {b} {out} (more {b = i} {m = m} s r l e) = let h = run_held r in (
+run_held {gu} {sg} {lits} {out} {b} (more {b = i} {m = m} s r l e) = let h = run_held r in (
   record {
     most = omega arith;
     held = λ j k. ⊎_elim

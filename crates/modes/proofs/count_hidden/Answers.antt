@@ -10,6 +10,7 @@ pub overflow_add-n : goal.overflow_add-n
 overflow_add-n c = record {
   fits = hidden_fits c.args.records.now _ _ _ _ c.loop-g-test.true (let b =
       c.ranges.mark.fits in omega arith) c.loop-g.invariant.1 c.hidden_word-n.ensures;
+}
 
 pub loop-g-preserved : goal.loop-g-preserved
 loop-g-preserved c = (

@@ -48,5 +48,5 @@ returns-clause-meets c =
 
 pub returns-clause-out : goal.returns-clause-out
 returns-clause-out c =
-    (observe_does _ _ _ _ c.observe_refusal-n.ensures c.if-n-ne0.false _ _ _ _ _ _ _ _
+    (observe_does _ _ _ _ c.observe_refusal-n.ensures c.if-n-ne0.false _ _ c.args.c _ _ _ _ _
     (c.observe_all-k.ensures.leaves _, c.observe_all-k.ensures.users_filled _)).1

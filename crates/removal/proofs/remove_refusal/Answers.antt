@@ -1,4 +1,5 @@
 use native.Mathlib.Omega.{arith}
+use borrow.Author.Tests.{eq-eqb, ne_eqb}
 use Rattle.base.proofs.Truth.{truth, false_of}
 use Rattle.removal.proofs.RefusalLaws.{remove_unheld, remove_reads, remove_16, remove_2, remove_0}
 use mathlib.Core.Path.{refl, sym, ◌∙◌}
@@ -21,16 +22,16 @@ bounds-records-global c =
 pub returns-then-assumed : goal.returns-then-assumed
 returns-then-assumed c =
     remove_16 _ _ _ c.requires _ (sym c.in-At.is ∙ c.holder.ensures)
-    (let k = simp truth at c.if-assumed.true in simp truth (omega arith))
+    (eq-eqb _ _ c.if-assumed.true)
 
 pub returns-then-room-words : goal.returns-then-room-words
 returns-then-room-words c =
     remove_2 _ _ _ c.requires _ (sym c.in-At.is ∙ c.holder.ensures)
-    (false_of _ _ (λ h. let k = simp truth at h in simp truth (omega arith)) c.if-assumed.false) _ c.removal_notes.ensures
+    (ne_eqb _ _ c.if-assumed.false) _ c.removal_notes.ensures
     (let k = c.if-room-words.true in omega arith)
 
 pub returns : goal.returns
 returns c =
     remove_0 _ _ _ c.requires _ (sym c.in-At.is ∙ c.holder.ensures)
-    (false_of _ _ (λ h. let k = simp truth at h in simp truth (omega arith)) c.if-assumed.false) _ c.removal_notes.ensures
+    (ne_eqb _ _ c.if-assumed.false) _ c.removal_notes.ensures
     (let k = c.if-room-words.false in omega arith)

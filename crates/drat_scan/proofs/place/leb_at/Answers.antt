@@ -54,7 +54,7 @@ pub loop-i-preserved : goal.loop-i-preserved
 loop-i-preserved c =
     let a = c.args in let l = c.loop-i in
     let d = leb_here a.s.now l.i (omega arith) l.v l.w in
-    let b = c.shared_slice_known-1.given l.i in
+    let b = c.type_inv.s l.i in
     let m : l.w * (get_or a.s.now l.i 0 - 128) ≤ l.w * 127 = mul-le-mul_left l.w (omega arith) in
     (omega arith, omega arith, sym (sym l.invariant.2 ∙ d ∙ simp (le-ltb _ _ c.if-b-lt128.false, le-ltb _ _ c.if-w-gt64.false)))
 

@@ -1,5 +1,4 @@
 use Prim.Native.Nat.{ℕ, ◌+◌}
-use mathlib.Core.Logic.{⊎_elim}
 use mathlib.Core.Path.{sym, ap, ◌∙◌, subst}
 use native.Mathlib.Omega.{arith}
 use Rattle.drat.proofs.Places.{opens_at, lit_at, stop_at, token_le}
@@ -8,19 +7,20 @@ use Rattle.drat.specs.declared.Scanned.TheVariants.{Whole, Fault}
 use Rattle.drat_scan.proofs.ScanLaws.{Between, between_start, inside_start, inside_more, between_more, between_wrong, between_bad, between_end}
 use borrow.Author.Rules.{rules}
 use Rattle.drat_scan.proofs.scan.scan.Goals as goal
+use Rattle.drat_scan.proofs.scan.scan.Goals.{then-s-at, else-s-at+in_default, else-s-at+in-Opens+in-Bad}
 
 pub steps-init : goal.steps-init
 steps-init c =
     let a = c.args in
     let s = a.s.now in
-    let hb : Bytes s = λ i. omega (arith, c.shared_slice_known-1.given i) in
+    let hb : Bytes s = λ i. omega (arith, c.type_inv.s i) in
     subst (λ (x : ℕ). Between a.f s x 0 0) (sym c.past-at.ensures) (between_start a.f s hb)
 
 pub loop-next-init : goal.loop-next-init
 loop-next-init c =
     let a = c.args in
     let s = a.s.now in
-    let hb : Bytes s = λ i. omega (arith, c.shared_slice_known-1.given i) in
+    let hb : Bytes s = λ i. omega (arith, c.type_inv.s i) in
     let o = c.steps in
     let k = c.in-Opens.field-0 in
     let first = c.in-Opens.first in
@@ -32,7 +32,7 @@ pub loop-next-smaller : goal.loop-next-smaller
 loop-next-smaller c =
     let a = c.args in
     let s = a.s.now in
-    let hb : Bytes s = λ i. omega (arith, c.shared_slice_known-1.given i) in
+    let hb : Bytes s = λ i. omega (arith, c.type_inv.s i) in
     let l = c.loop-next in
     let ch = c.in-Lit.field-0 in
     let nx = c.in-Lit.next in
@@ -44,7 +44,7 @@ pub loop-next-preserved : goal.loop-next-preserved
 loop-next-preserved c =
     let a = c.args in
     let s = a.s.now in
-    let hb : Bytes s = λ i. omega (arith, c.shared_slice_known-1.given i) in
+    let hb : Bytes s = λ i. omega (arith, c.type_inv.s i) in
     let o = c.steps in
     let first = c.in-Opens.first in
     let l = c.loop-next in
@@ -57,7 +57,7 @@ pub steps-smaller : goal.steps-smaller
 steps-smaller c =
     let a = c.args in
     let s = a.s.now in
-    let hb : Bytes s = λ i. omega (arith, c.shared_slice_known-1.given i) in
+    let hb : Bytes s = λ i. omega (arith, c.type_inv.s i) in
     let o = c.steps in
     let k = c.in-Opens.field-0 in
     let first = c.in-Opens.first in
@@ -74,7 +74,7 @@ pub steps-preserved : goal.steps-preserved
 steps-preserved c =
     let a = c.args in
     let s = a.s.now in
-    let hb : Bytes s = λ i. omega (arith, c.shared_slice_known-1.given i) in
+    let hb : Bytes s = λ i. omega (arith, c.type_inv.s i) in
     let o = c.steps in
     let k = c.in-Opens.field-0 in
     let first = c.in-Opens.first in
@@ -90,21 +90,25 @@ pub returns-then-place-s : goal.returns-then-place-s
 returns-then-place-s c =
     let a = c.args in
     let s = a.s.now in
-    let hb : Bytes s = λ i. omega (arith, c.shared_slice_known-1.given i) in
+    let hb : Bytes s = λ i. omega (arith, c.type_inv.s i) in
     let o = c.steps in
-    ⊎_elim (λ w. absurd (omega (arith, w.0.taken, w.3, c.if-place-s.true)))
-    (⊎_elim (λ w. ap Fault w.6 ∙ between_wrong a.f s o.at o.n o.m hb o.invariant w.0.left (sym w.1.ensures ∙ w.3.given.1))
-    (λ w. ap Fault w.11 ∙ between_bad a.f s o.at o.n o.m hb o.invariant w.0.left w.3.given.0.0 w.3.given.0.1.0 w.5.at
-    w.5.n
-    (sym w.1.ensures ∙ w.3.given.1) w.5.inv (sym w.6.ensures ∙ w.8.given.1)))
-    c.if-s-at.branch
+    elim c.if-s-at.branch [
+      then-s-at w ↦ absurd (omega arith)
+    | else-s-at+in_default w ↦
+        ap Fault w.place-is ∙ between_wrong a.f s o.at o.n o.m hb o.invariant w.if-s-at.false (sym w.opening_at.ensures ∙ w.in_default.is)
+    | else-s-at+in-Opens+in-Bad w ↦
+        ap Fault w.place-is ∙ between_bad a.f s o.at o.n o.m hb o.invariant w.if-s-at.false w.in-Opens.field-0 w.in-Opens.first w.loop-next.at
+        w.loop-next.n (sym w.opening_at.ensures ∙ w.in-Opens.is) w.loop-next.invariant (sym w.token_at.ensures ∙ w.in-Bad.is)
+    ]
 
 pub returns-else-place-s : goal.returns-else-place-s
 returns-else-place-s c =
     let a = c.args in
     let s = a.s.now in
-    let hb : Bytes s = λ i. omega (arith, c.shared_slice_known-1.given i) in
+    let hb : Bytes s = λ i. omega (arith, c.type_inv.s i) in
     let o = c.steps in
-    ⊎_elim (λ w. ap (λ (x : ℕ). Whole x o.m) w.2 ∙ between_end a.f s o.at o.n o.m hb o.invariant w.0.taken)
-    (⊎_elim (λ w. absurd (omega (arith, w.0.left, w.6, c.if-place-s.false))) (λ w. absurd (omega (arith, w.0.left, w.11, c.if-place-s.false))))
-    c.if-s-at.branch
+    elim c.if-s-at.branch [
+      then-s-at w ↦ ap (λ (x : ℕ). Whole x o.m) w.n-is ∙ between_end a.f s o.at o.n o.m hb o.invariant w.if-s-at.true
+    | else-s-at+in_default w ↦ absurd (omega arith)
+    | else-s-at+in-Opens+in-Bad w ↦ absurd (omega arith)
+    ]

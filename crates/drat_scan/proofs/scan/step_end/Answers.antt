@@ -12,7 +12,7 @@ pub returns-in_default : goal.returns-in_default
 returns-in_default c =
     let a = c.args in
     let s = a.s.now in
-    let hb : Bytes s = λ i. omega (arith, c.shared_slice_known-1.given i) in
+    let hb : Bytes s = λ i. omega (arith, c.type_inv.s i) in
     let w = wrong_at_lem a.f s hb a.start (sym c.opening_at.ensures ∙ c.in_default.is) in
     (sym (ap (end_of a.start) (sym (step_is a.f s a.start) ∙ w) ∙ end_fault a.start), c.requires)
 
@@ -20,7 +20,7 @@ pub loop-next-init : goal.loop-next-init
 loop-next-init c =
     let a = c.args in
     let s = a.s.now in
-    let hb : Bytes s = λ i. omega (arith, c.shared_slice_known-1.given i) in
+    let hb : Bytes s = λ i. omega (arith, c.type_inv.s i) in
     let eo = sym c.opening_at.ensures ∙ c.in-Opens.is in
     let k = c.in-Opens.field-0 in
     let first = c.in-Opens.first in
@@ -31,7 +31,7 @@ pub loop-next-smaller : goal.loop-next-smaller
 loop-next-smaller c =
     let a = c.args in
     let s = a.s.now in
-    let hb : Bytes s = λ i. omega (arith, c.shared_slice_known-1.given i) in
+    let hb : Bytes s = λ i. omega (arith, c.type_inv.s i) in
     let l = c.loop-next in
     let v = lit_at a.f s hb l.at l.invariant.0 c.in-Lit.field-0 c.in-Lit.next
     (sym c.token_alone.ensures ∙ c.in-Lit.is) in
@@ -41,7 +41,7 @@ pub loop-next-preserved : goal.loop-next-preserved
 loop-next-preserved c =
     let a = c.args in
     let s = a.s.now in
-    let hb : Bytes s = λ i. omega (arith, c.shared_slice_known-1.given i) in
+    let hb : Bytes s = λ i. omega (arith, c.type_inv.s i) in
     let l = c.loop-next in
     let ch = c.in-Lit.field-0 in
     let nx = c.in-Lit.next in
@@ -52,7 +52,7 @@ pub returns-in-Stop : goal.returns-in-Stop
 returns-in-Stop c =
     let a = c.args in
     let s = a.s.now in
-    let hb : Bytes s = λ i. omega (arith, c.shared_slice_known-1.given i) in
+    let hb : Bytes s = λ i. omega (arith, c.type_inv.s i) in
     let l = c.loop-next in
     let nx = c.in-Stop.next in
     let v = stop_at a.f s hb l.at l.invariant.0 nx (sym c.token_alone.ensures ∙ c.in-Stop.is) in
@@ -62,7 +62,7 @@ pub returns-in-Bad : goal.returns-in-Bad
 returns-in-Bad c =
     let a = c.args in
     let s = a.s.now in
-    let hb : Bytes s = λ i. omega (arith, c.shared_slice_known-1.given i) in
+    let hb : Bytes s = λ i. omega (arith, c.type_inv.s i) in
     let l = c.loop-next in
     let v = bad_at a.f s hb l.at (sym c.token_alone.ensures ∙ c.in-Bad.is) in (
       sym (end_broken a.start) ∙ sym (ap (end_part a.start) v) ∙ l.invariant.1

@@ -1,0 +1,7 @@
+use borrow.Author.Rules.{rules}
+use Rattle.dimacs_judge.specs.Limits.{above}
+use Rattle.dimacs_judge.proofs.limit.is_above.Goals as goal
+
+pub returns : goal.returns
+unfolding above
+returns c = cc

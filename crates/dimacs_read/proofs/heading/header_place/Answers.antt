@@ -1,0 +1,29 @@
+use mathlib.Core.Path.{refl, sym, ◌∙◌}
+use mathlib.Core.Bool.{false}
+use native.Mathlib.Omega.{arith}
+use Rattle.dimacs_read.proofs.HeadingLaws.{place_here, place_next, place_past}
+use borrow.Author.Rules.{rules}
+use Rattle.dimacs_read.proofs.heading.header_place.Goals as goal
+
+pub returns-then-not-passes-clause-value : goal.returns-then-not-passes-clause-value
+returns-then-not-passes-clause-value c =
+    let s = c.args.s.now in
+    let l = c.loop-i in
+    let p = sym c.passes.ensures ∙ c.if-not-passes.true in
+    sym (l.invariant.1 ∙ place_here s l.i c.loop-i-test.true l.inside p)
+
+pub loop-i-preserved : goal.loop-i-preserved
+loop-i-preserved c =
+    let s = c.args.s.now in
+    let l = c.loop-i in
+    let p = sym c.passes.ensures ∙ c.if-not-passes.false in (
+      omega (arith, c.loop-i-test.true),
+      l.invariant.1 ∙ place_next s l.i
+          c.loop-i-test.true l.inside p,
+    )
+
+pub returns-clause-value : goal.returns-clause-value
+returns-clause-value c =
+    let s = c.args.s.now in
+    let l = c.loop-i in
+    sym (l.invariant.1 ∙ place_past s l.i c.loop-i-test.false l.inside)

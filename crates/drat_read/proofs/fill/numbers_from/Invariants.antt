@@ -1,0 +1,13 @@
+use Prim.Native.Nat.{◌-◌}
+use lib.ListN.{length}
+use native.Mathlib.Omega.{arith}
+use Rattle.drat.specs.declared.Format.TheVariants.{Text}
+use Rattle.drat_read.proofs.BodyLaws.{BodyFilling}
+use borrow.Author.Rules.{rules}
+use Rattle.drat_read.proofs.fill.numbers_from.Given as goal
+
+abbrev pub invariant-loop-at : goal.invariant-loop-at
+invariant-loop-at l = BodyFilling Text l.s l.initial.codes l.from l.first l.codes l.at l.n
+
+abbrev pub decreases-loop-at : goal.decreases-loop-at
+decreases-loop-at l = length l.s - l.at

@@ -1,0 +1,38 @@
+use mathlib.Core.Path.{sym, ap₂, ◌∙◌, subst}
+use native.Mathlib.Omega.{arith}
+use Rattle.drat.proofs.Ends.{answer_fault}
+use Rattle.drat.proofs.Sound.{Bytes}
+use Rattle.drat.specs.declared.Scanned.TheVariants.{Whole}
+use Rattle.drat_judge.proofs.CountsLaws.{counts_are}
+use Rattle.drat_read.specs.Known.{Found}
+use Rattle.drat_read.proofs.FillLaws.{ample_fits, whole_found}
+use borrow.Author.Rules.{rules}
+use Rattle.drat_read.proofs.find.Goals as goal
+
+pub returns-then-is_ample : goal.returns-then-is_ample
+returns-then-is_ample c =
+    let a = c.args in
+    let hb : Bytes a.bytes.now = λ i. omega (arith, c.type_inv.bytes i) in
+    let r = c.is_ample.ensures c.if-is_ample.true in
+    ample_fits a.f a.bytes.now a.a a.b a.c hb (c.is_known.ensures c.if-is_known.true) r.0 r.1 r.2
+
+pub returns-then-is_known : goal.returns-then-is_known
+returns-then-is_known c =
+    let a = c.args in
+    let hb : Bytes a.bytes.now = λ i. omega (arith, c.type_inv.bytes i) in
+    let w = c.counts_of-w in
+    let e = ap₂ Whole w.ensures.0 w.ensures.1 ∙ counts_are a.f a.bytes.now hb (c.is_known.ensures c.if-is_known.true) in
+    subst (Found a.f a.bytes.now a.a a.b a.c) (sym c.room_for.ensures)
+    (whole_found a.f a.bytes.now w.result.lits w.result.steps a.a a.b a.c e)
+
+pub returns-in-Fault : goal.returns-in-Fault
+returns-in-Fault c =
+    let a = c.args in
+    answer_fault a.f a.bytes.now a.a a.b a.c c.in-Fault.p
+    (sym c.in-Fault.is ∙ c.scan.ensures)
+
+pub returns-in-Whole : goal.returns-in-Whole
+returns-in-Whole c =
+    let a = c.args in
+    subst (Found a.f a.bytes.now a.a a.b a.c) (sym c.room_for-in-Whole.ensures)
+    (whole_found a.f a.bytes.now _ _ a.a a.b a.c (sym c.in-Whole.is ∙ c.scan.ensures))
