@@ -1,8 +1,7 @@
 /*
  * A session from C, from Open to Model, and a short one on a table that is known to be sound. It prints one line if every answer is as expected.
  *
- *     rt staticlib capi
- *     rt staticlib known
+ *     tools/archives.sh
  *     cc -std=c99 -Wall -Wextra -Werror -Iinclude examples/session.c target/staticlib/libknown.a target/staticlib/libcapi.a -o session
  */
 #include "hintzobar.h"

@@ -1,6 +1,6 @@
 /*
  * Hintzobar: variable names, notes, DRAT proof lines and DIMACS CNF files (documents 01 and 02), for C and Rust.
- * Built by `rt staticlib capi` and `rt staticlib known`, which write target/staticlib/libcapi.a and target/staticlib/libknown.a; the second has the
+ * Built by tools/archives.sh, which writes target/staticlib/libcapi.a and target/staticlib/libknown.a; the second has the
  * calls of the last section, those named hz_known_ and _in, and is linked only where they are used.
  *
  * The caller owns all memory. A table is an hz_counts, six numbers, and six lists of `capacity` words, lent in this order:

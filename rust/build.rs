@@ -1,5 +1,4 @@
-//! Links the static libraries that `rt staticlib capi` and `rt staticlib known` write: from the folder $HINTZOBAR_LIB, or else target/staticlib of the
-//! repository.
+//! Links the static libraries that tools/archives.sh builds: from the folder $HINTZOBAR_LIB, or else target/staticlib of the repository.
 use std::{env, path::PathBuf};
 
 fn main() {
@@ -14,7 +13,7 @@ fn main() {
         let archive = folder.join(format!("lib{name}.a"));
         println!("cargo:rerun-if-changed={}", archive.display());
         if !archive.exists() {
-            println!("cargo:warning={} is not there: run `rt staticlib {name}` in the repository first", archive.display());
+            println!("cargo:warning={} is not there: run tools/archives.sh in the repository first", archive.display());
         }
         println!("cargo:rustc-link-lib=static={name}");
     }

@@ -12,8 +12,7 @@ use numbers::{FormatNumber, format_in};
 use scope::Counts;
 
 // Simplify (1, 3, 8, 12, 2): `simplify_of`.
-#[unsafe(no_mangle)]
-pub extern "C" fn hz_simplify(
+pub fn hz_simplify(
     c: Counts,
     gu: &[u32],
     ug: &[u32],
@@ -51,8 +50,7 @@ pub extern "C" fn hz_simplify(
 }
 
 // Simplify binary (1, 15, 8, 2): `binary_of`.
-#[unsafe(no_mangle)]
-pub extern "C" fn hz_simplify_binary(
+pub fn hz_simplify_binary(
     c: Counts,
     gu: &[u32],
     ug: &[u32],

@@ -9,8 +9,7 @@ use line_answers::written::HzWritten;
 use line_answers::wrote::wrote_out;
 
 // The clauses of the lists that `hz_read_cnf` fills, as a file (3, 2): `write_cnf_of`.
-#[unsafe(no_mangle)]
-pub extern "C" fn hz_write_cnf(codes: &[u32], ends: &[u64], out: &mut [u8]) -> HzWritten
+pub fn hz_write_cnf(codes: &[u32], ends: &[u64], out: &mut [u8]) -> HzWritten
     ensures value { let w = write_cnf_of codes.now ends.now (length out.old) in
         result.refusal ∷ result.bytes ∷ [] ≡ plain 1 w.answer }
     ensures out { let w = write_cnf_of codes.now ends.now (length out.old) in
@@ -21,8 +20,7 @@ pub extern "C" fn hz_write_cnf(codes: &[u32], ends: &[u64], out: &mut [u8]) -> H
 }
 
 // A file's clauses (17, 2): `read_cnf_of`.
-#[unsafe(no_mangle)]
-pub extern "C" fn hz_read_cnf(bytes: &[u8], codes: &mut [u32], ends: &mut [u64]) -> HzCnf
+pub fn hz_read_cnf(bytes: &[u8], codes: &mut [u32], ends: &mut [u64]) -> HzCnf
     ensures value { let w = read_cnf_of bytes.now (length codes.old) (length ends.old) in
         result.refusal ∷ result.place ∷ result.variables ∷ result.lits ∷ result.clauses ∷ [] ≡ located 3 w.answer }
     ensures codes { let w = read_cnf_of bytes.now (length codes.old) (length ends.old) in

@@ -12,8 +12,7 @@ use line_answers::wrote::wrote_out;
 use numbers::{FormatNumber, KindNumber, format_in, kind_in};
 
 // The clause buf[a..b] as one step from out[at] on (3, 2): `write_of` of the writer.
-#[unsafe(no_mangle)]
-pub extern "C" fn hz_write_clause(
+pub fn hz_write_clause(
     format: u32,
     kind: u32,
     buf: &[u32],
@@ -44,8 +43,7 @@ pub extern "C" fn hz_write_clause(
 }
 
 // A whole proof from the lists that `hz_read` fills (3, 2): `write_all_of` of the writer.
-#[unsafe(no_mangle)]
-pub extern "C" fn hz_write_proof(
+pub fn hz_write_proof(
     format: u32,
     codes: &[u32],
     ends: &[u64],
@@ -68,8 +66,7 @@ pub extern "C" fn hz_write_proof(
 }
 
 // Read (13, 2): `read_of`.
-#[unsafe(no_mangle)]
-pub extern "C" fn hz_read(
+pub fn hz_read(
     format: u32,
     bytes: &[u8],
     codes: &mut [u32],
@@ -98,8 +95,7 @@ pub extern "C" fn hz_read(
 }
 
 // The first step alone (13): `first_of`, and `first_token` for its place.
-#[unsafe(no_mangle)]
-pub extern "C" fn hz_first_step(format: u32, bytes: &[u8]) -> HzFirst
+pub fn hz_first_step(format: u32, bytes: &[u8]) -> HzFirst
     ensures value { let w = first_at format bytes.now in
         result.refusal ∷ result.place ∷ result.length ∷ [] ≡ placed (first_place_at format bytes.now) w }
     ensures bytes { let w = first_at format bytes.now in

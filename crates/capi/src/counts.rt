@@ -6,8 +6,7 @@ ghost use Rattle.scope.specs.Sound.{soundb};
 use scope::Counts;
 
 // Whether the table is sound: `soundb`.
-#[unsafe(no_mangle)]
-pub extern "C" fn hz_is_sound(
+pub fn hz_is_sound(
     c: Counts,
     gu: &[u32],
     ug: &[u32],

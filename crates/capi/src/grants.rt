@@ -9,8 +9,7 @@ use answers::granted::{HzGranted, granted_out};
 use scope::{Counts, Global};
 
 // Grant (1, 3, 6, 2): `grant_of`.
-#[unsafe(no_mangle)]
-pub extern "C" fn hz_grant(
+pub fn hz_grant(
     c: Counts,
     gu: &[u32],
     ug: &[u32],
@@ -23,7 +22,7 @@ pub extern "C" fn hz_grant(
 ) -> HzGranted
     ensures { Gives (λ t room. grant_of t global room) (plain 2) (result.refusal ∷ result.solver ∷ result.notes ∷ []) result.counts
         (lent c (constant gu.now) (constant ug.now) (change sg.old sg.new) (change gs.old gs.new)
-            (change assignment.old assignment.new) (constant records.now) (change notes.old notes.new)) }
+        (change assignment.old assignment.new) (constant records.now) (change notes.old notes.new)) }
 {
     let r = granting::solver_from_global(
         c,

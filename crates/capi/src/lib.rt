@@ -1,4 +1,4 @@
-// The calls of document 01 for C and Rust: numbers, slices, and structs by value. The header is include/hintzobar.h.
+// The calls of document 01 in plain types: numbers, slices, and structs by value. capi_c exports them to C; the header is include/hintzobar.h.
 #![tactic(auto)]
 
 pub mod clauses;

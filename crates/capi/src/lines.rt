@@ -11,8 +11,7 @@ use numbers::{FormatNumber, HzStep, StepNumber, format_in, step_in};
 use scope::Counts;
 
 // Rename (1, 14, 3, 8, 2): `rename_of`.
-#[unsafe(no_mangle)]
-pub extern "C" fn hz_rename(
+pub fn hz_rename(
     c: Counts,
     gu: &[u32],
     ug: &[u32],
@@ -51,8 +50,7 @@ pub extern "C" fn hz_rename(
 }
 
 // Write (1, 14, 3, 8, 11, 2): `write_of`.
-#[unsafe(no_mangle)]
-pub extern "C" fn hz_write(
+pub fn hz_write(
     c: Counts,
     gu: &[u32],
     ug: &[u32],

@@ -11,8 +11,7 @@ use numbers::{MarkNumber, mark_in};
 use scope::{Counts, Solver};
 
 // Marks (1, 8): `mark_of`.
-#[unsafe(no_mangle)]
-pub extern "C" fn hz_mark(
+pub fn hz_mark(
     c: Counts,
     gu: &[u32],
     ug: &[u32],
@@ -25,7 +24,7 @@ pub extern "C" fn hz_mark(
 ) -> HzChanged
     ensures { Gives (λ t room. for_known (mark_for mark) t (λ m. mark_of t m solver)) (plain 0) (result.refusal ∷ []) result.counts
         (quiet c (constant gu.now) (constant ug.now) (constant sg.now) (constant gs.now)
-            (constant assignment.now) (change records.old records.new)) }
+        (constant assignment.now) (change records.old records.new)) }
 {
     let MarkNumber::Known(m) = mark_in(mark) else {
         return HzChanged {
@@ -38,8 +37,7 @@ pub extern "C" fn hz_mark(
 }
 
 // Assign (1, 8, 9): `assign_of`.
-#[unsafe(no_mangle)]
-pub extern "C" fn hz_assign(
+pub fn hz_assign(
     c: Counts,
     gu: &[u32],
     ug: &[u32],
@@ -51,7 +49,7 @@ pub extern "C" fn hz_assign(
 ) -> HzChanged
     ensures { Gives (λ t room. assign_of t lit) (plain 0) (result.refusal ∷ []) result.counts
         (quiet c (constant gu.now) (constant ug.now) (constant sg.now) (constant gs.now)
-            (change assignment.old assignment.new) (constant records.now)) }
+        (change assignment.old assignment.new) (constant records.now)) }
 {
     let r = marks::assign_lit(c, gu, ug, sg, gs, assignment, records, lit);
     changed_out(r, c)

@@ -9,8 +9,7 @@ use line_answers::modelled::{HzModelled, modelled_out};
 use scope::Counts;
 
 // Model (1, 2): `model_of`.
-#[unsafe(no_mangle)]
-pub extern "C" fn hz_model(
+pub fn hz_model(
     c: Counts,
     gu: &[u32],
     ug: &[u32],

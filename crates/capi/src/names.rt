@@ -10,8 +10,7 @@ use answers::new_mapped::{HzNewMapped, new_mapped_out};
 use scope::{Counts, User};
 
 // Map (1, 3, 4, 5, 2): `map_of`.
-#[unsafe(no_mangle)]
-pub extern "C" fn hz_map(
+pub fn hz_map(
     c: Counts,
     gu: &mut [u32],
     ug: &mut [u32],
@@ -25,7 +24,7 @@ pub extern "C" fn hz_map(
 ) -> HzMapped
     ensures { Gives (λ t room. map_of t user sampling room) (plain 2) (result.refusal ∷ result.global ∷ result.notes ∷ []) result.counts
         (lent c (change gu.old gu.new) (change ug.old ug.new) (constant sg.now) (constant gs.now)
-            (constant assignment.now) (change records.old records.new) (change notes.old notes.new)) }
+        (constant assignment.now) (change records.old records.new) (change notes.old notes.new)) }
 {
     let r = naming::global_from_user(
         c,
@@ -43,8 +42,7 @@ pub extern "C" fn hz_map(
 }
 
 // New user (1, 5, 2): `new_user_of`.
-#[unsafe(no_mangle)]
-pub extern "C" fn hz_new_user(
+pub fn hz_new_user(
     c: Counts,
     gu: &mut [u32],
     ug: &mut [u32],
@@ -56,7 +54,7 @@ pub extern "C" fn hz_new_user(
 ) -> HzNewMapped
     ensures { Gives (λ t room. new_user_of t room) (plain 3) (result.refusal ∷ result.user ∷ result.global ∷ result.notes ∷ []) result.counts
         (lent c (change gu.old gu.new) (change ug.old ug.new) (constant sg.now) (constant gs.now)
-            (constant assignment.now) (change records.old records.new) (change notes.old notes.new)) }
+        (constant assignment.now) (change records.old records.new) (change notes.old notes.new)) }
 {
     let r = naming::new_user_var(c, gu, ug, sg, gs, assignment, records, notes);
     new_mapped_out(r, c)

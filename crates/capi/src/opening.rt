@@ -13,8 +13,7 @@ use answers::opened::opened_out;
 use scope::{Counts, Global, Solver, User};
 
 // Open (10): `open_of`.
-#[unsafe(no_mangle)]
-pub extern "C" fn hz_open(
+pub fn hz_open(
     capacity: u32,
     gu: &mut [u32],
     ug: &mut [u32],
@@ -25,7 +24,7 @@ pub extern "C" fn hz_open(
 ) -> HzChanged
     ensures { Gives (λ t room. open_of t) (plain 0) (result.refusal ∷ []) result.counts
         (quiet (open_counts capacity) (change gu.old gu.new) (change ug.old ug.new) (change sg.old sg.new) (change gs.old gs.new)
-            (change assignment.old assignment.new) (change records.old records.new)) }
+        (change assignment.old assignment.new) (change records.old records.new)) }
 {
     let c = Counts {
         capacity: capacity,
@@ -40,8 +39,7 @@ pub extern "C" fn hz_open(
 }
 
 // Lookup (1) from a user to its global: `global_from_user_of`; the others likewise.
-#[unsafe(no_mangle)]
-pub extern "C" fn hz_global_from_user(
+pub fn hz_global_from_user(
     c: Counts,
     gu: &[u32],
     ug: &[u32],
@@ -58,8 +56,7 @@ pub extern "C" fn hz_global_from_user(
     global_out(r)
 }
 
-#[unsafe(no_mangle)]
-pub extern "C" fn hz_user_from_global(
+pub fn hz_user_from_global(
     c: Counts,
     gu: &[u32],
     ug: &[u32],
@@ -76,8 +73,7 @@ pub extern "C" fn hz_user_from_global(
     user_out(r)
 }
 
-#[unsafe(no_mangle)]
-pub extern "C" fn hz_solver_from_global(
+pub fn hz_solver_from_global(
     c: Counts,
     gu: &[u32],
     ug: &[u32],
@@ -94,8 +90,7 @@ pub extern "C" fn hz_solver_from_global(
     solver_out(r)
 }
 
-#[unsafe(no_mangle)]
-pub extern "C" fn hz_global_from_solver(
+pub fn hz_global_from_solver(
     c: Counts,
     gu: &[u32],
     ug: &[u32],
@@ -112,8 +107,7 @@ pub extern "C" fn hz_global_from_solver(
     global_out(r)
 }
 
-#[unsafe(no_mangle)]
-pub extern "C" fn hz_record(
+pub fn hz_record(
     c: Counts,
     gu: &[u32],
     ug: &[u32],
@@ -130,8 +124,7 @@ pub extern "C" fn hz_record(
     word_out(r)
 }
 
-#[unsafe(no_mangle)]
-pub extern "C" fn hz_assignment(
+pub fn hz_assignment(
     c: Counts,
     gu: &[u32],
     ug: &[u32],

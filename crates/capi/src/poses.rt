@@ -9,8 +9,7 @@ use answers::posed::{HzPosed, posed_out};
 use scope::Counts;
 
 // Pose (1, 3, 4, 5, 2): `pose_of`.
-#[unsafe(no_mangle)]
-pub extern "C" fn hz_pose(
+pub fn hz_pose(
     c: Counts,
     gu: &mut [u32],
     ug: &mut [u32],
@@ -26,7 +25,7 @@ pub extern "C" fn hz_pose(
     ensures gives { Gives (λ t room. pose_of t lits.now sampling (length out.old) room) (plain 2)
         (result.refusal ∷ result.filled ∷ result.notes ∷ []) result.counts
         (lent c (change gu.old gu.new) (change ug.old ug.new) (change sg.old sg.new) (change gs.old gs.new)
-            (change assignment.old assignment.new) (change records.old records.new) (change notes.old notes.new)) }
+        (change assignment.old assignment.new) (change records.old records.new) (change notes.old notes.new)) }
     ensures out { Fills (change out.old out.new) 0
         (pose_of (given c gu.old ug.old sg.old gs.old assignment.old records.old) lits.now sampling (length out.old) (length notes.old)).words }
 {

@@ -9,8 +9,7 @@ use answers::noted::{HzNoted, removed_out};
 use scope::{Counts, Solver};
 
 // Remove (1, 8, 16, 2): `remove_of`.
-#[unsafe(no_mangle)]
-pub extern "C" fn hz_remove(
+pub fn hz_remove(
     c: Counts,
     gu: &[u32],
     ug: &[u32],
@@ -23,7 +22,7 @@ pub extern "C" fn hz_remove(
 ) -> HzNoted
     ensures { Gives (λ t room. remove_of t solver room) (plain 1) (result.refusal ∷ result.notes ∷ []) result.counts
         (lent c (constant gu.now) (constant ug.now) (change sg.old sg.new) (change gs.old gs.new)
-            (constant assignment.now) (change records.old records.new) (change notes.old notes.new)) }
+        (constant assignment.now) (change records.old records.new) (change notes.old notes.new)) }
 {
     let r = removal::remove_solver_var(
         c,
@@ -40,8 +39,7 @@ pub extern "C" fn hz_remove(
 }
 
 // Sweep (1, 2): `sweep_of`.
-#[unsafe(no_mangle)]
-pub extern "C" fn hz_sweep(
+pub fn hz_sweep(
     c: Counts,
     gu: &[u32],
     ug: &[u32],
@@ -53,7 +51,7 @@ pub extern "C" fn hz_sweep(
 ) -> HzNoted
     ensures { Gives (λ t room. sweep_of t room) (plain 1) (result.refusal ∷ result.notes ∷ []) result.counts
         (lent c (constant gu.now) (constant ug.now) (change sg.old sg.new) (change gs.old gs.new)
-            (constant assignment.now) (change records.old records.new) (change notes.old notes.new)) }
+        (constant assignment.now) (change records.old records.new) (change notes.old notes.new)) }
 {
     let r = removal::sweep(c, gu, ug, sg, gs, assignment, records, notes);
     removed_out(r, c)

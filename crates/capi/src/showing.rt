@@ -14,8 +14,7 @@ use numbers::{ModeNumber, mode_in};
 use scope::{Counts, Global};
 
 // Set mode (1, 3, 6, 7, 2): `set_mode_of`.
-#[unsafe(no_mangle)]
-pub extern "C" fn hz_set_mode(
+pub fn hz_set_mode(
     c: Counts,
     gu: &mut [u32],
     ug: &mut [u32],
@@ -30,7 +29,7 @@ pub extern "C" fn hz_set_mode(
     ensures { Gives (λ t room. for_known (mode_for mode) t (λ m. set_mode_of t global m room)) (optional 1)
         (result.refusal ∷ flag result.granted ∷ result.user ∷ result.notes ∷ []) result.counts
         (lent c (change gu.old gu.new) (change ug.old ug.new) (constant sg.now) (constant gs.now)
-            (constant assignment.now) (change records.old records.new) (change notes.old notes.new)) }
+        (constant assignment.now) (change records.old records.new) (change notes.old notes.new)) }
 {
     let ModeNumber::Known(m) = mode_in(mode) else {
         return HzModeSet {
@@ -57,8 +56,7 @@ pub extern "C" fn hz_set_mode(
 }
 
 // Observe (1, 7, 2): `observe_of`.
-#[unsafe(no_mangle)]
-pub extern "C" fn hz_observe(
+pub fn hz_observe(
     c: Counts,
     gu: &mut [u32],
     ug: &mut [u32],
@@ -71,7 +69,7 @@ pub extern "C" fn hz_observe(
 ) -> HzPosed
     ensures gives { Gives (λ t room. observe_of t (length users.old) room) (plain 2) (result.refusal ∷ result.filled ∷ result.notes ∷ []) result.counts
         (lent c (change gu.old gu.new) (change ug.old ug.new) (constant sg.now) (constant gs.now)
-            (constant assignment.now) (change records.old records.new) (change notes.old notes.new)) }
+        (constant assignment.now) (change records.old records.new) (change notes.old notes.new)) }
     ensures users { Fills (change users.old users.new) 0
         (observe_of (given c gu.old ug.old sg.now gs.now assignment.now records.old) (length users.old) (length notes.old)).words }
 {

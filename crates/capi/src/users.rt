@@ -6,8 +6,7 @@ ghost use Rattle.numbers.specs.Surface.{plain};
 use answers::users::{HzUsers, users_out};
 
 // How many users Pose would map and grant, counted in one pass (3): `users_by (count_named 4096)`.
-#[unsafe(no_mangle)]
-pub extern "C" fn hz_users_to_map(mark: u32, gu: &[u32], sg: &[u32], lits: &[u32]) -> HzUsers
+pub fn hz_users_to_map(mark: u32, gu: &[u32], sg: &[u32], lits: &[u32]) -> HzUsers
     ensures { result.refusal ∷ result.users ∷ result.grants ∷ [] ≡ plain 2 (users_by (count_named 4096) mark gu.now sg.now lits.now) }
 {
     let r = distinct::users_to_map(mark, gu, sg, lits);
@@ -15,8 +14,7 @@ pub extern "C" fn hz_users_to_map(mark: u32, gu: &[u32], sg: &[u32], lits: &[u32
 }
 
 // The same, counted plainly (3): `users_by plain_count`.
-#[unsafe(no_mangle)]
-pub extern "C" fn hz_users_to_map_plain(mark: u32, gu: &[u32], sg: &[u32], lits: &[u32]) -> HzUsers
+pub fn hz_users_to_map_plain(mark: u32, gu: &[u32], sg: &[u32], lits: &[u32]) -> HzUsers
     ensures { result.refusal ∷ result.users ∷ result.grants ∷ [] ≡ plain 2 (users_by plain_count mark gu.now sg.now lits.now) }
 {
     let r = distinct::users_to_map_plain(mark, gu, sg, lits);

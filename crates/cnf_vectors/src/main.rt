@@ -9,7 +9,7 @@ use dimacs::CnfRead;
 use dimacs_read::read_cnf;
 use dimacs_write::write_cnf;
 use drat::Wrote;
-use std::num::wrapping_add_u64;
+use std::io;
 
 // The vectors run, and those of them that came out otherwise.
 #[derive(Clone, Copy)]
@@ -18,30 +18,25 @@ struct Score {
     wrong: u64,
 }
 
-fn told(t: Score, ok: bool) -> Score {
-    let run = wrapping_add_u64(t.run, 1);
+fn told(rt: &impl Print, t: Score, ok: bool) -> io::Result<Score> {
+    let run = t.run.wrapping_add(1);
     if ok {
-        return Score {
+        return Ok(Score {
             run,
             wrong: t.wrong,
-        };
+        });
     }
-    io::write_all(1, b"wrong: vector ");
-    io::print_decimal(1, run);
-    io::write_all(1, b"\n");
-    Score {
+    println!(rt; "wrong: vector {run}")?;
+    Ok(Score {
         run,
-        wrong: wrapping_add_u64(t.wrong, 1),
-    }
+        wrong: t.wrong.wrapping_add(1),
+    })
 }
 
-fn summary(name: &[u8], t: Score) {
-    io::write_all(1, name);
-    io::write_all(1, b": ");
-    io::print_decimal(1, t.run);
-    io::write_all(1, b" vectors, ");
-    io::print_decimal(1, t.wrong);
-    io::write_all(1, b" wrong\n");
+fn summary(rt: &impl Print, name: &str, t: Score) -> io::Result<()> {
+    let run = t.run;
+    let wrong = t.wrong;
+    println!(rt; "{name}: {run} vectors, {wrong} wrong")
 }
 
 // Word i of what was to be filled; past it each word is what it was before the call.
@@ -58,34 +53,28 @@ fn word8(want: &[u8], i: usize) -> u8 {
 }
 
 fn holds32(lent: &[u32; 32], want: &[u32]) -> bool {
-    let mut i: usize = 0;
-    while i < 32 {
+    for i in 0..32 {
         if lent[i] != word32(want, i) {
             return false;
         }
-        i += 1;
     }
     true
 }
 
 fn holds64(lent: &[u64; 32], want: &[u64]) -> bool {
-    let mut i: usize = 0;
-    while i < 32 {
+    for i in 0..32 {
         if lent[i] != word64(want, i) {
             return false;
         }
-        i += 1;
     }
     true
 }
 
 fn holds8(lent: &[u8; 128], want: &[u8]) -> bool {
-    let mut i: usize = 0;
-    while i < 128 {
+    for i in 0..128 {
         if lent[i] != word8(want, i) {
             return false;
         }
-        i += 1;
     }
     true
 }
@@ -122,16 +111,24 @@ fn gives(bytes: &[u8], a: usize, b: usize, answer: CnfRead, codes: &[u32], ends:
 }
 
 // A file of V variables and these clauses.
-fn file(t: Score, bytes: &[u8], v: u32, codes: &[u32], ends: &[u64]) -> Score {
+fn file(
+    rt: &impl Print,
+    t: Score,
+    bytes: &[u8],
+    v: u32,
+    codes: &[u32],
+    ends: &[u64],
+) -> io::Result<Score> {
     let answer = CnfRead::Filled(v, codes.len(), ends.len());
-    told(t, gives(bytes, 32, 32, answer, codes, ends))
+    told(rt, t, gives(bytes, 32, 32, answer, codes, ends))
 }
 
 // A file that is wrong at the place.
-fn wrong(t: Score, bytes: &[u8], place: usize) -> Score {
+fn wrong(rt: &impl Print, t: Score, bytes: &[u8], place: usize) -> io::Result<Score> {
     let none = [0u32; 0];
     let nowhere = [0u64; 0];
     told(
+        rt,
         t,
         gives(bytes, 32, 32, CnfRead::Wrong(place), &none, &nowhere),
     )
@@ -155,34 +152,56 @@ fn puts(codes: &[u32], ends: &[u64], room: usize, answer: usize, bytes: &[u8]) -
     (number(w) == answer) & holds8(&out, bytes)
 }
 
-fn written(t: Score, codes: &[u32], ends: &[u64], bytes: &[u8]) -> Score {
+fn written(
+    rt: &impl Print,
+    t: Score,
+    codes: &[u32],
+    ends: &[u64],
+    bytes: &[u8],
+) -> io::Result<Score> {
     let answer = 100 + bytes.len() % 1000;
-    told(t, puts(codes, ends, 128, answer, bytes))
+    told(rt, t, puts(codes, ends, 128, answer, bytes))
 }
 
 // The lists give the file, and the file the lists, with V variables.
-fn both(t: Score, bytes: &[u8], v: u32, codes: &[u32], ends: &[u64]) -> Score {
-    written(file(t, bytes, v, codes, ends), codes, ends, bytes)
+fn both(
+    rt: &impl Print,
+    t: Score,
+    bytes: &[u8],
+    v: u32,
+    codes: &[u32],
+    ends: &[u64],
+) -> io::Result<Score> {
+    written(rt, file(rt, t, bytes, v, codes, ends)?, codes, ends, bytes)
 }
 
-fn unwritten(t: Score, codes: &[u32], ends: &[u64], room: usize, answer: usize) -> Score
+fn unwritten(
+    rt: &impl Print,
+    t: Score,
+    codes: &[u32],
+    ends: &[u64],
+    room: usize,
+    answer: usize,
+) -> io::Result<Score>
     requires { room ≤ 128 }
 {
-    told(t, puts(codes, ends, room, answer, b""))
+    told(rt, t, puts(codes, ends, room, answer, b""))
 }
 
 // The example of the SAT competitions, with its comments, and what is written for its clauses.
-fn competition(t: Score) -> Score {
+fn competition(rt: &impl Print, t: Score) -> io::Result<Score> {
     let codes = [0u32, 9, 6, 1, 8, 4, 6, 5, 7];
     let ends = [3u64, 7, 9];
     let t = file(
+        rt,
         t,
         b"c\nc start with comments\nc\nc \np cnf 5 3\n1 -5 4 0\n-1 5 3 4 0\n-3 -4 0\n",
         5,
         &codes,
         &ends,
-    );
+    )?;
     both(
+        rt,
         t,
         b"p cnf 5 3\n1 -5 4 0\n-1 5 3 4 0\n-3 -4 0\n",
         5,
@@ -192,20 +211,29 @@ fn competition(t: Score) -> Score {
 }
 
 // The example of the DIMACS challenge breaks its clauses otherwise: it is wrong where the second stands, and right a clause a line.
-fn challenge(t: Score) -> Score {
+fn challenge(rt: &impl Print, t: Score) -> io::Result<Score> {
     let t = wrong(
+        rt,
         t,
         b"c Example CNF format file\nc\np cnf 4 3\n1 3 -4 0\n4 0 2\n-3\n",
         47,
-    );
+    )?;
     let codes = [0u32, 4, 7, 6, 2, 5];
     let ends = [3u64, 4, 6];
-    both(t, b"p cnf 4 3\n1 3 -4 0\n4 0\n2 -3 0\n", 4, &codes, &ends)
+    both(
+        rt,
+        t,
+        b"p cnf 4 3\n1 3 -4 0\n4 0\n2 -3 0\n",
+        4,
+        &codes,
+        &ends,
+    )
 }
 
 // DRAT-trim's example of four variables: the blanks that align it are wrong.
-fn aligned(t: Score) -> Score {
+fn aligned(rt: &impl Print, t: Score) -> io::Result<Score> {
     wrong(
+        rt,
         t,
         b"p cnf 4 8\n 1  2 -3 0\n-1 -2  3 0\n 2  3 -4 0\n-2 -3  4 0\n-1 -3 -4 0\n 1  3  4 0\n-1  2  4 0\n 1 -2 -4 0\n",
         10,
@@ -213,12 +241,13 @@ fn aligned(t: Score) -> Score {
 }
 
 // Without them it is right.
-fn four_variables(t: Score) -> Score {
+fn four_variables(rt: &impl Print, t: Score) -> io::Result<Score> {
     let codes = [
         0u32, 2, 5, 1, 3, 4, 2, 4, 7, 3, 5, 6, 1, 5, 7, 0, 4, 6, 1, 2, 6, 0, 3, 7,
     ];
     let ends = [3u64, 6, 9, 12, 15, 18, 21, 24];
     both(
+        rt,
         t,
         b"p cnf 4 8\n1 2 -3 0\n-1 -2 3 0\n2 3 -4 0\n-2 -3 4 0\n-1 -3 -4 0\n1 3 4 0\n-1 2 4 0\n1 -2 -4 0\n",
         4,
@@ -228,25 +257,28 @@ fn four_variables(t: Score) -> Score {
 }
 
 // The files of SATLIB have blanks too many in the header, and an end of their own.
-fn satlib(t: Score) -> Score {
+fn satlib(rt: &impl Print, t: Score) -> io::Result<Score> {
     let t = wrong(
+        rt,
         t,
         b"c This Formular is generated by mcnf\nc\np cnf 20  91 \n 4 -18 19 0\n",
         39,
-    );
-    wrong(t, b"p cnf 1 1\n1 0\n%\n0\n\n", 14)
+    )?;
+    wrong(rt, t, b"p cnf 1 1\n1 0\n%\n0\n\n", 14)
 }
 
 // Two pigeons and one hole; a full set of two variables.
-fn small(t: Score) -> Score {
+fn small(rt: &impl Print, t: Score) -> io::Result<Score> {
     let t = both(
+        rt,
         t,
         b"p cnf 2 3\n1 0\n2 0\n-1 -2 0\n",
         2,
         &[0u32, 2, 1, 3],
         &[1u64, 2, 4],
-    );
+    )?;
     both(
+        rt,
         t,
         b"p cnf 2 4\n1 2 0\n-1 2 0\n1 -2 0\n-1 -2 0\n",
         2,
@@ -256,24 +288,33 @@ fn small(t: Score) -> Score {
 }
 
 // No clauses, empty ones, V of a negative literal and of a repeated one, ten and a hundred as V, the largest.
-fn plain(t: Score) -> Score {
+fn plain(rt: &impl Print, t: Score) -> io::Result<Score> {
     let none = [0u32; 0];
     let nowhere = [0u64; 0];
-    let t = both(t, b"p cnf 0 0\n", 0, &none, &nowhere);
-    let t = both(t, b"p cnf 0 1\n0\n", 0, &none, &[0u64]);
-    let t = both(t, b"p cnf 0 3\n0\n0\n0\n", 0, &none, &[0u64, 0, 0]);
+    let t = both(rt, t, b"p cnf 0 0\n", 0, &none, &nowhere)?;
+    let t = both(rt, t, b"p cnf 0 1\n0\n", 0, &none, &[0u64])?;
+    let t = both(rt, t, b"p cnf 0 3\n0\n0\n0\n", 0, &none, &[0u64, 0, 0])?;
     let t = both(
+        rt,
         t,
         b"p cnf 2 3\n1 0\n0\n-2 0\n",
         2,
         &[0u32, 3],
         &[1u64, 1, 2],
-    );
-    let t = both(t, b"p cnf 3 1\n-3 0\n", 3, &[5u32], &[1u64]);
-    let t = both(t, b"p cnf 5 1\n5 5 -5 0\n", 5, &[8u32, 8, 9], &[3u64]);
-    let t = both(t, b"p cnf 10 1\n-10 9 0\n", 10, &[19u32, 16], &[2u64]);
-    let t = both(t, b"p cnf 100 1\n99 100 0\n", 100, &[196u32, 198], &[2u64]);
+    )?;
+    let t = both(rt, t, b"p cnf 3 1\n-3 0\n", 3, &[5u32], &[1u64])?;
+    let t = both(rt, t, b"p cnf 5 1\n5 5 -5 0\n", 5, &[8u32, 8, 9], &[3u64])?;
+    let t = both(rt, t, b"p cnf 10 1\n-10 9 0\n", 10, &[19u32, 16], &[2u64])?;
+    let t = both(
+        rt,
+        t,
+        b"p cnf 100 1\n99 100 0\n",
+        100,
+        &[196u32, 198],
+        &[2u64],
+    )?;
     both(
+        rt,
         t,
         b"p cnf 4096 2\n-4096 0\n1000 4096 0\n",
         4096,
@@ -283,157 +324,167 @@ fn plain(t: Score) -> Score {
 }
 
 // Read, though not written here: a larger V, lines that start with `c` before the header.
-fn comments(t: Score) -> Score {
+fn comments(rt: &impl Print, t: Score) -> io::Result<Score> {
     let none = [0u32; 0];
     let nowhere = [0u64; 0];
-    let t = file(t, b"p cnf 4096 0\n", 4096, &none, &nowhere);
-    let t = file(t, b"p cnf 9 1\n-2 0\n", 9, &[3u32], &[1u64]);
-    let t = file(t, b"c\np cnf 0 0\n", 0, &none, &nowhere);
+    let t = file(rt, t, b"p cnf 4096 0\n", 4096, &none, &nowhere)?;
+    let t = file(rt, t, b"p cnf 9 1\n-2 0\n", 9, &[3u32], &[1u64])?;
+    let t = file(rt, t, b"c\np cnf 0 0\n", 0, &none, &nowhere)?;
     let t = file(
+        rt,
         t,
         b"cnf 1\ncp cnf 9 9\np cnf 1 1\n1 0\n",
         1,
         &[0u32],
         &[1u64],
-    );
-    let t = file(t, b"c \xff\x00\r\nc\tx\np cnf 0 1\n0\n", 0, &none, &[0u64]);
-    let t = wrong(t, b"p cnf 1 1\nc\n1 0\n", 10);
-    let t = wrong(t, b"p cnf 1 1\n1 0\nc\n", 14);
-    let t = wrong(t, b"c\n\np cnf 0 0\n", 2);
-    let t = wrong(t, b"c\n c\np cnf 0 0\n", 2);
-    wrong(t, b"C\np cnf 0 0\n", 0)
+    )?;
+    let t = file(
+        rt,
+        t,
+        b"c \xff\x00\r\nc\tx\np cnf 0 1\n0\n",
+        0,
+        &none,
+        &[0u64],
+    )?;
+    let t = wrong(rt, t, b"p cnf 1 1\nc\n1 0\n", 10)?;
+    let t = wrong(rt, t, b"p cnf 1 1\n1 0\nc\n", 14)?;
+    let t = wrong(rt, t, b"c\n\np cnf 0 0\n", 2)?;
+    let t = wrong(rt, t, b"c\n c\np cnf 0 0\n", 2)?;
+    wrong(rt, t, b"C\np cnf 0 0\n", 0)
 }
 
 // A header of another form, or with a number that is none or too large.
-fn headers(t: Score) -> Score {
-    let t = wrong(t, b"p cnf 4097 0\n", 0);
-    let t = wrong(t, b"c\np cnf 5000 0\n", 2);
-    let t = wrong(t, b"p cnf 12345678901234567890123 0\n", 0);
-    let t = wrong(t, b"p cnf 01 0\n", 0);
-    let t = wrong(t, b"p cnf 00 0\n", 0);
-    let t = wrong(t, b"p cnf 0 00\n", 0);
-    let t = wrong(t, b"p cnf 1 01\n1 0\n", 0);
-    let t = wrong(t, b"p cnf -1 0\n", 0);
-    let t = wrong(t, b"p cnf 1 -0\n", 0);
-    let t = wrong(t, b"p cnf +1 0\n", 0);
-    let t = wrong(t, b"p cnf 1\n", 0);
-    let t = wrong(t, b"p cnf 1 \n", 0);
-    let t = wrong(t, b"p cnf  0\n", 0);
-    wrong(t, b"p cnf\n", 0)
+fn headers(rt: &impl Print, t: Score) -> io::Result<Score> {
+    let t = wrong(rt, t, b"p cnf 4097 0\n", 0)?;
+    let t = wrong(rt, t, b"c\np cnf 5000 0\n", 2)?;
+    let t = wrong(rt, t, b"p cnf 12345678901234567890123 0\n", 0)?;
+    let t = wrong(rt, t, b"p cnf 01 0\n", 0)?;
+    let t = wrong(rt, t, b"p cnf 00 0\n", 0)?;
+    let t = wrong(rt, t, b"p cnf 0 00\n", 0)?;
+    let t = wrong(rt, t, b"p cnf 1 01\n1 0\n", 0)?;
+    let t = wrong(rt, t, b"p cnf -1 0\n", 0)?;
+    let t = wrong(rt, t, b"p cnf 1 -0\n", 0)?;
+    let t = wrong(rt, t, b"p cnf +1 0\n", 0)?;
+    let t = wrong(rt, t, b"p cnf 1\n", 0)?;
+    let t = wrong(rt, t, b"p cnf 1 \n", 0)?;
+    let t = wrong(rt, t, b"p cnf  0\n", 0)?;
+    wrong(rt, t, b"p cnf\n", 0)
 }
 
-fn openings(t: Score) -> Score {
-    let t = wrong(t, b"p cnf 1  0\n", 0);
-    let t = wrong(t, b"p cnf 1 0 \n", 0);
-    let t = wrong(t, b"p cnf 1 0\r\n", 0);
-    let t = wrong(t, b"p cnf 1 0", 0);
-    let t = wrong(t, b"p cnf 1 0 0\n", 0);
-    let t = wrong(t, b"p  cnf 1 0\n", 0);
-    let t = wrong(t, b"p\tcnf 1 0\n", 0);
-    let t = wrong(t, b" p cnf 1 0\n", 0);
-    let t = wrong(t, b"P CNF 1 0\n", 0);
-    let t = wrong(t, b"p dnf 1 0\n", 0);
-    let t = wrong(t, b"p cnf1 0\n", 0);
-    let t = wrong(t, b"p", 0);
-    wrong(t, b"1 0\n", 0)
+fn openings(rt: &impl Print, t: Score) -> io::Result<Score> {
+    let t = wrong(rt, t, b"p cnf 1  0\n", 0)?;
+    let t = wrong(rt, t, b"p cnf 1 0 \n", 0)?;
+    let t = wrong(rt, t, b"p cnf 1 0\r\n", 0)?;
+    let t = wrong(rt, t, b"p cnf 1 0", 0)?;
+    let t = wrong(rt, t, b"p cnf 1 0 0\n", 0)?;
+    let t = wrong(rt, t, b"p  cnf 1 0\n", 0)?;
+    let t = wrong(rt, t, b"p\tcnf 1 0\n", 0)?;
+    let t = wrong(rt, t, b" p cnf 1 0\n", 0)?;
+    let t = wrong(rt, t, b"P CNF 1 0\n", 0)?;
+    let t = wrong(rt, t, b"p dnf 1 0\n", 0)?;
+    let t = wrong(rt, t, b"p cnf1 0\n", 0)?;
+    let t = wrong(rt, t, b"p", 0)?;
+    wrong(rt, t, b"1 0\n", 0)
 }
 
 // A line of another form, after one that is right.
-fn numbers(t: Score) -> Score {
-    let t = wrong(t, b"p cnf 2 2\n1 0\n3 0\n", 14);
-    let t = wrong(t, b"p cnf 2 2\n1 0\n-3 0\n", 14);
-    let t = wrong(t, b"p cnf 0 1\n1 0\n", 10);
-    let t = wrong(t, b"p cnf 4096 2\n1 0\n4097 0\n", 17);
-    let t = wrong(t, b"p cnf 4096 1\n4294967297 0\n", 13);
-    let t = wrong(t, b"p cnf 2 2\n1 0\n01 0\n", 14);
-    let t = wrong(t, b"p cnf 2 2\n1 0\n-0 0\n", 14);
-    let t = wrong(t, b"p cnf 2 2\n1 0\n+1 0\n", 14);
-    let t = wrong(t, b"p cnf 2 2\n1 0\n--1 0\n", 14);
-    let t = wrong(t, b"p cnf 2 2\n1 0\n1 - 0\n", 14);
-    let t = wrong(t, b"p cnf 2 2\n1 0\n1 -0\n", 14);
-    wrong(t, b"p cnf 2 2\n1 0\n1 00\n", 14)
+fn numbers(rt: &impl Print, t: Score) -> io::Result<Score> {
+    let t = wrong(rt, t, b"p cnf 2 2\n1 0\n3 0\n", 14)?;
+    let t = wrong(rt, t, b"p cnf 2 2\n1 0\n-3 0\n", 14)?;
+    let t = wrong(rt, t, b"p cnf 0 1\n1 0\n", 10)?;
+    let t = wrong(rt, t, b"p cnf 4096 2\n1 0\n4097 0\n", 17)?;
+    let t = wrong(rt, t, b"p cnf 4096 1\n4294967297 0\n", 13)?;
+    let t = wrong(rt, t, b"p cnf 2 2\n1 0\n01 0\n", 14)?;
+    let t = wrong(rt, t, b"p cnf 2 2\n1 0\n-0 0\n", 14)?;
+    let t = wrong(rt, t, b"p cnf 2 2\n1 0\n+1 0\n", 14)?;
+    let t = wrong(rt, t, b"p cnf 2 2\n1 0\n--1 0\n", 14)?;
+    let t = wrong(rt, t, b"p cnf 2 2\n1 0\n1 - 0\n", 14)?;
+    let t = wrong(rt, t, b"p cnf 2 2\n1 0\n1 -0\n", 14)?;
+    wrong(rt, t, b"p cnf 2 2\n1 0\n1 00\n", 14)
 }
 
-fn lines(t: Score) -> Score {
-    let t = wrong(t, b"p cnf 2 2\n1 0\n1  0\n", 14);
-    let t = wrong(t, b"p cnf 2 2\n1 0\n 1 0\n", 14);
-    let t = wrong(t, b"p cnf 2 2\n1 0\n1 0 \n", 14);
-    let t = wrong(t, b"p cnf 2 2\n1 0\n1\t0\n", 14);
-    let t = wrong(t, b"p cnf 2 2\n1 0\n1 0\r\n", 14);
-    let t = wrong(t, b"p cnf 2 2\n1 0\n1 0", 14);
-    let t = wrong(t, b"p cnf 2 2\n1 0\n1", 14);
-    let t = wrong(t, b"p cnf 2 2\n1 0\n-", 14);
-    let t = wrong(t, b"p cnf 2 2\n1 0\n1\n", 14);
-    let t = wrong(t, b"p cnf 2 2\n1 0\n\n2 0\n", 14);
-    let t = wrong(t, b"p cnf 2 2\n1 0\n2 0\n\n", 18);
-    let t = wrong(t, b"p cnf 2 2\n1 0 2 0\n", 10);
-    let t = wrong(t, b"p cnf 2 1\n1\n2 0\n", 10);
-    let t = wrong(t, b"p cnf 2 2\n1 0\nd 1 0\n", 14);
-    wrong(t, b"p cnf 0 0\np cnf 0 0\n", 10)
+fn lines(rt: &impl Print, t: Score) -> io::Result<Score> {
+    let t = wrong(rt, t, b"p cnf 2 2\n1 0\n1  0\n", 14)?;
+    let t = wrong(rt, t, b"p cnf 2 2\n1 0\n 1 0\n", 14)?;
+    let t = wrong(rt, t, b"p cnf 2 2\n1 0\n1 0 \n", 14)?;
+    let t = wrong(rt, t, b"p cnf 2 2\n1 0\n1\t0\n", 14)?;
+    let t = wrong(rt, t, b"p cnf 2 2\n1 0\n1 0\r\n", 14)?;
+    let t = wrong(rt, t, b"p cnf 2 2\n1 0\n1 0", 14)?;
+    let t = wrong(rt, t, b"p cnf 2 2\n1 0\n1", 14)?;
+    let t = wrong(rt, t, b"p cnf 2 2\n1 0\n-", 14)?;
+    let t = wrong(rt, t, b"p cnf 2 2\n1 0\n1\n", 14)?;
+    let t = wrong(rt, t, b"p cnf 2 2\n1 0\n\n2 0\n", 14)?;
+    let t = wrong(rt, t, b"p cnf 2 2\n1 0\n2 0\n\n", 18)?;
+    let t = wrong(rt, t, b"p cnf 2 2\n1 0 2 0\n", 10)?;
+    let t = wrong(rt, t, b"p cnf 2 1\n1\n2 0\n", 10)?;
+    let t = wrong(rt, t, b"p cnf 2 2\n1 0\nd 1 0\n", 14)?;
+    wrong(rt, t, b"p cnf 0 0\np cnf 0 0\n", 10)
 }
 
 // A wrong count is at the header, and only where every line is right; a file without a header is wrong at its end.
-fn counts(t: Score) -> Score {
-    let t = wrong(t, b"c\np cnf 2 1\n1 0\n2 0\n", 2);
-    let t = wrong(t, b"c\np cnf 2 3\n1 0\n2 0\n", 2);
-    let t = wrong(t, b"c\np cnf 2 0\n1 0\n", 2);
-    let t = wrong(t, b"p cnf 2 1\n", 0);
+fn counts(rt: &impl Print, t: Score) -> io::Result<Score> {
+    let t = wrong(rt, t, b"c\np cnf 2 1\n1 0\n2 0\n", 2)?;
+    let t = wrong(rt, t, b"c\np cnf 2 3\n1 0\n2 0\n", 2)?;
+    let t = wrong(rt, t, b"c\np cnf 2 0\n1 0\n", 2)?;
+    let t = wrong(rt, t, b"p cnf 2 1\n", 0)?;
     let t = wrong(
+        rt,
         t,
         b"p cnf 2 1000000000000000000000000000000000000001\n1 0\n",
         0,
-    );
-    let t = wrong(t, b"p cnf 2 18446744073709551617\n1 0\n", 0);
-    let t = wrong(t, b"p cnf 2 4294967297\n1 0\n", 0);
+    )?;
+    let t = wrong(rt, t, b"p cnf 2 18446744073709551617\n1 0\n", 0)?;
+    let t = wrong(rt, t, b"p cnf 2 4294967297\n1 0\n", 0)?;
     let t = wrong(
+        rt,
         t,
         b"p cnf 2 1000000000000000000000000000000000000001\n1 0\n3 0\n",
         53,
-    );
-    let t = wrong(t, b"p cnf 2 1\n1 0\n2 0\n3 0\n", 18);
-    let t = wrong(t, b"", 0);
-    let t = wrong(t, b"c", 1);
-    let t = wrong(t, b"c\n", 2);
-    let t = wrong(t, b"c\nc x", 5);
-    wrong(t, b"c\nc x\n", 6)
+    )?;
+    let t = wrong(rt, t, b"p cnf 2 1\n1 0\n2 0\n3 0\n", 18)?;
+    let t = wrong(rt, t, b"", 0)?;
+    let t = wrong(rt, t, b"c", 1)?;
+    let t = wrong(rt, t, b"c\n", 2)?;
+    let t = wrong(rt, t, b"c\nc x", 5)?;
+    wrong(rt, t, b"c\nc x\n", 6)
 }
 
 // 2 where a slice is too short, never before 17; slices that just hold the file are enough.
-fn shorts(t: Score) -> Score {
+fn shorts(rt: &impl Print, t: Score) -> io::Result<Score> {
     let none = [0u32; 0];
     let nowhere = [0u64; 0];
     let two = b"p cnf 3 2\n1 -2 0\n3 0\n";
     let codes = [0u32, 3, 4];
     let ends = [2u64, 3];
     let answer = CnfRead::Filled(3, 3, 2);
-    let t = told(t, gives(two, 3, 2, answer, &codes, &ends));
-    let t = told(t, gives(two, 2, 2, CnfRead::Short, &none, &nowhere));
-    let t = told(t, gives(two, 3, 1, CnfRead::Short, &none, &nowhere));
-    let t = told(t, gives(two, 0, 0, CnfRead::Short, &none, &nowhere));
+    let t = told(rt, t, gives(two, 3, 2, answer, &codes, &ends))?;
+    let t = told(rt, t, gives(two, 2, 2, CnfRead::Short, &none, &nowhere))?;
+    let t = told(rt, t, gives(two, 3, 1, CnfRead::Short, &none, &nowhere))?;
+    let t = told(rt, t, gives(two, 0, 0, CnfRead::Short, &none, &nowhere))?;
     let bad = b"p cnf 3 2\n1 -2 0\n4 0\n";
-    let t = told(t, gives(bad, 0, 0, CnfRead::Wrong(17), &none, &nowhere));
+    let t = told(rt, t, gives(bad, 0, 0, CnfRead::Wrong(17), &none, &nowhere))?;
     let empty = CnfRead::Filled(9, 0, 0);
-    told(t, gives(b"p cnf 9 0\n", 0, 0, empty, &none, &nowhere))
+    told(rt, t, gives(b"p cnf 9 0\n", 0, 0, empty, &none, &nowhere))
 }
 
 // 3 for an index of 4,096 or more and for ends that fall, pass the last literal or leave it out; then 2. Nothing is written.
-fn refused(t: Score) -> Score {
+fn refused(rt: &impl Print, t: Score) -> io::Result<Score> {
     let none = [0u32; 0];
     let nowhere = [0u64; 0];
     let three = [0u32, 3, 4];
-    let t = unwritten(t, &[8192u32], &[1u64], 128, 3);
-    let t = unwritten(t, &[0u32, 4294967295], &[2u64], 128, 3);
-    let t = unwritten(t, &three, &[2u64, 1, 3], 128, 3);
-    let t = unwritten(t, &three, &[2u64, 4], 128, 3);
-    let t = unwritten(t, &three, &[4u64, 3], 128, 3);
-    let t = unwritten(t, &three, &[1u64, 2], 128, 3);
-    let t = unwritten(t, &three, &[18446744073709551615u64], 128, 3);
-    let t = unwritten(t, &three, &nowhere, 128, 3);
-    let t = unwritten(t, &none, &[1u64], 128, 3);
-    let t = unwritten(t, &three, &[2u64, 3], 20, 2);
-    let t = unwritten(t, &none, &nowhere, 9, 2);
-    let t = unwritten(t, &none, &nowhere, 0, 2);
-    unwritten(t, &[8192u32], &[1u64], 0, 3)
+    let t = unwritten(rt, t, &[8192u32], &[1u64], 128, 3)?;
+    let t = unwritten(rt, t, &[0u32, 4294967295], &[2u64], 128, 3)?;
+    let t = unwritten(rt, t, &three, &[2u64, 1, 3], 128, 3)?;
+    let t = unwritten(rt, t, &three, &[2u64, 4], 128, 3)?;
+    let t = unwritten(rt, t, &three, &[4u64, 3], 128, 3)?;
+    let t = unwritten(rt, t, &three, &[1u64, 2], 128, 3)?;
+    let t = unwritten(rt, t, &three, &[18446744073709551615u64], 128, 3)?;
+    let t = unwritten(rt, t, &three, &nowhere, 128, 3)?;
+    let t = unwritten(rt, t, &none, &[1u64], 128, 3)?;
+    let t = unwritten(rt, t, &three, &[2u64, 3], 20, 2)?;
+    let t = unwritten(rt, t, &none, &nowhere, 9, 2)?;
+    let t = unwritten(rt, t, &none, &nowhere, 0, 2)?;
+    unwritten(rt, t, &[8192u32], &[1u64], 0, 3)
 }
 
 // The first e bytes read.
@@ -458,14 +509,12 @@ fn code(c: u32) -> bool {
 }
 
 // Every literal code.
-fn codes(t: Score) -> Score {
+fn codes(rt: &impl Print, t: Score) -> io::Result<Score> {
     let mut s = t;
-    let mut c: u32 = 0;
-    while c < 8192 {
-        s = told(s, code(c));
-        c += 1;
+    for c in 0..8192 {
+        s = told(rt, s, code(c))?;
     }
-    s
+    Ok(s)
 }
 
 // The first e bytes: whether they are a file of n empty clauses.
@@ -491,34 +540,57 @@ fn empty(zeros: &[u64]) -> bool {
 }
 
 // A count of each number of digits up to four.
-fn empties(t: Score) -> Score {
+fn empties(rt: &impl Print, t: Score) -> io::Result<Score> {
     let zeros = [0u64; 1000];
-    let t = told(t, empty(&zeros[..0]));
-    let t = told(t, empty(&zeros[..9]));
-    let t = told(t, empty(&zeros[..10]));
-    let t = told(t, empty(&zeros[..99]));
-    let t = told(t, empty(&zeros[..100]));
-    let t = told(t, empty(&zeros[..101]));
-    let t = told(t, empty(&zeros[..999]));
-    told(t, empty(&zeros))
+    let t = told(rt, t, empty(&zeros[..0]))?;
+    let t = told(rt, t, empty(&zeros[..9]))?;
+    let t = told(rt, t, empty(&zeros[..10]))?;
+    let t = told(rt, t, empty(&zeros[..99]))?;
+    let t = told(rt, t, empty(&zeros[..100]))?;
+    let t = told(rt, t, empty(&zeros[..101]))?;
+    let t = told(rt, t, empty(&zeros[..999]))?;
+    told(rt, t, empty(&zeros))
 }
 
 fn none() -> Score {
     Score { run: 0, wrong: 0 }
 }
 
-fn main() {
-    summary(
-        b"published",
-        satlib(four_variables(aligned(challenge(competition(none()))))),
-    );
-    summary(b"both ways", plain(small(none())));
-    summary(b"comments", comments(none()));
-    summary(b"headers", openings(headers(none())));
-    summary(b"lines", lines(numbers(none())));
-    summary(b"counts", counts(none()));
-    summary(b"short", shorts(none()));
-    summary(b"unwritten", refused(none()));
-    summary(b"every code", codes(none()));
-    summary(b"empty clauses", empties(none()));
+fn published(rt: &impl Print) -> io::Result<()> {
+    let t = competition(rt, none())?;
+    let t = challenge(rt, t)?;
+    let t = aligned(rt, t)?;
+    let t = four_variables(rt, t)?;
+    let t = satlib(rt, t)?;
+    summary(rt, "published", t)
+}
+
+fn forms(rt: &impl Print) -> io::Result<()> {
+    let t = small(rt, none())?;
+    let t = plain(rt, t)?;
+    summary(rt, "both ways", t)?;
+    let t = comments(rt, none())?;
+    summary(rt, "comments", t)?;
+    let t = headers(rt, none())?;
+    let t = openings(rt, t)?;
+    summary(rt, "headers", t)?;
+    let t = numbers(rt, none())?;
+    let t = lines(rt, t)?;
+    summary(rt, "lines", t)?;
+    let t = counts(rt, none())?;
+    summary(rt, "counts", t)
+}
+
+// A write that fails ends the run.
+fn main(rt: HostRuntime) -> io::Result<()> {
+    published(&rt)?;
+    forms(&rt)?;
+    let t = shorts(&rt, none())?;
+    summary(&rt, "short", t)?;
+    let t = refused(&rt, none())?;
+    summary(&rt, "unwritten", t)?;
+    let t = codes(&rt, none())?;
+    summary(&rt, "every code", t)?;
+    let t = empties(&rt, none())?;
+    summary(&rt, "empty clauses", t)
 }

@@ -5,6 +5,7 @@ use granting::{Granted, solver_from_global};
 use marks::{Changed, assign_lit, mark};
 use removal::{Removed, remove_solver_var, sweep};
 use scope::{Counts, Global, Mark, Solver};
+use std::io;
 
 // Calls about solver indices.
 #[derive(Clone, Copy)]
@@ -16,73 +17,74 @@ pub enum Holding {
     Sweep,
 }
 
-fn assigned(lit: u32) {
+fn assigned(rt: &impl Print, lit: u32) -> io::Result<()> {
     let one = [lit; 1];
-    telling::text(b"assign");
-    telling::lits(Sort::SolverLit, &one);
-    telling::text(b": ");
+    telling::text(rt, "assign")?;
+    telling::lits(rt, Sort::SolverLit, &one)?;
+    telling::text(rt, ": ")
 }
 
 // What is asked.
-fn asked(call: Holding) {
+fn asked(rt: &impl Print, call: Holding) -> io::Result<()> {
     match call {
         Holding::Grant(global) => {
-            telling::index(b"grant global g", global.0);
-            telling::text(b": ")
+            telling::index(rt, "grant global g", global.0)?;
+            telling::text(rt, ": ")
         }
         Holding::Mark(m, solver) => {
-            telling::index(b"mark solver s", solver.0);
-            telling::mark(m)
+            telling::index(rt, "mark solver s", solver.0)?;
+            telling::mark(rt, m)
         }
-        Holding::Assign(lit) => assigned(lit),
+        Holding::Assign(lit) => assigned(rt, lit),
         Holding::Remove(solver) => {
-            telling::index(b"remove solver s", solver.0);
-            telling::text(b": ")
+            telling::index(rt, "remove solver s", solver.0)?;
+            telling::text(rt, ": ")
         }
-        Holding::Sweep => telling::text(b"sweep: "),
+        Holding::Sweep => telling::text(rt, "sweep: "),
     }
 }
 
-fn granted(r: Granted, c: Counts, notes: &[u32; 48]) -> Counts {
+fn granted(rt: &impl Print, r: Granted, c: Counts, notes: &[u32; 48]) -> io::Result<Counts> {
     match r {
         Granted::Done(solver, counts, n) => {
-            telling::index(b"solver s", solver.0);
-            telling::notes(notes, n);
-            counts
+            telling::index(rt, "solver s", solver.0)?;
+            telling::notes(rt, notes, n)?;
+            Ok(counts)
         }
         Granted::Refused(n) => {
-            telling::refused(n);
-            c
+            telling::refused(rt, n)?;
+            Ok(c)
         }
     }
 }
 
 // The answer of Remove and of Sweep.
-fn removed(r: Removed, c: Counts, notes: &[u32; 48]) -> Counts {
+fn removed(rt: &impl Print, r: Removed, c: Counts, notes: &[u32; 48]) -> io::Result<Counts> {
     match r {
         Removed::Done(counts, n) => {
-            telling::text(b"ok");
-            telling::notes(notes, n);
-            counts
+            telling::text(rt, "ok")?;
+            telling::notes(rt, notes, n)?;
+            Ok(counts)
         }
         Removed::Refused(n) => {
-            telling::refused(n);
-            c
+            telling::refused(rt, n)?;
+            Ok(c)
         }
     }
 }
 
 // The answer of the marks and of Assign, which change no count.
-fn changed(r: Changed, c: Counts) -> Counts {
+fn changed(rt: &impl Print, r: Changed, c: Counts) -> io::Result<Counts> {
     match r {
-        Changed::Done => telling::text(b"ok\n"),
-        Changed::Refused(n) => telling::refused(n),
+        Changed::Done => telling::text(rt, "ok\n")?,
+        Changed::Refused(n) => telling::refused(rt, n)?,
     }
-    c
+    Ok(c)
 }
 
 // The call, whichever it is.
 pub fn hold(
+    rt: &impl Print,
     c: Counts,
     gu: &[u32],
     ug: &[u32],
@@ -91,26 +93,31 @@ pub fn hold(
     assignment: &mut [u32],
     records: &mut [u32],
     call: Holding,
-) -> Counts {
-    asked(call);
+) -> io::Result<Counts> {
+    asked(rt, call)?;
     let mut notes = [0u32; 48];
     match call {
         Holding::Grant(global) => {
             let r = solver_from_global(c, gu, ug, sg, gs, assignment, records, global, &mut notes);
-            granted(r, c, &notes)
+            granted(rt, r, c, &notes)
         }
         Holding::Mark(m, solver) => changed(
+            rt,
             mark(c, gu, ug, sg, gs, assignment, records, m, solver),
             c,
         ),
-        Holding::Assign(lit) => changed(assign_lit(c, gu, ug, sg, gs, assignment, records, lit), c),
+        Holding::Assign(lit) => changed(
+            rt,
+            assign_lit(c, gu, ug, sg, gs, assignment, records, lit),
+            c,
+        ),
         Holding::Remove(solver) => {
             let r = remove_solver_var(c, gu, ug, sg, gs, assignment, records, solver, &mut notes);
-            removed(r, c, &notes)
+            removed(rt, r, c, &notes)
         }
         Holding::Sweep => {
             let r = sweep(c, gu, ug, sg, gs, assignment, records, &mut notes);
-            removed(r, c, &notes)
+            removed(rt, r, c, &notes)
         }
     }
 }

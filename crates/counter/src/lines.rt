@@ -4,6 +4,7 @@ use crate::telling::Sort;
 use drat::Format;
 use scope::{Counts, DeleteClauseProof, ProofStep};
 use simplify::{Reduced, simplify_clause};
+use std::io;
 use steps::rename::{Renamed, rename_step};
 use steps::write::{Recorded, write_step};
 
@@ -17,63 +18,64 @@ pub enum Writing {
 }
 
 // What is asked.
-fn asked(call: Writing, lits: &[u32]) {
+fn asked(rt: &impl Print, call: Writing, lits: &[u32]) -> io::Result<()> {
     match call {
-        Writing::Add => telling::text(b"write an add of solver literals"),
-        Writing::Delete => telling::text(b"write a delete of solver literals"),
-        Writing::Rename => telling::text(b"rename"),
-        Writing::Simplify => telling::text(b"simplify"),
+        Writing::Add => telling::text(rt, "write an add of solver literals")?,
+        Writing::Delete => telling::text(rt, "write a delete of solver literals")?,
+        Writing::Rename => telling::text(rt, "rename")?,
+        Writing::Simplify => telling::text(rt, "simplify")?,
     }
-    telling::lits(Sort::SolverLit, lits);
-    telling::text(b":");
+    telling::lits(rt, Sort::SolverLit, lits)?;
+    telling::text(rt, ":")
 }
 
-fn recorded(r: Recorded, out: &[u8]) -> usize {
-    telling::text(b" ");
+fn recorded(rt: &impl Print, r: Recorded, out: &[u8]) -> io::Result<usize> {
+    telling::text(rt, " ")?;
     match r {
         Recorded::Done(n) => {
-            telling::quoted(out, n);
-            n
+            telling::quoted(rt, out, n)?;
+            Ok(n)
         }
         Recorded::Refused(n) => {
-            telling::refused(n);
-            0
+            telling::refused(rt, n)?;
+            Ok(0)
         }
     }
 }
 
-fn renamed(r: Renamed, out: &[u32; 3]) {
+fn renamed(rt: &impl Print, r: Renamed, out: &[u32; 3]) -> io::Result<()> {
     match r {
         Renamed::Done(k, _, _) => {
-            telling::words(Sort::GlobalLit, out, 0, k);
-            telling::text(b"\n")
+            telling::words(rt, Sort::GlobalLit, out, 0, k)?;
+            telling::text(rt, "\n")
         }
         Renamed::Refused(n) => {
-            telling::text(b" ");
-            telling::refused(n)
+            telling::text(rt, " ")?;
+            telling::refused(rt, n)
         }
     }
 }
 
-fn reduced(r: Reduced, out: &[u32; 3], bytes: &[u8]) -> usize {
-    telling::text(b" ");
+fn reduced(rt: &impl Print, r: Reduced, out: &[u32; 3], bytes: &[u8]) -> io::Result<usize> {
+    telling::text(rt, " ")?;
     match r {
         Reduced::Done(what, k, _, n) => {
-            telling::simplified(what);
-            telling::words(Sort::SolverLit, out, 0, k);
-            telling::text(b"; ");
-            telling::quoted(bytes, n);
-            n
+            telling::simplified(rt, what)?;
+            telling::words(rt, Sort::SolverLit, out, 0, k)?;
+            telling::text(rt, "; ")?;
+            telling::quoted(rt, bytes, n)?;
+            Ok(n)
         }
         Reduced::Refused(n) => {
-            telling::refused(n);
-            0
+            telling::refused(rt, n)?;
+            Ok(0)
         }
     }
 }
 
 // Write.
 fn write(
+    rt: &impl Print,
     c: Counts,
     gu: &[u32],
     ug: &[u32],
@@ -84,7 +86,7 @@ fn write(
     step: ProofStep,
     lits: &[u32],
     out: &mut [u8],
-) -> usize {
+) -> io::Result<usize> {
     let hashes = [0u64; 1];
     let r = write_step(
         c,
@@ -101,11 +103,12 @@ fn write(
         &hashes,
         out,
     );
-    recorded(r, out)
+    recorded(rt, r, out)
 }
 
 // Rename.
 fn rename(
+    rt: &impl Print,
     c: Counts,
     gu: &[u32],
     ug: &[u32],
@@ -114,7 +117,7 @@ fn rename(
     assignment: &[u32],
     records: &[u32],
     lits: &[u32],
-) {
+) -> io::Result<()> {
     let hashes = [0u64; 1];
     let mut out = [0u32; 3];
     let mut hashout = [0u64; 1];
@@ -134,11 +137,12 @@ fn rename(
         &mut out,
         &mut hashout,
     );
-    renamed(r, &out)
+    renamed(rt, r, &out)
 }
 
 // Simplify.
 fn shorten(
+    rt: &impl Print,
     c: Counts,
     gu: &[u32],
     ug: &[u32],
@@ -148,7 +152,7 @@ fn shorten(
     records: &[u32],
     lits: &[u32],
     bytes: &mut [u8],
-) -> usize {
+) -> io::Result<usize> {
     let mut out = [0u32; 3];
     let r = simplify_clause(
         c,
@@ -164,11 +168,12 @@ fn shorten(
         &mut out,
         bytes,
     );
-    reduced(r, &out, bytes)
+    reduced(rt, r, &out, bytes)
 }
 
 // The call, whichever it is, with its literals.
 pub fn write_call(
+    rt: &impl Print,
     c: Counts,
     gu: &[u32],
     ug: &[u32],
@@ -179,21 +184,21 @@ pub fn write_call(
     call: Writing,
     lits: &[u32],
     out: &mut [u8],
-) -> usize {
-    asked(call, lits);
+) -> io::Result<usize> {
+    asked(rt, call, lits)?;
     match call {
         Writing::Add => {
             let step = ProofStep::AtClause(false);
-            write(c, gu, ug, sg, gs, assignment, records, step, lits, out)
+            write(rt, c, gu, ug, sg, gs, assignment, records, step, lits, out)
         }
         Writing::Delete => {
             let step = ProofStep::DeleteClause(DeleteClauseProof::Redundant);
-            write(c, gu, ug, sg, gs, assignment, records, step, lits, out)
+            write(rt, c, gu, ug, sg, gs, assignment, records, step, lits, out)
         }
         Writing::Rename => {
-            rename(c, gu, ug, sg, gs, assignment, records, lits);
-            0
+            rename(rt, c, gu, ug, sg, gs, assignment, records, lits)?;
+            Ok(0)
         }
-        Writing::Simplify => shorten(c, gu, ug, sg, gs, assignment, records, lits, out),
+        Writing::Simplify => shorten(rt, c, gu, ug, sg, gs, assignment, records, lits, out),
     }
 }

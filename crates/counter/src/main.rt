@@ -17,7 +17,7 @@ use names::name;
 use posing::{PosedLits, solver_from_user_lits};
 use scope::{Counts, User};
 use script::{Call, Clause, call_at};
-use std::num::wrapping_add_usize;
+use std::io;
 use telling::Sort;
 use var_map::{GotGlobal, Opened, get_global_from_user, open_table};
 
@@ -56,41 +56,49 @@ fn filled(bytes: &[u8], n: usize) -> &[u8] {
     &bytes[..n]
 }
 
-fn opened(r: Opened, capacity: u32) -> Counts {
-    telling::index(b"open, capacity ", capacity);
-    telling::text(b": ");
+fn opened(rt: &impl Print, r: Opened, capacity: u32) -> io::Result<Counts> {
+    telling::index(rt, "open, capacity ", capacity)?;
+    telling::text(rt, ": ")?;
     match r {
         Opened::Done(counts) => {
-            telling::text(b"ok\n");
-            counts
+            telling::text(rt, "ok\n")?;
+            Ok(counts)
         }
         Opened::Refused(n) => {
-            telling::refused(n);
-            nothing()
+            telling::refused(rt, n)?;
+            Ok(nothing())
         }
     }
 }
 
-fn posed(r: PosedLits, c: Counts, lits: &[u32], out: &[u32; 3], notes: &[u32; 48]) -> Counts {
-    telling::text(b"pose");
-    telling::lits(Sort::UserLit, lits);
-    telling::text(b": ");
+fn posed(
+    rt: &impl Print,
+    r: PosedLits,
+    c: Counts,
+    lits: &[u32],
+    out: &[u32; 3],
+    notes: &[u32; 48],
+) -> io::Result<Counts> {
+    telling::text(rt, "pose")?;
+    telling::lits(rt, Sort::UserLit, lits)?;
+    telling::text(rt, ": ")?;
     match r {
         PosedLits::Done(k, counts, n) => {
-            telling::text(b"solver literals");
-            telling::words(Sort::SolverLit, out, 0, k as usize);
-            telling::notes(notes, n);
-            counts
+            telling::text(rt, "solver literals")?;
+            telling::words(rt, Sort::SolverLit, out, 0, k as usize)?;
+            telling::notes(rt, notes, n)?;
+            Ok(counts)
         }
         PosedLits::Refused(n) => {
-            telling::refused(n);
-            c
+            telling::refused(rt, n)?;
+            Ok(c)
         }
     }
 }
 
 // Pose.
 fn pose(
+    rt: &impl Print,
     c: Counts,
     gu: &mut [u32],
     ug: &mut [u32],
@@ -99,7 +107,7 @@ fn pose(
     assignment: &mut [u32],
     records: &mut [u32],
     k: Clause,
-) -> Counts {
+) -> io::Result<Counts> {
     let buf = [k.a, k.b, k.c];
     let lits = front(&buf, k.len);
     let mut out = [0u32; 3];
@@ -107,11 +115,12 @@ fn pose(
     let r = solver_from_user_lits(
         c, gu, ug, sg, gs, assignment, records, lits, false, &mut out, &mut notes,
     );
-    posed(r, c, lits, &out, &notes)
+    posed(rt, r, c, lits, &out, &notes)
 }
 
 // A call that may change the table.
 fn change(
+    rt: &impl Print,
     c: Counts,
     gu: &mut [u32],
     ug: &mut [u32],
@@ -120,22 +129,24 @@ fn change(
     assignment: &mut [u32],
     records: &mut [u32],
     call: Call,
-) -> Counts {
+) -> io::Result<Counts> {
     match call {
         Call::Open(capacity) => opened(
+            rt,
             open_table(capacity, gu, ug, sg, gs, assignment, records),
             capacity,
         ),
-        Call::Name(e) => name(c, gu, ug, sg, gs, assignment, records, e),
-        Call::Hold(e) => hold(c, gu, ug, sg, gs, assignment, records, e),
-        Call::Pose(k) => pose(c, gu, ug, sg, gs, assignment, records, k),
-        Call::Write(_, _) => c,
-        Call::Ask(_) => c,
+        Call::Name(e) => name(rt, c, gu, ug, sg, gs, assignment, records, e),
+        Call::Hold(e) => hold(rt, c, gu, ug, sg, gs, assignment, records, e),
+        Call::Pose(k) => pose(rt, c, gu, ug, sg, gs, assignment, records, k),
+        Call::Write(_, _) => Ok(c),
+        Call::Ask(_) => Ok(c),
     }
 }
 
 // Lookup, by user.
 fn ask(
+    rt: &impl Print,
     c: Counts,
     gu: &[u32],
     ug: &[u32],
@@ -144,22 +155,23 @@ fn ask(
     assignment: &[u32],
     records: &[u32],
     user: User,
-) {
-    telling::index(b"look up user u", user.0);
-    telling::text(b": ");
+) -> io::Result<()> {
+    telling::index(rt, "look up user u", user.0)?;
+    telling::text(rt, ": ")?;
     let r = get_global_from_user(c, gu, ug, sg, gs, assignment, records, user);
     match r {
         GotGlobal::At(global) => {
-            telling::index(b"global g", global.0);
-            telling::text(b"\n");
+            telling::index(rt, "global g", global.0)?;
+            telling::text(rt, "\n")
         }
-        GotGlobal::Nothing => telling::text(b"none\n"),
-        GotGlobal::Refused(n) => telling::refused(n),
+        GotGlobal::Nothing => telling::text(rt, "none\n"),
+        GotGlobal::Refused(n) => telling::refused(rt, n),
     }
 }
 
 // A call about steps, its bytes from the end of the proof on.
 fn write_at(
+    rt: &impl Print,
     c: Counts,
     gu: &[u32],
     ug: &[u32],
@@ -171,13 +183,14 @@ fn write_at(
     k: Clause,
     proof: &mut [u8],
     end: usize,
-) -> usize {
+) -> io::Result<usize> {
     let buf = [k.a, k.b, k.c];
     let n = k.len;
     if proof.len() < end {
-        return 0;
+        return Ok(0);
     }
     write_call(
+        rt,
         c,
         gu,
         ug,
@@ -193,6 +206,7 @@ fn write_at(
 
 // A call that changes no table: where the proof then ends.
 fn show(
+    rt: &impl Print,
     c: Counts,
     gu: &[u32],
     ug: &[u32],
@@ -203,25 +217,26 @@ fn show(
     proof: &mut [u8],
     end: usize,
     call: Call,
-) -> usize {
+) -> io::Result<usize> {
     match call {
-        Call::Open(_) => 0,
-        Call::Name(_) => end,
-        Call::Hold(_) => end,
-        Call::Pose(_) => end,
+        Call::Open(_) => Ok(0),
+        Call::Name(_) => Ok(end),
+        Call::Hold(_) => Ok(end),
+        Call::Pose(_) => Ok(end),
         Call::Write(e, k) => {
-            let n = write_at(c, gu, ug, sg, gs, assignment, records, e, k, proof, end);
-            wrapping_add_usize(end, n)
+            let n = write_at(rt, c, gu, ug, sg, gs, assignment, records, e, k, proof, end)?;
+            Ok(end.wrapping_add(n))
         }
         Call::Ask(user) => {
-            ask(c, gu, ug, sg, gs, assignment, records, user);
-            end
+            ask(rt, c, gu, ug, sg, gs, assignment, records, user)?;
+            Ok(end)
         }
     }
 }
 
 // The calls from a to b, the first of them Open.
 fn play(
+    rt: &impl Print,
     gu: &mut [u32],
     ug: &mut [u32],
     sg: &mut [u32],
@@ -231,56 +246,57 @@ fn play(
     proof: &mut [u8],
     a: u32,
     b: u32,
-) -> Day {
+) -> io::Result<Day> {
     let mut c = nothing();
     let mut end: usize = 0;
-    let mut n = a;
-    while n < b {
+    for n in a..b {
         let call = call_at(n);
-        c = change(c, gu, ug, sg, gs, assignment, records, call);
-        end = show(c, gu, ug, sg, gs, assignment, records, proof, end, call);
-        telling::fill(c);
-        n += 1;
+        c = change(rt, c, gu, ug, sg, gs, assignment, records, call)?;
+        end = show(rt, c, gu, ug, sg, gs, assignment, records, proof, end, call)?;
+        telling::fill(rt, c)?;
     }
-    Day { counts: c, end }
+    Ok(Day { counts: c, end })
 }
 
 // The steps of a proof that was read.
-fn steps(codes: &[u32; 64], ends: &[u64; 16], kinds: &[u8; 16], n: usize) {
+fn steps(
+    rt: &impl Print,
+    codes: &[u32; 64],
+    ends: &[u64; 16],
+    kinds: &[u8; 16],
+    n: usize,
+) -> io::Result<()> {
     let mut a: usize = 0;
-    let mut i: usize = 0;
-    while i < 16 {
-        if n <= i {
-            return;
-        }
+    for i in 0..n.min(16) {
         if kinds[i] == 0 {
-            telling::text(b"  add");
+            telling::text(rt, "  add")?;
         } else {
-            telling::text(b"  delete");
+            telling::text(rt, "  delete")?;
         }
         let e = ends[i] as usize;
-        telling::words(Sort::GlobalLit, codes, a, e);
-        telling::text(b"\n");
+        telling::words(rt, Sort::GlobalLit, codes, a, e)?;
+        telling::text(rt, "\n")?;
         a = e;
-        i += 1;
     }
+    Ok(())
 }
 
 // Read.
-fn read_back(bytes: &[u8]) {
+fn read_back(rt: &impl Print, bytes: &[u8]) -> io::Result<()> {
     let mut codes = [0u32; 64];
     let mut ends = [0u64; 16];
     let mut kinds = [0u8; 16];
     let r = read_proof(Format::Text, bytes, &mut codes, &mut ends, &mut kinds);
     match r {
-        Read::Filled(_, n) => steps(&codes, &ends, &kinds, n),
-        Read::Broken(_) => telling::refused(13),
-        Read::Short => telling::refused(2),
+        Read::Filled(_, n) => steps(rt, &codes, &ends, &kinds, n),
+        Read::Broken(_) => telling::refused(rt, 13),
+        Read::Short => telling::refused(rt, 2),
     }
 }
 
 // Model.
 fn print_model(
+    rt: &impl Print,
     c: Counts,
     gu: &[u32],
     ug: &[u32],
@@ -288,7 +304,7 @@ fn print_model(
     gs: &[u32],
     assignment: &[u32],
     records: &[u32],
-) {
+) -> io::Result<()> {
     let mut globals = [0u32; 8];
     let mut users = [0u32; 8];
     let r = model::model(
@@ -304,18 +320,19 @@ fn print_model(
     );
     match r {
         Modelled::Done(n, k) => {
-            telling::text(b"values of the globals:");
-            telling::words(Sort::Value, &globals, 0, n as usize);
-            telling::text(b"\nmodel:");
-            telling::words(Sort::UserLit, &users, 0, k as usize);
-            telling::text(b"\n");
+            telling::text(rt, "values of the globals:")?;
+            telling::words(rt, Sort::Value, &globals, 0, n as usize)?;
+            telling::text(rt, "\nmodel:")?;
+            telling::words(rt, Sort::UserLit, &users, 0, k as usize)?;
+            telling::text(rt, "\n")
         }
-        Modelled::Refused(n) => telling::refused(n),
+        Modelled::Refused(n) => telling::refused(rt, n),
     }
 }
 
 // The proof, read back step by step, and the model.
 fn finish(
+    rt: &impl Print,
     d: Day,
     gu: &[u32],
     ug: &[u32],
@@ -324,14 +341,14 @@ fn finish(
     assignment: &[u32],
     records: &[u32],
     proof: &[u8],
-) {
-    telling::text(b"proof:\n");
-    read_back(filled(proof, d.end));
-    print_model(d.counts, gu, ug, sg, gs, assignment, records);
+) -> io::Result<()> {
+    telling::text(rt, "proof:\n")?;
+    read_back(rt, filled(proof, d.end))?;
+    print_model(rt, d.counts, gu, ug, sg, gs, assignment, records)
 }
 
 // The day, at capacity 8.
-fn whole_day() {
+fn whole_day(rt: &impl Print) -> io::Result<()> {
     let mut gu = [0u32; 8];
     let mut ug = [0u32; 8];
     let mut sg = [0u32; 8];
@@ -340,6 +357,7 @@ fn whole_day() {
     let mut records = [0u32; 8];
     let mut proof = [0u8; 256];
     let d = play(
+        rt,
         &mut gu,
         &mut ug,
         &mut sg,
@@ -349,12 +367,12 @@ fn whole_day() {
         &mut proof,
         0,
         40,
-    );
-    finish(d, &gu, &ug, &sg, &gs, &assignment, &records, &proof);
+    )?;
+    finish(rt, d, &gu, &ug, &sg, &gs, &assignment, &records, &proof)
 }
 
 // The short session, at capacity 2.
-fn small_box() {
+fn small_box(rt: &impl Print) -> io::Result<()> {
     let mut gu = [0u32; 2];
     let mut ug = [0u32; 2];
     let mut sg = [0u32; 2];
@@ -363,6 +381,7 @@ fn small_box() {
     let mut records = [0u32; 2];
     let mut proof = [0u8; 256];
     let d = play(
+        rt,
         &mut gu,
         &mut ug,
         &mut sg,
@@ -372,13 +391,14 @@ fn small_box() {
         &mut proof,
         40,
         44,
-    );
-    finish(d, &gu, &ug, &sg, &gs, &assignment, &records, &proof);
+    )?;
+    finish(rt, d, &gu, &ug, &sg, &gs, &assignment, &records, &proof)
 }
 
-fn main() {
-    telling::legend();
-    whole_day();
-    telling::text(b"\n");
-    small_box();
+// A write that fails ends the run.
+fn main(rt: HostRuntime) -> io::Result<()> {
+    telling::legend(&rt)?;
+    whole_day(&rt)?;
+    telling::text(&rt, "\n")?;
+    small_box(&rt)
 }

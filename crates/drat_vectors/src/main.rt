@@ -5,6 +5,8 @@
 ghost use Rattle.std.specs.Prelude.{◌≤◌, ◌<◌};
 
 use drat::{Format, Kind, Wrote};
+use std::alloc::{AllocError, Global};
+use std::io;
 
 fn one(b: bool) -> u32
     ensures { result ≤ 1 }
@@ -22,12 +24,8 @@ fn byte(s: &[u8], i: usize) -> u8 {
     if i < s.len() { s[i] } else { 0 }
 }
 
-fn line(name: &[u8], agree: u32, of: u32) {
-    io::write_all(1, name);
-    io::print_decimal(1, agree as u64);
-    io::write_all(1, b" of ");
-    io::print_decimal(1, of as u64);
-    io::write_all(1, b"\n");
+fn line(rt: &impl Print, name: &str, agree: u32, of: u32) -> io::Result<()> {
+    println!(rt; "{name}: {agree} of {of}")
 }
 
 // A number in LEB128 into six bytes of 170, by the function with which the writer writes a code: whether they are then as in the image.
@@ -44,7 +42,7 @@ fn leb(n: u32, image: &[u8]) -> u32
     }
     let mut out = [170u8; 6];
     drat_write::put_code(n, &mut out, 0);
-    one(check::same(&out, image))
+    one(out.as_slice() == image)
 }
 
 // The answer as a number: 2 and 3 for the refusals, 100 and the place if written.
@@ -62,7 +60,7 @@ fn step(f: Format, k: Kind, buf: &[u32], a: usize, b: usize, answer: usize, imag
 {
     let mut out = [170u8; 12];
     let w = drat_write::write_clause(f, k, buf, a, b, &mut out, 2);
-    one(check::same(&out, image) & (number(w) == answer))
+    one(out.as_slice() == image && number(w) == answer)
 }
 
 // A clause of one literal in text, from a place on of five bytes.
@@ -170,21 +168,12 @@ fn lacking() -> u32 {
         + fit(0, 6, 2)
 }
 
-// The bytes of one literal as an add, by other means: decimal digits from `io`, LEB128 by its value.
-fn text_is(c: u32, out: &[u8], e: usize) -> bool {
-    let mut digits = [0u8; 20];
-    let k = io::decimal((c / 2 + 1) as u64, &mut digits);
-    if 20 < k {
-        return false;
-    }
-    let s = (c % 2) as usize;
-    let p = s + k;
-    if out.len() < p {
-        return false;
-    }
-    let number = check::same(&out[s..p], &digits[..k]) & ((s == 0) | (byte(out, 0) == 45));
-    let end = (byte(out, p) == 32) & (byte(out, p + 1) == 48) & (byte(out, p + 2) == 10);
-    number & end & (byte(out, p + 3) == 170) & (e == p + 3)
+// The bytes of one literal as an add, by other means: text as std prints it, LEB128 by its value.
+fn text_is(alloc: Global, c: u32, out: &[u8], e: usize) -> Result<bool, AllocError> {
+    let sign = if c % 2 == 0 { "" } else { "-" };
+    let want = format!(in alloc; "{sign}{} 0\n", c / 2 + 1)?;
+    let n = want.len();
+    Ok(e == n && out.starts_with(want.as_bytes()) && byte(out, n) == 170)
 }
 
 fn binary_is(n: u32, out: &[u8], e: usize) -> bool {
@@ -197,14 +186,14 @@ fn binary_is(n: u32, out: &[u8], e: usize) -> bool {
     (value == n) & (0 < high) & (byte(out, 3) == 0) & (byte(out, 4) == 170) & (e == 4)
 }
 
-fn text_code(c: u32) -> bool {
+fn text_code(alloc: Global, c: u32) -> Result<bool, AllocError> {
     let mut out = [170u8; 16];
     let buf = [c; 1];
     let w = drat_write::write_clause(Format::Text, Kind::Add, &buf, 0, 1, &mut out, 0);
     let Wrote::Done(e) = w else {
-        return false;
+        return Ok(false);
     };
-    text_is(c, &out, e)
+    text_is(alloc, c, &out, e)
 }
 
 fn binary_code(c: u32) -> bool
@@ -220,33 +209,37 @@ fn binary_code(c: u32) -> bool
     (out[0] == 97) & binary_is(n, &out, e)
 }
 
-fn code(f: Format, c: u32) -> bool
+fn code(alloc: Global, f: Format, c: u32) -> Result<bool, AllocError>
     requires { c < 8192 }
 {
     match f {
-        Format::Text => text_code(c),
-        Format::Binary => binary_code(c),
+        Format::Text => text_code(alloc, c),
+        Format::Binary => Ok(binary_code(c)),
     }
 }
 
-fn codes(f: Format) -> u32 {
+fn codes(alloc: Global, f: Format) -> Result<u32, AllocError> {
     let mut n: u32 = 0;
-    let mut c: u32 = 0;
-    while c < 8192 {
-        n += one(code(f, c));
-        c += 1;
+    for c in 0..8192 {
+        n += one(code(alloc, f, c)?);
     }
-    n
+    Ok(n)
 }
 
-fn main() {
-    line(b"leb128: ", leb128(), 6);
-    line(b"drat-trim: ", drat_trim(), 4);
-    line(b"case 6: ", case6(), 2);
-    line(b"case 7: ", case7(), 2);
-    line(b"case 8: ", case8(), 4);
-    line(b"refusal 3: ", outside(), 5);
-    line(b"refusal 2: ", lacking(), 5);
-    line(b"codes in text: ", codes(Format::Text), 8192);
-    line(b"codes in binary: ", codes(Format::Binary), 8192);
+// A write that fails ends the run, as does memory that is lacking.
+fn main(rt: HostRuntime) -> io::Result<()> {
+    line(&rt, "leb128", leb128(), 6)?;
+    line(&rt, "drat-trim", drat_trim(), 4)?;
+    line(&rt, "case 6", case6(), 2)?;
+    line(&rt, "case 7", case7(), 2)?;
+    line(&rt, "case 8", case8(), 4)?;
+    line(&rt, "refusal 3", outside(), 5)?;
+    line(&rt, "refusal 2", lacking(), 5)?;
+    line(&rt, "codes in text", codes(rt.alloc(), Format::Text)?, 8192)?;
+    line(
+        &rt,
+        "codes in binary",
+        codes(rt.alloc(), Format::Binary)?,
+        8192,
+    )
 }

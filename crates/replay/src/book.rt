@@ -4,7 +4,6 @@ use crate::judge::counts_after;
 use crate::parts::{GIVES, arg, small, wide};
 use crate::shape::LOAD;
 use scope::Counts;
-use std::num::wrapping_add_u64;
 
 // How many words of each list are lent.
 #[derive(Clone, Copy)]
@@ -84,16 +83,14 @@ pub fn lengths_in(book: &[u64; 1056]) -> Lengths {
 
 // The twelve numbers of a line that loads a table.
 fn load(book: &mut [u64; 1056], line: &[u64; 16524]) {
-    let mut i: usize = 0;
-    while i < 12 {
+    for i in 0..12 {
         book[TABLE + i] = wide(arg(line, i));
-        i += 1;
     }
 }
 
 fn up(book: &mut [u64; 1056], i: usize) {
     if i < 1056 {
-        book[i] = wrapping_add_u64(book[i], 1);
+        book[i] = book[i].wrapping_add(1);
     }
 }
 

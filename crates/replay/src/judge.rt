@@ -77,27 +77,23 @@ fn set_one(expected: &mut [u32; 24600], list: u32, place: u32, word: u32) -> boo
 // The words that the line changes: list, place, word.
 pub fn set(line: &[u64; 16524], expected: &mut [u32; 24600]) -> u32 {
     let n = count(line, SET) / 3;
-    let mut i: usize = 0;
-    while i < n {
+    for i in 0..n {
         let list = small(line, SET, 3 * i);
         let place = small(line, SET, 3 * i + 1);
         let word = small(line, SET, 3 * i + 2);
         if !set_one(expected, list, place, word) {
             return SHAPE;
         }
-        i += 1;
     }
     0
 }
 
 // Which list of the library's differs from what is expected, or 0.
 pub fn lists(memory: &[u32; 24600], expected: &[u32; 24600]) -> u32 {
-    let mut i: usize = 0;
-    while i < 24600 {
+    for i in 0..24600 {
         if memory[i] != expected[i] {
             return LIST + list_of(i);
         }
-        i += 1;
     }
     0
 }
@@ -111,9 +107,7 @@ fn list_of(i: usize) -> u32
 // Memory before a table is loaded: 0, and 47 in the records.
 pub fn blank(expected: &mut [u32; 24600]) {
     *expected = [0u32; 24600];
-    let mut i: usize = 20500;
-    while i < 24600 {
+    for i in 20500..24600 {
         expected[i] = 47;
-        i += 1;
     }
 }

@@ -28,13 +28,15 @@ use parts::arg;
 use scan::{NONE, Scan};
 use scope::Counts;
 use shape::LOAD;
+use std::io;
+use std::io::Read;
 
 // The fault is told, and nothing more is read.
-fn stop(mut s: Scan, fault: u32, book: &[u64; 1056]) -> Scan {
-    say::fault(book::line_number(book), s.call, fault);
+fn stop(rt: &impl Print, mut s: Scan, fault: u32, book: &[u64; 1056]) -> io::Result<Scan> {
+    say::fault(rt, book::line_number(book), s.call, fault)?;
     s.fault = fault;
     s.over = true;
-    s
+    Ok(s)
 }
 
 // Calls that take a table, by the lists that they may change.
@@ -192,35 +194,37 @@ fn judged(
 
 // One byte more.
 fn take(
+    rt: &impl Print,
     s: Scan,
     b: u8,
     line: &mut [u64; 16524],
     memory: &mut [u32; 24600],
     expected: &mut [u32; 24600],
     book: &mut [u64; 1056],
-) -> Scan {
+) -> io::Result<Scan> {
     if s.over {
-        return s;
+        return Ok(s);
     }
     let t = scan::take(s, b, line);
     if t.fault != 0 {
-        return stop(t, t.fault, book);
+        return stop(rt, t, t.fault, book);
     }
     if !t.done {
-        return t;
+        return Ok(t);
     }
     let call = t.call;
     let fault = judged(line, memory, expected, book, call);
     if fault != 0 {
-        return stop(t, fault, book);
+        return stop(rt, t, fault, book);
     }
     book::enter(book, line, call);
     scan::clear(line);
-    scan::fresh()
+    Ok(scan::fresh())
 }
 
 // The first n bytes.
 fn feed(
+    rt: &impl Print,
     s: Scan,
     buf: &[u8; 4096],
     n: usize,
@@ -228,67 +232,64 @@ fn feed(
     memory: &mut [u32; 24600],
     expected: &mut [u32; 24600],
     book: &mut [u64; 1056],
-) -> Scan {
+) -> io::Result<Scan> {
     let mut t = s;
-    let mut i: usize = 0;
-    while i < 4096 {
-        if n <= i {
-            return t;
-        }
-        t = take(t, buf[i], line, memory, expected, book);
-        i += 1;
+    for b in buf.iter().take(n) {
+        t = take(rt, t, *b, line, memory, expected, book)?;
     }
-    t
+    Ok(t)
 }
 
-// What one read gives, or the end of the input.
+// What one read gives, or the end of the input. A read that fails ends the run.
 fn more(
+    rt: &impl Print,
+    input: &mut impl Read,
     s: Scan,
     line: &mut [u64; 16524],
     memory: &mut [u32; 24600],
     expected: &mut [u32; 24600],
     book: &mut [u64; 1056],
-) -> Scan {
+) -> io::Result<Scan> {
     let mut buf = [0u8; 4096];
-    let got = libc::read(0, &mut buf);
-    let n = io::count(got, &buf);
+    let n = input.read(&mut buf)?;
     if n == 0 {
-        return scan::ended(s);
+        return Ok(scan::ended(s));
     }
-    feed(s, &buf, n, line, memory, expected, book)
+    feed(rt, s, &buf, n, line, memory, expected, book)
 }
 
-// A proved loop has to end, and nothing says that the input does: the loop counts its turns down, from a number that no run uses up.
+// A proved loop has to end, and nothing says that the input does: the number of its turns is one that no run uses up.
 fn run(
+    rt: &(impl Input + Print),
     line: &mut [u64; 16524],
     memory: &mut [u32; 24600],
     expected: &mut [u32; 24600],
     book: &mut [u64; 1056],
-) -> Scan {
+) -> io::Result<Scan> {
+    let mut input = rt.reader();
     let mut s = scan::fresh();
-    let mut left = u64::MAX;
-    while left > 0 {
+    for _ in 0..u64::MAX {
         if s.over {
-            return s;
+            return Ok(s);
         }
-        s = more(s, line, memory, expected, book);
-        left -= 1;
+        s = more(rt, &mut input, s, line, memory, expected, book)?;
     }
-    s
+    Ok(s)
 }
 
-fn main() {
+// A write or a read that fails ends the run.
+fn main(rt: HostRuntime) -> io::Result<()> {
     let mut line = [0u64; 16524];
     let mut memory = [0u32; 24600];
     let mut expected = [0u32; 24600];
     let mut book = book::empty();
-    let s = run(&mut line, &mut memory, &mut expected, &mut book);
+    let s = run(&rt, &mut line, &mut memory, &mut expected, &mut book)?;
     if s.fault != 0 {
-        return;
+        return Ok(());
     }
     if (s.call != NONE) | (s.inside != 0) {
-        stop(s, CUT, &book);
-        return;
+        stop(&rt, s, CUT, &book)?;
+        return Ok(());
     }
-    say::all(&book);
+    say::all(&rt, &book)
 }

@@ -1,8 +1,6 @@
 // The six lists of a table lie in one: list k begins at 4,100 k.
 ghost use Rattle.std.specs.Prelude.{◌≡◌, ◌≤◌, length};
 
-use std::num::wrapping_add_usize;
-
 // A list has at most 4,100 words.
 pub fn at_most(n: usize) -> usize
     ensures { result ≤ 4100 }
@@ -22,10 +20,8 @@ pub fn list(memory: &[u32; 24600], from: usize) -> [u32; 4100]
     ensures { 4100 ≡ length result }
 {
     let mut out = [0u32; 4100];
-    let mut i: usize = 0;
-    while i < 4100 {
-        out[i] = word(memory, wrapping_add_usize(from, i));
-        i += 1;
+    for i in 0..4100 {
+        out[i] = word(memory, from.wrapping_add(i));
     }
     out
 }
@@ -38,9 +34,7 @@ fn set(memory: &mut [u32; 24600], i: usize, word: u32) {
 
 // The list back to its place.
 pub fn put(memory: &mut [u32; 24600], from: usize, list: &[u32; 4100]) {
-    let mut i: usize = 0;
-    while i < 4100 {
-        set(memory, wrapping_add_usize(from, i), list[i]);
-        i += 1;
+    for i in 0..4100 {
+        set(memory, from.wrapping_add(i), list[i]);
     }
 }

@@ -1,8 +1,6 @@
 // A line as it was read: the first 24 words say where its parts lie, part p from word 2p to word 2p + 1, and its numbers follow.
 ghost use Rattle.std.specs.Prelude.{◌≡◌, ◌≤◌, length};
 
-use std::num::wrapping_add_usize;
-
 pub const ARGS: u32 = 0;
 
 pub const LITS: u32 = 1;
@@ -68,7 +66,7 @@ pub fn word_or(line: &[u64; 16524], p: u32, i: usize, other: u64) -> u64 {
     if count(line, p) <= i {
         return other;
     }
-    let at = wrapping_add_usize(start(line, p), i);
+    let at = start(line, p).wrapping_add(i);
     if 16524 <= at {
         return other;
     }
@@ -110,10 +108,8 @@ pub fn copy32(line: &[u64; 16524], p: u32) -> [u32; 8200]
     ensures { 8200 ≡ length result }
 {
     let mut out = [0u32; 8200];
-    let mut i: usize = 0;
-    while i < 8200 {
+    for i in 0..8200 {
         out[i] = small(line, p, i);
-        i += 1;
     }
     out
 }
@@ -122,10 +118,8 @@ pub fn copy64(line: &[u64; 16524], p: u32) -> [u64; 8200]
     ensures { 8200 ≡ length result }
 {
     let mut out = [0u64; 8200];
-    let mut i: usize = 0;
-    while i < 8200 {
+    for i in 0..8200 {
         out[i] = word_or(line, p, i, 0);
-        i += 1;
     }
     out
 }
@@ -138,10 +132,8 @@ pub fn copy8(line: &[u64; 16524], p: u32) -> [u8; 8200]
     ensures { 8200 ≡ length result }
 {
     let mut out = [0u8; 8200];
-    let mut i: usize = 0;
-    while i < 8200 {
+    for i in 0..8200 {
         out[i] = low8(small(line, p, i));
-        i += 1;
     }
     out
 }
@@ -151,15 +143,13 @@ pub fn fill32(out: &[u32; 8200], n: usize, line: &[u64; 16524], p: u32) -> u32 {
     if n < count(line, p) {
         return p;
     }
-    let mut i: usize = 0;
-    while i < 8200 {
+    for i in 0..8200 {
         if n <= i {
             return 0;
         }
         if wide(out[i]) != word_or(line, p, i, wide(BLANK32)) {
             return p;
         }
-        i += 1;
     }
     0
 }
@@ -168,15 +158,13 @@ pub fn fill64(out: &[u64; 8200], n: usize, line: &[u64; 16524], p: u32) -> u32 {
     if n < count(line, p) {
         return p;
     }
-    let mut i: usize = 0;
-    while i < 8200 {
+    for i in 0..8200 {
         if n <= i {
             return 0;
         }
         if out[i] != word_or(line, p, i, BLANK64) {
             return p;
         }
-        i += 1;
     }
     0
 }
@@ -185,15 +173,13 @@ pub fn fill8(out: &[u8; 8200], n: usize, line: &[u64; 16524], p: u32) -> u32 {
     if n < count(line, p) {
         return p;
     }
-    let mut i: usize = 0;
-    while i < 8200 {
+    for i in 0..8200 {
         if n <= i {
             return 0;
         }
         if wide8(out[i]) != word_or(line, p, i, wide8(BLANK8)) {
             return p;
         }
-        i += 1;
     }
     0
 }

@@ -1,13 +1,14 @@
 // What is printed.
 use crate::book::{calls, tally};
 use crate::faults::{BYTE, LIST, REFUSAL};
+use std::io;
 
-fn text(s: &[u8]) {
-    io::write_all(1, s);
+fn text(rt: &impl Print, s: &str) -> io::Result<()> {
+    rt.print(s)
 }
 
-fn number(n: u64) {
-    io::print_decimal(1, n);
+fn number(rt: &impl Print, n: u64) -> io::Result<()> {
+    rt.print(n)
 }
 
 // The end of s[a..e] without the blanks at its end.
@@ -26,120 +27,118 @@ fn trimmed(s: &[u8], a: usize, e: usize) -> usize {
 }
 
 // s[a..e] without the blanks at its end: an entry of a table of texts.
-fn entry(s: &[u8], a: usize, e: usize) {
+fn entry(rt: &impl Print, s: &[u8], a: usize, e: usize) -> io::Result<()> {
     let to = trimmed(s, a, e);
     if to < a {
-        return;
+        return Ok(());
     }
     if s.len() < to {
-        return;
+        return Ok(());
     }
-    text(&s[a..to]);
+    rt.write_all(&s[a..to])
 }
 
-fn call(n: u32) {
+fn call(rt: &impl Print, n: u32) -> io::Result<()> {
     let a = 8 * n as usize;
     entry(
+        rt,
         b"lookup  map     newuser pose    grant   setmode observe mark    assign  remove  \
         sweep   simplifyrename  write   model   open    read    first   sound   binary  writecnfreadcnf load    ",
         a,
         a + 8,
-    );
+    )
 }
 
 // A part that differs.
-fn part(p: u32) {
+fn part(rt: &impl Print, p: u32) -> io::Result<()> {
     let a = 8 * p as usize;
     entry(
+        rt,
         b"args    lits    hashes  proof   room    gives   notes   words   more    bytes   counts  set     ",
         a,
         a + 8,
-    );
-    text(b" differ");
+    )?;
+    text(rt, " differ")
 }
 
 // What is wrong with a line that is not in the form.
-fn form(n: u32) {
+fn form(rt: &impl Print, n: u32) -> io::Result<()> {
     let a = 32 * n as usize;
     entry(
+        rt,
         b"a byte that has no place here   a number is too large           an unknown name, or a part twice\
         too many numbers                not what this call takes        the line is cut                 ",
         a,
         a + 32,
-    );
+    )
 }
 
 // A value of the answer, or a list of the table, that differs.
-fn numbered(name: &[u8], n: u32) {
-    text(name);
-    number(n as u64);
-    text(b" differs");
+fn numbered(rt: &impl Print, name: &str, n: u32) -> io::Result<()> {
+    text(rt, name)?;
+    number(rt, n as u64)?;
+    text(rt, " differs")
 }
 
-fn what(fault: u32) {
+fn what(rt: &impl Print, fault: u32) -> io::Result<()> {
     if fault < REFUSAL {
-        part(fault)
+        part(rt, fault)
     } else if fault == REFUSAL {
-        text(b"the refusal differs")
+        text(rt, "the refusal differs")
     } else if fault < LIST {
-        numbered(b"value ", fault - REFUSAL)
+        numbered(rt, "value ", fault - REFUSAL)
     } else if fault < BYTE {
-        numbered(b"list ", fault - LIST)
+        numbered(rt, "list ", fault - LIST)
     } else {
-        form(fault - BYTE)
+        form(rt, fault - BYTE)
     }
 }
 
 // One line: where, in which call, and what.
-pub fn fault(line: u64, n: u32, fault: u32) {
-    text(b"line ");
-    number(line);
-    text(b": ");
+pub fn fault(rt: &impl Print, line: u64, n: u32, fault: u32) -> io::Result<()> {
+    text(rt, "line ")?;
+    number(rt, line)?;
+    text(rt, ": ")?;
     if n < 23 {
-        call(n);
-        text(b": ");
+        call(rt, n)?;
+        text(rt, ": ")?;
     }
-    what(fault);
-    text(b"\n");
+    what(rt, fault)?;
+    text(rt, "\n")
 }
 
-fn cell(book: &[u64; 1056], n: u32, r: u32) {
+fn cell(rt: &impl Print, book: &[u64; 1056], n: u32, r: u32) -> io::Result<()> {
     let k = tally(book, n, r);
     if k == 0 {
-        return;
+        return Ok(());
     }
     if r == 0 {
-        text(b" ");
-        number(k);
-        text(b" accepted");
-        return;
+        text(rt, " ")?;
+        number(rt, k)?;
+        return text(rt, " accepted");
     }
-    text(b", ");
-    number(k);
-    text(b" refused with ");
-    number(r as u64);
+    text(rt, ", ")?;
+    number(rt, k)?;
+    text(rt, " refused with ")?;
+    number(rt, r as u64)
 }
 
 // How many calls of one kind were accepted, and how many were refused with each number.
-fn row(book: &[u64; 1056], n: u32) {
-    call(n);
-    text(b":");
-    let mut r: u32 = 0;
-    while r < 32 {
-        cell(book, n, r);
-        r += 1;
+fn row(rt: &impl Print, book: &[u64; 1056], n: u32) -> io::Result<()> {
+    call(rt, n)?;
+    text(rt, ":")?;
+    for r in 0..32 {
+        cell(rt, book, n, r)?;
     }
-    text(b"\n");
+    text(rt, "\n")
 }
 
-pub fn all(book: &[u64; 1056]) {
-    let mut n: u32 = 0;
-    while n < 22 {
-        row(book, n);
-        n += 1;
+pub fn all(rt: &impl Print, book: &[u64; 1056]) -> io::Result<()> {
+    for n in 0..22 {
+        row(rt, book, n)?;
     }
-    number(calls(book));
-    text(b" calls, ");
-    number(calls(book));
-    text(b" agree\n");
+    number(rt, calls(book))?;
+    text(rt, " calls, ")?;
+    number(rt, calls(book))?;
+    text(rt, " agree\n")
 }

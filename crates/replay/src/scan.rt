@@ -206,10 +206,8 @@ fn line_end(s: Scan, line: &mut [u64; 16524]) -> Scan {
 
 // Before the next line: it has no parts.
 pub fn clear(line: &mut [u64; 16524]) {
-    let mut i: usize = 0;
-    while i < 24 {
+    for i in 0..24 {
         line[i] = 0;
-        i += 1;
     }
 }
 

@@ -5,6 +5,7 @@
 ghost use Rattle.std.specs.Prelude.{◌≤◌, ◌<◌};
 
 use drat::{Format, Kind, Read, Wrote};
+use std::io;
 
 fn one(b: bool) -> u32
     ensures { result ≤ 1 }
@@ -12,12 +13,8 @@ fn one(b: bool) -> u32
     if b { 1 } else { 0 }
 }
 
-fn line(name: &[u8], agree: u32, of: u32) {
-    io::write_all(1, name);
-    io::print_decimal(1, agree as u64);
-    io::write_all(1, b" of ");
-    io::print_decimal(1, of as u64);
-    io::write_all(1, b"\n");
+fn line(rt: &impl Print, name: &str, agree: u32, of: u32) -> io::Result<()> {
+    println!(rt; "{name}: {agree} of {of}")
 }
 
 fn kind_number(k: Kind) -> u8 {
@@ -87,11 +84,9 @@ fn put_next(to: &mut [u8], at: usize, b: u8, k: u32) -> usize {
 fn rebroken(from: &[u8], seed: u32, to: &mut [u8]) -> usize {
     let mut n = put_gap(to, 0, seed);
     let mut k = seed;
-    let mut i: usize = 0;
-    while i < from.len() {
+    for b in from {
         k = 40503 * (k % 65536) / 16;
-        n = put_next(to, n, from[i], k);
-        i += 1;
+        n = put_next(to, n, *b, k);
     }
     n
 }
@@ -121,31 +116,32 @@ fn code(f: Format, k: Kind, c: u32, broken: bool) -> bool {
 
 fn codes(f: Format, k: Kind, broken: bool) -> u32 {
     let mut n: u32 = 0;
-    let mut c: u32 = 0;
-    while c < 8192 {
+    for c in 0..8192 {
         n += one(code(f, k, c, broken));
-        c += 1;
     }
     n
 }
 
-fn both(adds: &[u8], deletes: &[u8], f: Format, broken: bool) {
-    line(adds, codes(f, Kind::Add, broken), 8192);
-    line(deletes, codes(f, Kind::Delete, broken), 8192);
+fn both(rt: &impl Print, adds: &str, deletes: &str, f: Format, broken: bool) -> io::Result<()> {
+    line(rt, adds, codes(f, Kind::Add, broken), 8192)?;
+    line(rt, deletes, codes(f, Kind::Delete, broken), 8192)
 }
 
-fn main() {
-    both(b"adds in text: ", b"deletes in text: ", Format::Text, false);
+// A write that fails ends the run.
+fn main(rt: HostRuntime) -> io::Result<()> {
+    both(&rt, "adds in text", "deletes in text", Format::Text, false)?;
     both(
-        b"adds in broken text: ",
-        b"deletes in broken text: ",
+        &rt,
+        "adds in broken text",
+        "deletes in broken text",
         Format::Text,
         true,
-    );
+    )?;
     both(
-        b"adds in binary: ",
-        b"deletes in binary: ",
+        &rt,
+        "adds in binary",
+        "deletes in binary",
         Format::Binary,
         false,
-    );
+    )
 }
