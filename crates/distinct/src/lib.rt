@@ -80,7 +80,7 @@ fn raised(user: User, n: Needs) -> Needs
 }
 
 // What the literals need, in one pass with a mark for each user seen. A user that has a solver index needs nothing and is not marked.
-fn count_needs(mark: u32, gu: &[u32], sg: &[u32], lits: &[u32]) -> Needs
+pub fn count_needs(mark: u32, gu: &[u32], sg: &[u32], lits: &[u32]) -> Needs
     requires lits_len_bound { length lits.now ≤ 8192 }
     requires within { Within lits.now 4096 }
     ensures { result ≡ needs_by (count_named 4096) mark gu.now sg.now lits.now }
