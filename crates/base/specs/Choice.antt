@@ -1,5 +1,5 @@
 -- A choice by a test.
-use Rattle.std.specs.Prelude.{Bool, true, false, ℕ, zero, suc}
+use Rattle.std.specs.Prelude.{Bool, true, false}
 
 -- a if the test holds, else b
 abbrev pub pick {ℓ} : {A : Type ℓ} → Bool → A → A → A

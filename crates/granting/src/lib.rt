@@ -141,7 +141,7 @@ pub fn solver_from_global(
 ) -> Granted
     ensures { Meets (λ t room. grant_of t global.0 room) (granted result c)
         (lent c (constant gu.now) (constant ug.now) (change sg.old sg.new) (change gs.old gs.new)
-            (change assignment.old assignment.new) (constant records.now) (change notes.old notes.new)) }
+        (change assignment.old assignment.new) (constant records.now) (change notes.old notes.new)) }
 {
     if !is_sound(c, gu, ug, sg, gs, assignment, records) {
         return Granted::Refused(1);
@@ -165,7 +165,7 @@ pub fn known_solver_from_global(
     requires { soundb (given c gu.now ug.now sg.old gs.old assignment.old records.now) ≡ true }
     ensures { Meets (λ t room. grant_of t global.0 room) (granted result c)
         (lent c (constant gu.now) (constant ug.now) (change sg.old sg.new) (change gs.old gs.new)
-            (change assignment.old assignment.new) (constant records.now) (change notes.old notes.new)) }
+        (change assignment.old assignment.new) (constant records.now) (change notes.old notes.new)) }
 {
     let n = grant_refusal(c, gu, ug, sg, gs, assignment, records, global, notes.len());
     if n != 0 {

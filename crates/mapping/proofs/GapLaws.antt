@@ -13,7 +13,7 @@ use Rattle.scope.specs.declared.Global.{Global}
 use Rattle.scope.specs.Table.{Table, table_of, map_counts, give_user, cover_user, with_used}
 use Rattle.scope.specs.Sound.{soundb}
 use Rattle.scope.specs.Notes.{notes_words}
-use Rattle.scope.specs.Outcome.{Result, stay, ◌then◌, each}
+use Rattle.scope.specs.Outcome.{Result, stay, each}
 use Rattle.scope.specs.Map.{global_for, map_one, fill_gap, map_user}
 use Rattle.scope.proofs.SoundLaws.{sound_of, sound_to}
 use Rattle.scope.proofs.MapLaws.{Mappable, map_one_fresh, gap_step, Filled, GapRoom, fill_gap_filled, to_map_free, map_user_free, map_user_has, fill_gap_count}

@@ -46,7 +46,7 @@ pub fn mark(
 ) -> Changed
     ensures { Meets (λ t room. mark_of t mark solver.0) (changed result c)
         (quiet c (constant gu.now) (constant ug.now) (constant sg.now) (constant gs.now)
-            (constant assignment.now) (change records.old records.new)) }
+        (constant assignment.now) (change records.old records.new)) }
 {
     if !is_sound(c, gu, ug, sg, gs, assignment, records) {
         return Changed::Refused(1);
@@ -89,7 +89,7 @@ pub fn assign_lit(
 ) -> Changed
     ensures { Meets (λ t room. assign_of t lit) (changed result c)
         (quiet c (constant gu.now) (constant ug.now) (constant sg.now) (constant gs.now)
-            (change assignment.old assignment.new) (constant records.now)) }
+        (change assignment.old assignment.new) (constant records.now)) }
 {
     if !is_sound(c, gu, ug, sg, gs, assignment, records) {
         return Changed::Refused(1);

@@ -10,7 +10,7 @@ use lib.Seq.{sets, get_or-set_same}
 use Rattle.base.specs.Choice.{pick}
 use Rattle.base.proofs.SetsLaws.{sets_append}
 use Rattle.scope.specs.declared.Counts.{Counts}
-use Rattle.scope.specs.Table.{Table, table_of, record_of, undeleted, with_mode, map_counts, give_user, take_user, put_record, least_free}
+use Rattle.scope.specs.Table.{Table, table_of, record_of, with_mode, map_counts, give_user, take_user, put_record, least_free}
 use Rattle.scope.specs.Notes.{user-, notes_words}
 use Rattle.scope.specs.Outcome.{Result}
 use Rattle.scope.specs.Map.{next_user}

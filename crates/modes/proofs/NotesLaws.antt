@@ -1,5 +1,5 @@
 -- The number of notes that a change of mode makes is the number told.
-use Prim.Native.Nat.{ℕ, suc, ◌+◌, ◌%◌, ◌-◌, ◌≤◌}
+use Prim.Native.Nat.{ℕ, suc, ◌%◌, ◌-◌, ◌≤◌}
 use mathlib.Core.Path.{◌≡◌, refl, ap, ◌∙◌}
 use mathlib.Core.Bool.{Bool, true, false, ◌&&◌}
 use mathlib.Core.List.{[]}

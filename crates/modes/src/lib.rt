@@ -231,7 +231,7 @@ pub fn set_sampling_mode(
 ) -> ModeSet
     ensures { Meets (λ t room. set_mode_of t global.0 mode room) (mode_set result c)
         (lent c (change gu.old gu.new) (change ug.old ug.new) (constant sg.now) (constant gs.now)
-            (constant assignment.now) (change records.old records.new) (change notes.old notes.new)) }
+        (constant assignment.now) (change records.old records.new) (change notes.old notes.new)) }
 {
     if !is_sound(c, gu, ug, sg, gs, assignment, records) {
         return ModeSet::Refused(1);
@@ -260,7 +260,7 @@ pub fn known_set_sampling_mode(
     requires all_mapped { AllMapped gu.old c.user ufrom }
     ensures { Meets (λ t room. set_mode_of t global.0 mode room) (mode_set result c)
         (lent c (change gu.old gu.new) (change ug.old ug.new) (constant sg.now) (constant gs.now)
-            (constant assignment.now) (change records.old records.new) (change notes.old notes.new)) }
+        (constant assignment.now) (change records.old records.new) (change notes.old notes.new)) }
 {
     let n = set_mode_refusal(
         c,
@@ -460,7 +460,7 @@ pub fn observe_internal_vars(
 ) -> Observed
     ensures meets { Meets (λ t room. observe_of t (length users.old) room) (observed result c)
         (lent c (change gu.old gu.new) (change ug.old ug.new) (constant sg.now) (constant gs.now)
-            (constant assignment.now) (change records.old records.new) (change notes.old notes.new)) }
+        (constant assignment.now) (change records.old records.new) (change notes.old notes.new)) }
     ensures out { Fills (change users.old users.new) 0 (observe_of (given c gu.old ug.old sg.now gs.now assignment.now records.old) (length users.old) (length notes.old)).words }
 {
     if !is_sound(c, gu, ug, sg, gs, assignment, records) {
@@ -487,7 +487,7 @@ pub fn known_observe_internal_vars(
     requires all_mapped { AllMapped gu.old c.user ufrom }
     ensures meets { Meets (λ t room. observe_of t (length users.old) room) (observed result c)
         (lent c (change gu.old gu.new) (change ug.old ug.new) (constant sg.now) (constant gs.now)
-            (constant assignment.now) (change records.old records.new) (change notes.old notes.new)) }
+        (constant assignment.now) (change records.old records.new) (change notes.old notes.new)) }
     ensures out { Fills (change users.old users.new) 0 (observe_of (given c gu.old ug.old sg.now gs.now assignment.now records.old) (length users.old) (length notes.old)).words }
 {
     let hidden = count_hidden(records, c.global);

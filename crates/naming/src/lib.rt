@@ -113,7 +113,7 @@ pub fn global_from_user(
 ) -> UserMapped
     ensures { Meets (λ t room. map_of t user.0 sampling room) (user_mapped result c)
         (lent c (change gu.old gu.new) (change ug.old ug.new) (constant sg.now) (constant gs.now)
-            (constant assignment.now) (change records.old records.new) (change notes.old notes.new)) }
+        (constant assignment.now) (change records.old records.new) (change notes.old notes.new)) }
 {
     if !is_sound(c, gu, ug, sg, gs, assignment, records) {
         return UserMapped::Refused(1);
@@ -142,7 +142,7 @@ pub fn known_global_from_user(
     requires none_free { NoneFree (free records.old) c.global gfrom }
     ensures { Meets (λ t room. map_of t user.0 sampling room) (user_mapped result c)
         (lent c (change gu.old gu.new) (change ug.old ug.new) (constant sg.now) (constant gs.now)
-            (constant assignment.now) (change records.old records.new) (change notes.old notes.new)) }
+        (constant assignment.now) (change records.old records.new) (change notes.old notes.new)) }
 {
     let n = map_refusal(
         c,
@@ -226,7 +226,7 @@ pub fn new_user_var(
 ) -> NewUser
     ensures { Meets (λ t room. new_user_of t room) (new_user_mapped result c)
         (lent c (change gu.old gu.new) (change ug.old ug.new) (constant sg.now) (constant gs.now)
-            (constant assignment.now) (change records.old records.new) (change notes.old notes.new)) }
+        (constant assignment.now) (change records.old records.new) (change notes.old notes.new)) }
 {
     if !is_sound(c, gu, ug, sg, gs, assignment, records) {
         return NewUser::Refused(1);
@@ -253,7 +253,7 @@ pub fn known_new_user_var(
     requires none_free { NoneFree (free records.old) c.global gfrom }
     ensures { Meets (λ t room. new_user_of t room) (new_user_mapped result c)
         (lent c (change gu.old gu.new) (change ug.old ug.new) (constant sg.now) (constant gs.now)
-            (constant assignment.now) (change records.old records.new) (change notes.old notes.new)) }
+        (constant assignment.now) (change records.old records.new) (change notes.old notes.new)) }
 {
     let n = new_user_refusal(c, gu, ug, sg, gs, assignment, records, notes.len());
     if n != 0 {

@@ -101,7 +101,7 @@ pub fn remove_solver_var(
 ) -> Removed
     ensures { Meets (λ t room. remove_of t solver.0 room) (removed result c)
         (lent c (constant gu.now) (constant ug.now) (change sg.old sg.new) (change gs.old gs.new)
-            (constant assignment.now) (change records.old records.new) (change notes.old notes.new)) }
+        (constant assignment.now) (change records.old records.new) (change notes.old notes.new)) }
 {
     if !is_sound(c, gu, ug, sg, gs, assignment, records) {
         return Removed::Refused(1);
@@ -125,7 +125,7 @@ pub fn known_remove_solver_var(
     requires { soundb (given c gu.now ug.now sg.old gs.old assignment.now records.old) ≡ true }
     ensures { Meets (λ t room. remove_of t solver.0 room) (removed result c)
         (lent c (constant gu.now) (constant ug.now) (change sg.old sg.new) (change gs.old gs.new)
-            (constant assignment.now) (change records.old records.new) (change notes.old notes.new)) }
+        (constant assignment.now) (change records.old records.new) (change notes.old notes.new)) }
 {
     let n = remove_refusal(c, gu, ug, sg, gs, assignment, records, solver, notes.len());
     if n != 0 {
@@ -289,7 +289,7 @@ pub fn sweep(
 ) -> Removed
     ensures { Meets (λ t room. sweep_of t room) (removed result c)
         (lent c (constant gu.now) (constant ug.now) (change sg.old sg.new) (change gs.old gs.new)
-            (constant assignment.now) (change records.old records.new) (change notes.old notes.new)) }
+        (constant assignment.now) (change records.old records.new) (change notes.old notes.new)) }
 {
     if !is_sound(c, gu, ug, sg, gs, assignment, records) {
         return Removed::Refused(1);
@@ -312,7 +312,7 @@ pub fn known_sweep(
     requires { soundb (given c gu.now ug.now sg.old gs.old assignment.now records.old) ≡ true }
     ensures { Meets (λ t room. sweep_of t room) (removed result c)
         (lent c (constant gu.now) (constant ug.now) (change sg.old sg.new) (change gs.old gs.new)
-            (constant assignment.now) (change records.old records.new) (change notes.old notes.new)) }
+        (constant assignment.now) (change records.old records.new) (change notes.old notes.new)) }
 {
     let n = sweep_refusal(c, gu, ug, sg, gs, assignment, records, notes.len());
     if n != 0 {

@@ -21,7 +21,6 @@ use Rattle.drat.specs.declared.Kind.TheVariants.{Delete}
 use Rattle.scope.specs.Literals.{index_of, not_lit}
 use Rattle.scope.specs.Table.{Table}
 use Rattle.scope.specs.Sound.{soundb}
-use Rattle.scope.specs.Outcome.{unless}
 use Rattle.scope.specs.Marks.{not_held, unheld}
 use Rattle.scope.specs.Write.{rename_lits, holders}
 use Rattle.scope.specs.Binary.{cutsb, sections_of, section_at, section_words, each_section, times, has_mirror, mirrored, is_unknown, stays, kept_at}

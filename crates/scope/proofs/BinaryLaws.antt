@@ -1,19 +1,19 @@
 -- Laws of the lists of binary clauses: the sections one at a time, what an entry's mirror shows, and that past 15 and 8 an index of both literals of
 -- every clause is held.
-use Prim.Native.Nat.{ℕ, zero, suc, ◌+◌, ◌-◌, ◌*◌, ◌/◌, ◌%◌, ◌<◌, ◌≤◌}
+use Prim.Native.Nat.{ℕ, zero, suc, ◌+◌, ◌<◌, ◌≤◌}
 use mathlib.Core.Path.{◌≡◌, refl, sym, ap, ◌∙◌, subst}
-use mathlib.Core.Bool.{Bool, true, false, ◌&&◌, ◌||◌, not}
+use mathlib.Core.Bool.{Bool, true, false}
 use mathlib.Core.Logic.{⊎_elim}
 use mathlib.Core.List.{List, [], ◌∷◌, ◌++◌, map}
 use native.Mathlib.Nat.{le_of_suc-le-suc, not-suc-le-zero}
 use native.Mathlib.Numerals.{add-one}
 use native.Mathlib.Omega.{arith}
-use lib.Dec.{eqb, ltb, leb}
-use lib.ListN.{length, get_or, take, drop, length-append, drop_of_length-le, get_or-eq_default}
+use lib.Dec.{eqb, ltb}
+use lib.ListN.{length, get_or, drop, length-append, drop_of_length-le, get_or-eq_default}
 use lib.Seq.{drop-cons}
 use borrow.Author.Tests.{ltb-true, eqb-true, eq-eqb, ne_eqb}
 use Rattle.base.specs.Choice.{pick}
-use Rattle.base.specs.Bounded.{all_below, every_of, any_of, keep_of}
+use Rattle.base.specs.Bounded.{every_of, any_of, keep_of}
 use Rattle.base.proofs.BelowLaws.{and_left, and_right, all_at}
 use Rattle.base.proofs.MemberLaws.{every_at, any_append, any_intro, or_left, or_right, or_neither}
 use Rattle.base.proofs.Truth.{split}
@@ -25,7 +25,7 @@ use Rattle.scope.specs.Table.{Table}
 use Rattle.scope.specs.Sound.{Sound}
 use Rattle.scope.specs.Marks.{not_held, unheld}
 use Rattle.scope.specs.Write.{rename_lits, holders}
-use Rattle.scope.specs.Binary.{cutsb, sections_of, section_at, section_words, each_section, times, has_mirror, mirrored, deletes_at}
+use Rattle.scope.specs.Binary.{sections_of, section_at, section_words, each_section, times, has_mirror, mirrored, deletes_at}
 use Rattle.scope.specs.Binary.{filled_codes}
 use Rattle.scope.proofs.WriteLaws.{solver_codes, keep_none}
 

@@ -6,7 +6,7 @@ use mathlib.Core.Logic.{◌≢◌}
 use native.Mathlib.Omega.{arith}
 use lib.ListN.{length, get_or}
 use lib.Seq.{get_or-set_same, get_or-set_other}
-use Rattle.scope.specs.Table.{Table, word, record_of, give_solver, undeleted, next_solver}
+use Rattle.scope.specs.Table.{Table, word, record_of, give_solver, next_solver}
 use Rattle.scope.specs.Sound.{Sound}
 use Rattle.scope.specs.Outcome.{Result, stay}
 use Rattle.scope.specs.Grant.{grant_one, grant}

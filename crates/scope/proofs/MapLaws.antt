@@ -11,7 +11,7 @@ use lib.ListN.{length, get_or, set, length-append}
 use lib.Seq.{get_or-set_same, get_or-set_other}
 use borrow.Author.Tests.{eq-eqb, ne_eqb, le-leb, lt-leb, leb-true, leb-false, lt-ltb, le-ltb, ltb-false}
 use Rattle.base.specs.Choice.{pick}
-use Rattle.base.specs.Bounded.{least, count}
+use Rattle.base.specs.Bounded.{least}
 use Rattle.base.proofs.LeastLaws.{Least, least_has}
 use Rattle.base.proofs.CountLaws.{count_least, count_more}
 use Rattle.scope.specs.Table.{Table, word, record_of, is_deleted, is_undeleted, give_user, undeleted}

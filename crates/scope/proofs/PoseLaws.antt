@@ -10,7 +10,7 @@ use native.Mathlib.Decide.{ℕ_discrete}
 use native.Mathlib.Numerals.{add-one}
 use lib.Dec.{eqb, ltb, leb}
 use lib.ListN.{length, get_or, take, drop, length-append, take-append-drop}
-use lib.Seq.{take-suc, take-length}
+use lib.Seq.{take-length}
 use borrow.Author.Tests.{eq-eqb, ne_eqb, leb-false, ltb-false}
 use Rattle.base.specs.Choice.{pick}
 use Rattle.base.specs.Bounded.{count, any_of}

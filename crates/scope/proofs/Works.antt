@@ -16,7 +16,7 @@ use Rattle.scope.specs.declared.Mark.{Mark}
 use Rattle.scope.specs.Literals.{index_of}
 use Rattle.scope.specs.Table.{Table, record_of, mode_of, assumed_of, with_mode, give_user, take_user, take_solver, put_record, put_value, undeleted, drop_global}
 use Rattle.scope.specs.Sound.{Sound, sizesb}
-use Rattle.scope.specs.Outcome.{Result, Outcome, each, unless, noting, changing, telling, refusal}
+use Rattle.scope.specs.Outcome.{Result, Outcome, each, noting, changing, telling, refusal}
 use Rattle.scope.specs.Open.{empty_table, open_of}
 use Rattle.scope.specs.Lookup.{lookup_of}
 use Rattle.scope.specs.Map.{to_map, unsampled, map_user, new_user, next_user, map_refusal, map_of, new_user_refusal, new_user_of}

@@ -2,8 +2,6 @@
 use Rattle.std.specs.Prelude.{ℕ, ◌+◌, ◌≤◌, ◌≡◌, ◌&&◌, List, eqb, ltb, length, get_or, set}
 use Rattle.base.specs.Choice.{pick}
 use Rattle.scope.specs.declared.Counts.{Counts}
-use Rattle.scope.specs.declared.User.{User as UserIndex}
-use Rattle.scope.specs.declared.Solver.{Solver as SolverIndex}
 use Rattle.scope.specs.declared.Name.{Name}
 use Rattle.scope.specs.declared.Name.TheVariants.{User, Solver}
 use Rattle.scope.specs.Table.{cover_user, cover_solver}

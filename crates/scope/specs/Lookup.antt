@@ -1,5 +1,5 @@
 -- Lookup (document 01): an index at or beyond the watermark is none.
-use Rattle.std.specs.Prelude.{ℕ, Bool, not, List, [], ◌∷◌, ltb, get_or}
+use Rattle.std.specs.Prelude.{ℕ, not, List, [], ◌∷◌, ltb, get_or}
 use Rattle.base.specs.Choice.{pick}
 use Rattle.scope.specs.Table.{Table, word, record_of}
 use Rattle.scope.specs.Sound.{soundb}

@@ -1,5 +1,5 @@
 -- Set mode and Observe (document 01, `set_sampling_mode`, `observe_internal_vars`).
-use Rattle.std.specs.Prelude.{ℕ, ◌+◌, ◌-◌, Bool, ◌&&◌, ◌||◌, not, List, [], ◌∷◌, eqb, ltb, leb, length, get_or}
+use Rattle.std.specs.Prelude.{ℕ, ◌-◌, Bool, ◌&&◌, ◌||◌, not, List, [], ◌∷◌, eqb, ltb, leb, length, get_or}
 use Rattle.base.specs.Bounded.{all_below}
 use Rattle.base.specs.Answer.{accepted}
 use Rattle.scope.specs.declared.SamplingMode.{SamplingMode}

@@ -1,5 +1,5 @@
 -- Remove and Sweep (document 01, `remove_solver_var`, last loop of `unit_simplify`; document 02, order 2).
-use Rattle.std.specs.Prelude.{ℕ, Bool, ◌&&◌, not, List, [], ◌∷◌, eqb, get_or}
+use Rattle.std.specs.Prelude.{ℕ, ◌&&◌, not, List, [], ◌∷◌, eqb, get_or}
 use Rattle.scope.specs.Table.{Table, word, isolated_of, assumed_of, record_of, with_unit, take_solver, put_record}
 use Rattle.scope.specs.Sound.{soundb}
 use Rattle.scope.specs.Notes.{solver-}

@@ -1,5 +1,5 @@
 -- When a table is sound (document 01, "Words used"; document 02, order 5): as a test, and as facts.
-use Rattle.std.specs.Prelude.{ℕ, ◌+◌, ◌-◌, ◌/◌, ◌%◌, ◌≤◌, ◌<◌, ◌≡◌, Bool, true, false, ◌&&◌, ◌||◌, not, ◌↔◌, ◌≢◌, List, eqb, ltb, leb, length, get_or}
+use Rattle.std.specs.Prelude.{ℕ, ◌+◌, ◌-◌, ◌≤◌, ◌<◌, ◌≡◌, Bool, ◌&&◌, ◌||◌, not, ◌↔◌, ◌≢◌, List, eqb, ltb, leb, length, get_or}
 use Rattle.std.specs.Bool.{beq}
 use Rattle.base.specs.Bounded.{all_below}
 use Rattle.scope.specs.declared.Counts.{Counts}

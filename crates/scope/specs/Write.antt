@@ -1,5 +1,5 @@
 -- Rename and Write (document 01, `MapStep::map`, `add_step`, src/proof/drat.rs).
-use Rattle.std.specs.Prelude.{ℕ, ◌-◌, Bool, true, false, ◌&&◌, ◌||◌, not, List, [], ◌∷◌, ◌++◌, map, eqb, ltb, leb, length, get_or}
+use Rattle.std.specs.Prelude.{ℕ, ◌-◌, Bool, true, false, ◌&&◌, ◌||◌, not, List, [], ◌∷◌, map, eqb, ltb, leb, length, get_or}
 use Rattle.base.specs.Choice.{pick}
 use Rattle.base.specs.Bounded.{any_of}
 use Rattle.base.specs.Answer.{accepted}

@@ -7,7 +7,7 @@ use Prim.Native.Nat.{ℕ}
 use Rattle.base.specs.Answer.{Answer, accepted, refused}
 use Rattle.base.specs.Bounded.{all_below, least, count, every_of, any_of, keep_of}
 use Rattle.drat.specs.Numeral.{spell, further, bytes_of}
-use Rattle.drat.specs.Grammar.{Step, step_of, number, numbers, encode_step, encode}
+use Rattle.drat.specs.Grammar.{step_of, number, numbers, encode_step, encode}
 use Rattle.drat.specs.declared.Format.TheVariants.{Text}
 use Rattle.drat.specs.declared.Kind.TheVariants.{Add, Delete}
 use Rattle.scope.specs.declared.Counts.{Counts}
@@ -41,7 +41,7 @@ use Rattle.session.specs.Ledger.{notes_of, shown_by, Line, line, plus, minus, gi
 use Rattle.session.specs.Entered.{entries_of, sections_in, gone_lines, binary_lines, lines_of}
 use Rattle.session.specs.Session.{Turn, turn, turn_does, State, start, enter, after_turn, run}
 use Rattle.session.specs.Assumed.{AssumedBy}
-use Rattle.session.specs.Made.{notes_in, Fillable, none_lent, Made, made, Program, ends, calls, seen, ledger}
+use Rattle.session.specs.Made.{notes_in, none_lent, Made, made, Program, ends, calls, seen, ledger}
 
 -- the answers, call by call
 abbrev answers : State → List Turn → List Answer

@@ -2,23 +2,23 @@
 use Prim.Native.Nat.{ℕ, zero, suc, ◌+◌, ◌-◌, ◌%◌, ◌<◌, ◌≤◌}
 use mathlib.Core.Path.{◌≡◌, refl, sym, ap, ap₂, ◌∙◌, subst}
 use mathlib.Core.Bool.{Bool, true, false, ◌&&◌, not, true≢false}
-use mathlib.Core.List.{List, [], ◌∷◌, ◌++◌, map}
+use mathlib.Core.List.{List, [], ◌∷◌, map}
 use native.Mathlib.Nat.{le_of_suc-le-suc, not-suc-le-zero}
 use native.Mathlib.Omega.{arith}
 use lib.Dec.{eqb, ltb, leb}
-use lib.ListN.{length, get_or, take, drop, length-append, length-drop}
+use lib.ListN.{length, get_or, take, drop, length-drop}
 use lib.Seq.{take-append_seam, drop-append_seam}
-use borrow.Author.Tests.{eqb-true, eq-eqb, leb-true}
+use borrow.Author.Tests.{eqb-true, eq-eqb}
 use Rattle.base.specs.Choice.{pick}
 use Rattle.base.specs.Bounded.{any_of, keep_of}
-use Rattle.base.proofs.BelowLaws.{and_left, and_right}
-use Rattle.base.proofs.MemberLaws.{or_left, or_right, or_neither, or_first, or_second, any_intro}
+use Rattle.base.proofs.BelowLaws.{and_right}
+use Rattle.base.proofs.MemberLaws.{or_left, or_right, or_neither, or_first, or_second}
 use Rattle.drat.specs.Grammar.{step_of}
 use Rattle.drat.specs.declared.Kind.TheVariants.{Delete}
 use Rattle.scope.specs.Literals.{not_lit}
 use Rattle.scope.specs.Table.{Table}
 use Rattle.scope.specs.Notes.{Note}
-use Rattle.scope.specs.Marks.{not_held, unheld}
+use Rattle.scope.specs.Marks.{unheld}
 use Rattle.scope.specs.Write.{rename_lits, holders}
 use Rattle.scope.specs.Binary.{cutsb, sections_of, section_at, section_words, each_section, mirrored, stays, kept_at, deletes_at, filled_codes, kept_words}
 use Rattle.scope.proofs.WriteLaws.{keep_none}

@@ -6,7 +6,7 @@ use mathlib.Core.Bool.{Bool, true, false, ◌&&◌, ◌||◌, not}
 use mathlib.Core.List.{List, [], ◌∷◌, map}
 use native.Mathlib.Omega.{arith}
 use lib.Dec.{eqb, ltb, leb}
-use lib.ListN.{length, get_or, take}
+use lib.ListN.{length, get_or}
 use borrow.Author.Tests.{eqb-false, leb-false, ltb-false, not-false}
 use Rattle.base.specs.Bounded.{all_below, any_of}
 use Rattle.base.specs.Answer.{accepted}
@@ -24,7 +24,7 @@ use Rattle.scope.specs.Literals.{index_of}
 use Rattle.scope.specs.Table.{Table, record_of, assumed_of, is_deleted, undeleted}
 use Rattle.scope.specs.Sound.{soundb, Sound}
 use Rattle.scope.specs.Notes.{Note}
-use Rattle.scope.specs.Entries.{noted, hides}
+use Rattle.scope.specs.Entries.{noted}
 use Rattle.base.specs.Choice.{pick}
 use Rattle.scope.specs.Outcome.{Outcome, unless, short, noting, refusal}
 use Rattle.scope.specs.Lookup.{lookup_of, global_from_user_of, user_from_global_of, solver_from_global_of, global_from_solver_of, record_word_of, assignment_word_of}

@@ -3,13 +3,11 @@
 use Prim.Native.Nat.{ℕ}
 use mathlib.Core.Path.{◌≡◌, refl, sym, ap, ◌∙◌, subst}
 use mathlib.Core.List.{List, [], ◌∷◌, ◌++◌}
-use native.Mathlib.Omega.{arith}
-use lib.ListN.{length, take}
-use lib.Seq.{sets}
+use lib.ListN.{take}
 use Rattle.base.specs.Answer.{Answer, accepted, refused, values_of}
 use Rattle.drat.specs.declared.Format.{Format}
 use Rattle.scope.specs.Table.{Table}
-use Rattle.scope.specs.Notes.{Note, notes_words}
+use Rattle.scope.specs.Notes.{Note}
 use Rattle.scope.specs.Outcome.{Outcome}
 use Rattle.scope.specs.Open.{open_of}
 use Rattle.scope.specs.Contract.{Said, Memory, Does, Meets}
@@ -17,7 +15,7 @@ use Rattle.scope.specs.Calls.{Call}
 use Rattle.session.specs.Ledger.{notes_of}
 use Rattle.session.specs.Entered.{entries_of, lines_of}
 use Rattle.session.specs.Session.{turn_does, State, start, enter, Holds}
-use Rattle.session.specs.Made.{notes_in, filled_by, Has, Made, turn_of, leaves, Met, Program, ends, calls, seen, ledger}
+use Rattle.session.specs.Made.{notes_in, filled_by, Has, Made, turn_of, leaves, Program, ends, calls, seen, ledger}
 use Rattle.session.proofs.ToldLaws.{ToldFor, take_filled, notes_filled}
 use Rattle.session.proofs.CallLaws.{Owed, refusing, accepting, turn_owed}
 use Rattle.session.proofs.SessionLaws.{Invariant, enter_keeps, invariant_holds, open_start}

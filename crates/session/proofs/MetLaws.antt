@@ -6,7 +6,7 @@ use mathlib.Core.Bool.{Bool}
 use mathlib.Core.List.{List, [], ◌∷◌}
 use lib.ListN.{length}
 use lib.Seq.{sets}
-use Rattle.base.specs.Lent.{Lent, Fills, old, new}
+use Rattle.base.specs.Lent.{Lent, Fills, old}
 use Rattle.drat.specs.declared.Format.{Format}
 use Rattle.scope.specs.declared.Counts.{Counts}
 use Rattle.scope.specs.declared.User.{User}
@@ -15,7 +15,6 @@ use Rattle.scope.specs.declared.Solver.{Solver}
 use Rattle.scope.specs.declared.SamplingMode.{SamplingMode}
 use Rattle.scope.specs.declared.Mark.{Mark}
 use Rattle.scope.specs.declared.ProofStep.{ProofStep}
-use Rattle.scope.specs.Outcome.{Outcome}
 use Rattle.scope.specs.Contract.{Said, Memory, Meets, lent, quiet, before}
 use Rattle.scope.specs.Lookup.{global_from_user_of, user_from_global_of, solver_from_global_of, global_from_solver_of, record_word_of, assignment_word_of}
 use Rattle.scope.specs.Map.{map_of, new_user_of}

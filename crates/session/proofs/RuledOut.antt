@@ -1,7 +1,7 @@
 -- What demand 3 rules out. Where an accepted call has a clause with a solver literal that nobody holds by the notes so far, there is no list of
 -- steps as which the ledger's lines enter, and the claim is false, whatever the bytes are and whatever comes later. So it is where the bytes
 -- are of other steps than the ledger's.
-use Prim.Native.Nat.{ℕ, zero, suc, ◌+◌, ◌*◌, ◌/◌}
+use Prim.Native.Nat.{ℕ, ◌+◌, ◌*◌, ◌/◌}
 use mathlib.Core.Path.{◌≡◌, refl, sym, ap, ◌∙◌, subst}
 use mathlib.Core.Bool.{Bool, true, true≢false}
 use mathlib.Core.Logic.{◌≢◌}

@@ -2,7 +2,7 @@
 -- its inverse, a global has a user name exactly when it is undeleted and not hidden, and the joined proof bytes have one reading, the
 -- ledger's steps. Each call keeps an invariant of the session: the table is sound, the entries tell its names, the bytes are the encoding of
 -- the ledger's steps.
-use Prim.Native.Nat.{ℕ, ◌+◌}
+use Prim.Native.Nat.{ℕ}
 use mathlib.Core.Path.{◌≡◌, refl, sym, ◌∙◌, subst}
 use mathlib.Core.Logic.{◌↔◌}
 use mathlib.Core.List.{List, [], ◌∷◌, ◌++◌}

@@ -1,5 +1,5 @@
 -- What the ledger enters of an accepted call (document 01, "Session").
-use Rattle.std.specs.Prelude.{ℕ, zero, suc, ◌+◌, ◌-◌, ◌%◌, Bool, true, false, ◌&&◌, not, List, [], ◌∷◌, ◌++◌, map, eqb, ltb, length, take, drop}
+use Rattle.std.specs.Prelude.{ℕ, zero, suc, ◌+◌, ◌-◌, ◌%◌, Bool, true, ◌&&◌, not, List, [], ◌∷◌, ◌++◌, map, eqb, ltb, length, take, drop}
 use Rattle.base.specs.Choice.{pick}
 use Rattle.base.specs.Bounded.{any_of, keep_of}
 use Rattle.drat.specs.declared.Kind.TheVariants.{Add, Delete}

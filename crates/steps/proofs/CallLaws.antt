@@ -1,11 +1,11 @@
 -- A call that makes no notes: what its refusal and its accepted outcome say of the answer and of the lent memory.
-use Prim.Native.Nat.{ℕ, zero, suc}
+use Prim.Native.Nat.{ℕ}
 use mathlib.Core.Path.{◌≡◌, refl, sym, ap, ◌∙◌}
 use mathlib.Core.List.{List, []}
 use lib.Seq.{sets}
 use Rattle.scope.specs.Table.{Table}
 use Rattle.scope.specs.Notes.{Note, notes_words}
-use Rattle.scope.specs.Outcome.{Outcome, refusal, unless}
+use Rattle.scope.specs.Outcome.{Outcome, refusal}
 use Rattle.scope.specs.Contract.{Said, Does}
 
 -- what a call tells that comes to the outcome o, with three further slices before (a, b, d) and after (x, y, z)

@@ -11,11 +11,10 @@ use Rattle.base.specs.Answer.{accepted}
 use Rattle.scope.specs.declared.ProofStep.{ProofStep}
 use Rattle.scope.specs.Table.{Table}
 use Rattle.scope.specs.Sound.{soundb}
-use Rattle.scope.specs.Steps.{rule_of, has_hashes, step_words, literals_of, hashes_of}
-use Rattle.scope.specs.Outcome.{Outcome, refusal}
+use Rattle.scope.specs.Steps.{rule_of, has_hashes, step_words}
+use Rattle.scope.specs.Outcome.{Outcome}
 use Rattle.scope.specs.Contract.{Does}
 use Rattle.scope.specs.Write.{rename_lits, holders, unmatched, step_refusal, rename_refusal, rename_of}
-use Rattle.steps.specs.declared.rename.Renamed.{Renamed}
 use Rattle.steps.specs.declared.rename.Renamed.TheVariants.{Done, Refused}
 use Rattle.steps.specs.declared.write.Recorded.{Recorded}
 use Rattle.steps.specs.declared.write.Recorded.TheVariants as W

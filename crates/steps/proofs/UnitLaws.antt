@@ -1,14 +1,14 @@
 -- One add per unit, for a loop that has passed the first i units; and the bytes of a single step.
-use Prim.Native.Nat.{ℕ, zero, suc, ◌+◌, ◌-◌, ◌*◌, ◌/◌, ◌≤◌, ◌<◌}
+use Prim.Native.Nat.{ℕ, ◌+◌, ◌-◌, ◌/◌, ◌≤◌, ◌<◌}
 use mathlib.Core.Path.{◌≡◌, refl, sym, ap, ap₂, ◌∙◌, subst}
 use mathlib.Core.Bool.{Bool, true}
 use mathlib.Core.Logic.{◌≢◌}
-use mathlib.Core.List.{List, [], ◌∷◌, ◌++◌, map, append-nil}
+use mathlib.Core.List.{List, [], ◌∷◌, ◌++◌}
 use native.Mathlib.Omega.{arith}
 use lib.ListN.{length, get_or, take, drop, length-append, length-take, drop_of_length-le}
 use lib.Seq.{sets}
 use Rattle.base.proofs.SetsLaws.{sets_append}
-use Rattle.drat.specs.Grammar.{Step, step_of, encode_step, encode}
+use Rattle.drat.specs.Grammar.{step_of, encode_step, encode}
 use Rattle.drat.specs.declared.Format.{Format}
 use Rattle.drat.specs.declared.Kind.TheVariants.{Add}
 use Rattle.drat.proofs.Steps.{next}

@@ -1,6 +1,6 @@
 -- Write: the bytes of a step by what its rule writes, and what the call comes to.
-use Prim.Native.Nat.{ℕ, ◌+◌, ◌≤◌, ◌<◌}
-use mathlib.Core.Path.{◌≡◌, refl, sym, ap, ap₂, ◌∙◌, subst}
+use Prim.Native.Nat.{ℕ, ◌≤◌, ◌<◌}
+use mathlib.Core.Path.{◌≡◌, refl, sym, ap, ap₂, ◌∙◌}
 use mathlib.Core.Bool.{Bool, true, false}
 use mathlib.Core.List.{List, [], ◌∷◌}
 use native.Mathlib.Omega.{arith}
@@ -9,8 +9,8 @@ use lib.ListN.{length, take}
 use lib.Seq.{sets}
 use borrow.Author.Tests.{lt-ltb, le-ltb}
 use Rattle.base.specs.Choice.{pick}
-use Rattle.base.specs.Answer.{Answer, accepted, refused}
-use Rattle.drat.specs.Grammar.{Step, step_of, encode_step, encode}
+use Rattle.base.specs.Answer.{accepted}
+use Rattle.drat.specs.Grammar.{step_of, encode_step, encode}
 use Rattle.drat.specs.declared.Format.{Format}
 use Rattle.drat.specs.declared.Kind.TheVariants.{Add as add, Delete as delete}
 use Rattle.scope.specs.declared.ProofStep.{ProofStep}
@@ -21,7 +21,6 @@ use Rattle.scope.specs.Table.{Table, table_of}
 use Rattle.scope.specs.Sound.{soundb}
 use Rattle.scope.specs.Steps.{rule_of, written, clause_steps, literals_of}
 use Rattle.scope.specs.Outcome.{Outcome, refusal}
-use Rattle.scope.specs.Contract.{Said}
 use Rattle.scope.specs.Write.{rename_lits, holders, lacked, step_refusal, step_bytes, write_refusal, write_of}
 use Rattle.steps.specs.declared.write.Recorded.{Recorded}
 use Rattle.steps.specs.declared.write.Recorded.TheVariants as W

@@ -11,12 +11,12 @@ use native.Mathlib.Omega.{arith}
 use lib.Dec.{eqb, ltb, leb}
 use lib.ListN.{length, get_or, take}
 use lib.Seq.{take_all}
-use borrow.Author.Tests.{lt-ltb, le-ltb, le-leb, leb-true, eqb-true, eq-eqb, ne_eqb, not-true, not-false}
+use borrow.Author.Tests.{lt-ltb, le-ltb, le-leb, leb-true, eq-eqb, ne_eqb, not-true}
 use Rattle.base.specs.Choice.{pick}
 use Rattle.base.specs.Bounded.{all_below, count, any_of}
 use Rattle.base.proofs.CountLaws.{count_past}
 use Rattle.base.proofs.BelowLaws.{all_at, all_intro, and_true}
-use Rattle.base.proofs.Truth.{truth, and_iff, split}
+use Rattle.base.proofs.Truth.{and_iff}
 use Rattle.base.proofs.MemberLaws.{get_d_default, any_more}
 use Rattle.scope.specs.Table.{Table, is_shown, is_undeleted, least_free, next_solver, undeleted}
 use Rattle.scope.specs.Sound.{sizesb, marksb, at_mostb, tailb, backb, namedb, deletedb, tailsb, pairsb, listsb, storedb, soundb}

@@ -74,7 +74,7 @@ pub fn open_table(
 ) -> Opened
     ensures { Meets (λ t room. open_of t) (opened result (open_counts capacity))
         (quiet (open_counts capacity) (change gu.old gu.new) (change ug.old ug.new) (change sg.old sg.new) (change gs.old gs.new)
-            (change assignment.old assignment.new) (change records.old records.new)) }
+        (change assignment.old assignment.new) (change records.old records.new)) }
 {
     let c = Counts {
         capacity: capacity,

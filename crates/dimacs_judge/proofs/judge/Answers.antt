@@ -3,7 +3,6 @@ use mathlib.Core.Path.{◌≡◌, sym, ap, ◌∙◌}
 use lib.ListN.{length, take, drop, length-drop}
 use lib.Seq.{take_all}
 use native.Mathlib.Omega.{arith}
-use borrow.Author.Rules.{rules}
 use Rattle.drat_judge.specs.Local.{tally}
 use Rattle.dimacs_judge.proofs.TallyLaws.{judged_counts}
 use Rattle.dimacs_judge.proofs.judge.Goals as goal

@@ -1,4 +1,3 @@
-use borrow.Author.Rules.{rules}
 use Rattle.dimacs_judge.specs.Local.{line_next}
 use Rattle.dimacs_judge.proofs.line_next.Goals as goal
 

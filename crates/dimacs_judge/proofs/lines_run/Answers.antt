@@ -1,7 +1,6 @@
 use mathlib.Core.Path.{◌∙◌}
 use lib.ListN.{length}
 use native.Mathlib.Omega.{arith}
-use borrow.Author.Rules.{rules}
 use Rattle.dimacs_judge.proofs.RunsLaws.{runs_out}
 use Rattle.dimacs_judge.specs.Local.{runs_at}
 use Rattle.dimacs_judge.proofs.lines_run.Goals as goal

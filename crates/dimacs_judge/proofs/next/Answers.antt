@@ -1,4 +1,3 @@
-use borrow.Author.Rules.{rules}
 use Rattle.dimacs_judge.specs.Local.{may_follow}
 use Rattle.dimacs_judge.proofs.next.Goals as goal
 

@@ -1,5 +1,4 @@
 use native.Mathlib.Omega.{arith}
-use borrow.Author.Rules.{rules}
 use Rattle.dimacs_judge.proofs.RunsLaws.{runs_turn}
 use Rattle.dimacs_judge.specs.Local.{runs_at}
 use Rattle.dimacs_judge.proofs.part_runs.Goals as goal

@@ -7,7 +7,6 @@ use borrow.Author.Tests.{le-leb}
 use Rattle.dimacs.specs.Cnf.{written}
 use Rattle.dimacs.specs.Calls.{clauses_by}
 use Rattle.dimacs_write.proofs.CnfLaws.{written_count, written_le}
-use borrow.Author.Rules.{rules}
 use Rattle.dimacs_write.proofs.cnf_fits.Goals as goal
 
 pub returns-then-codes-ends : goal.returns-then-codes-ends

@@ -1,6 +1,5 @@
 use Prim.Native.Nat.{◌+◌}
 use mathlib.Core.Path.{◌≡◌}
-use native.Mathlib.Omega.{arith}
 use lib.ListN.{length}
 use Rattle.drat.specs.Numeral.{decimal, bytes_of}
 use Rattle.dimacs_write.proofs.digits.Given as goal

@@ -4,7 +4,6 @@ use native.Mathlib.Omega.{arith}
 use lib.ListN.{length}
 use Rattle.dimacs.specs.Cnf.{largest}
 use Rattle.dimacs.proofs.ClauseLaws.{largest_at, largest_most, magnitudes_turn}
-use borrow.Author.Rules.{rules}
 use Rattle.dimacs_write.proofs.largest_of.Goals as goal
 
 pub loop-i-preserved : goal.loop-i-preserved

@@ -1,9 +1,8 @@
 use Prim.Native.Nat.{◌/◌}
-use mathlib.Core.Path.{refl, ◌∙◌}
+use mathlib.Core.Path.{◌∙◌}
 use native.Mathlib.Omega.{arith}
 use lib.ListN.{length-set}
 use Rattle.dimacs_write.proofs.CountLaws.{one_more, digits_some, digit_sets, last_sets}
-use borrow.Author.Rules.{rules}
 use Rattle.dimacs_write.proofs.put_count.Goals as goal
 
 pub overflow_sub-p : goal.overflow_sub-p

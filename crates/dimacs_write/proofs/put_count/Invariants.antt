@@ -1,10 +1,8 @@
 use Prim.Native.Nat.{◌+◌, ◌≤◌}
-use mathlib.Core.Path.{◌≡◌, refl}
-use native.Mathlib.Omega.{arith}
+use mathlib.Core.Path.{◌≡◌}
 use lib.Seq.{sets}
 use lib.ListN.{length}
 use Rattle.drat.specs.Numeral.{decimal, bytes_of}
-use borrow.Author.Rules.{rules}
 use Rattle.dimacs_write.proofs.put_count.Given as goal
 
 abbrev pub invariant-loop-m : goal.invariant-loop-m

@@ -1,4 +1,3 @@
-use native.Mathlib.Omega.{arith}
 use Rattle.dimacs_write.proofs.CnfLaws.{header_sets}
 use Rattle.dimacs_write.proofs.put_header.Goals as goal
 

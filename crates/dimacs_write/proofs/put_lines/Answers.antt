@@ -1,6 +1,6 @@
 use Prim.Native.Nat.{ℕ, ◌+◌, ◌<◌}
 use mathlib.Core.List.{List}
-use mathlib.Core.Path.{refl, sym, ap, ap₂, ◌∙◌}
+use mathlib.Core.Path.{sym, ap, ap₂, ◌∙◌}
 use native.Mathlib.Omega.{arith}
 use lib.Seq.{sets}
 use lib.ListN.{length, get_or, drop}
@@ -8,7 +8,6 @@ use Rattle.drat.proofs.ListedLaws.{rises_at}
 use Rattle.dimacs.specs.Cnf.{clause_lines}
 use Rattle.dimacs.specs.Calls.{clauses_by}
 use Rattle.dimacs.proofs.ClauseLaws.{lines_done, lines_step, lines_sets}
-use borrow.Author.Rules.{rules}
 use Rattle.dimacs_write.proofs.put_lines.Goals as goal
 
 pub offset_bounds-codes-a : goal.offset_bounds-codes-a

@@ -1,13 +1,11 @@
 use Prim.Native.Nat.{◌+◌, ◌-◌, ◌≤◌}
-use mathlib.Core.Path.{◌≡◌, refl}
+use mathlib.Core.Path.{◌≡◌}
 use mathlib.Core.Bool.{true}
-use native.Mathlib.Omega.{arith}
 use lib.Seq.{sets}
 use lib.ListN.{length, drop}
 use Rattle.drat.specs.Listed.{rises_to}
 use Rattle.dimacs.specs.Cnf.{clause_lines}
 use Rattle.dimacs.specs.Calls.{clauses_by}
-use borrow.Author.Rules.{rules}
 use Rattle.dimacs_write.proofs.put_lines.Given as goal
 
 abbrev pub invariant-loop-i : goal.invariant-loop-i

@@ -12,7 +12,6 @@ use Rattle.dimacs.specs.Calls.{clauses_by}
 use Rattle.dimacs.proofs.ClauseLaws.{largest_le}
 use Rattle.dimacs.proofs.Written.{is_writable}
 use Rattle.dimacs_write.proofs.CnfLaws.{written_length, written_sets, cnf_done}
-use borrow.Author.Rules.{rules}
 use Rattle.dimacs_write.proofs.write_cnf.Goals as goal
 
 pub largest_of-v-requires : goal.largest_of-v-requires
@@ -70,7 +69,7 @@ returns-then-cnf_fits-clause-result_value c =
     let e = cnf_done a.codes.now a.ends.now (length a.out.now) w v c.largest_of-v.ensures f in
     let s = written_sets a.codes.now a.ends.now v a.out.now _ _ _ c.put_header-p.ensures.fills c.put_header-p.ensures.value c.put_lines-e.ensures.fills in
     ap (λ (k : ℕ). accepted (k ∷ [])) (omega (arith, c.put_header-p.ensures.value, c.put_lines-e.ensures.value, written_length a.codes.now a.ends.now v))
-          ∙ sym (ap (λ (x : Writing). x.answer) e)
+    ∙ sym (ap (λ (x : Writing). x.answer) e)
 
 pub returns-then-cnf_fits-clause-fills : goal.returns-then-cnf_fits-clause-fills
 returns-then-cnf_fits-clause-fills c =

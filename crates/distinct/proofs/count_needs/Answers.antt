@@ -1,7 +1,6 @@
 use mathlib.Core.Path.{sym, ◌∙◌}
 use native.Mathlib.Omega.{arith}
 use Rattle.distinct.proofs.NeedLaws.{marks_start, marks_small, marks_held, marks_needs}
-use borrow.Author.Rules.{rules}
 use Rattle.distinct.proofs.count_needs.Goals as goal
 
 pub loop-i-init : goal.loop-i-init

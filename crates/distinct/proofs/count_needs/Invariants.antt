@@ -1,8 +1,6 @@
 use Prim.Native.Nat.{◌-◌}
-use native.Mathlib.Omega.{arith}
 use lib.ListN.{length}
 use Rattle.distinct.proofs.NeedLaws.{MarkedTo}
-use borrow.Author.Rules.{rules}
 use Rattle.distinct.proofs.count_needs.Given as goal
 
 abbrev pub invariant-loop-i : goal.invariant-loop-i

@@ -1,7 +1,5 @@
 use mathlib.Core.Path.{sym, ◌∙◌}
-use native.Mathlib.Omega.{arith}
 use Rattle.distinct.proofs.NeedLaws.{plain_start, plain_small, plain_held, plain_needs, plain_end}
-use borrow.Author.Rules.{rules}
 use Rattle.distinct.proofs.count_needs_plain.Goals as goal
 
 pub loop-i-init : goal.loop-i-init

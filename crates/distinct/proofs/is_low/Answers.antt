@@ -1,7 +1,6 @@
 use native.Mathlib.Omega.{arith}
 use Rattle.base.proofs.Truth.{truth}
 use Rattle.distinct.proofs.NeedLaws.{low_is}
-use borrow.Author.Rules.{rules}
 use Rattle.distinct.proofs.is_low.Goals as goal
 
 pub returns : goal.returns

@@ -1,8 +1,6 @@
 use mathlib.Core.Path.{sym}
-use mathlib.Core.Bool.{false}
 use native.Mathlib.Omega.{arith}
 use Rattle.scope.proofs.DistinctLaws.{named_start, named_hit, named_miss}
-use borrow.Author.Rules.{rules}
 use Rattle.distinct.proofs.named_before.Goals as goal
 
 pub loop-j-init : goal.loop-j-init

@@ -1,10 +1,8 @@
 use Prim.Native.Nat.{◌-◌, ◌≤◌}
 use mathlib.Core.Path.{◌≡◌}
 use mathlib.Core.Bool.{false}
-use native.Mathlib.Omega.{arith}
 use lib.ListN.{take}
 use Rattle.scope.specs.Distinct.{named}
-use borrow.Author.Rules.{rules}
 use Rattle.distinct.proofs.named_before.Given as goal
 
 abbrev pub invariant-loop-j : goal.invariant-loop-j

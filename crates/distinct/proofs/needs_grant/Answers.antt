@@ -1,7 +1,6 @@
 use Rattle.table.proofs.FoundLaws.{global_word, global_word_lem, solver_word, solver_word_lem}
 use Rattle.distinct.proofs.NeedLaws.{needs_none, needs_free, needs_held}
 use mathlib.Core.Path.{◌∙◌, ap}
-use borrow.Author.Rules.{rules}
 use Rattle.distinct.proofs.needs_grant.Goals as goal
 
 pub returns-in_default : goal.returns-in_default

@@ -1,5 +1,4 @@
 use Rattle.distinct.proofs.NeedLaws.{plainly_counted}
-use borrow.Author.Rules.{rules}
 use Rattle.distinct.proofs.needs_of.Goals as goal
 
 pub returns-then-lits-le12 : goal.returns-then-lits-le12

@@ -3,7 +3,6 @@ use Rattle.scope.proofs.DistinctLaws.{named_most}
 use native.Mathlib.Omega.{arith}
 use Rattle.scope.specs.Distinct.{count_named, is_low}
 use Rattle.distinct.proofs.NeedLaws.{users_refused, users_range, users_told, users_fit}
-use borrow.Author.Rules.{rules}
 use Rattle.distinct.proofs.users_to_map.Goals as goal
 
 pub returns-then-out_of_range : goal.returns-then-out_of_range

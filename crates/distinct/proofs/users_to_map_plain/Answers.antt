@@ -1,7 +1,6 @@
 use Prim.Native.Nat.{◌≤◌}
 use Rattle.scope.specs.Distinct.{plain_count, is_low}
 use Rattle.distinct.proofs.NeedLaws.{users_refused, users_range, users_told, users_fit, plain_most}
-use borrow.Author.Rules.{rules}
 use Rattle.distinct.proofs.users_to_map_plain.Goals as goal
 
 pub returns-then-out_of_range : goal.returns-then-out_of_range

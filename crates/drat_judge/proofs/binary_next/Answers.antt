@@ -1,4 +1,3 @@
-use borrow.Author.Rules.{rules}
 use Rattle.drat_judge.specs.Local.{binary_next}
 use Rattle.drat_judge.proofs.binary_next.Goals as goal
 

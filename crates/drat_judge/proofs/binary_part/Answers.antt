@@ -1,5 +1,4 @@
 use native.Mathlib.Omega.{arith}
-use borrow.Author.Rules.{rules}
 use Rattle.drat.specs.declared.Format.TheVariants.{Binary}
 use Rattle.drat_judge.proofs.RunsLaws.{binary_turn}
 use Rattle.drat_judge.specs.Local.{runs_at}

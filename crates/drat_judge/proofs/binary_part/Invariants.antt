@@ -1,8 +1,6 @@
 use Prim.Native.Nat.{◌-◌, ◌≤◌}
 use mathlib.Core.Bool.{◌&&◌}
 use mathlib.Core.Path.{◌≡◌}
-use native.Mathlib.Omega.{arith}
-use borrow.Author.Rules.{rules}
 use Rattle.drat.specs.declared.Format.TheVariants.{Binary}
 use Rattle.drat_judge.specs.Local.{runs_at}
 use Rattle.drat_judge.proofs.binary_part.Given as goal

@@ -1,7 +1,6 @@
 use mathlib.Core.Bool.{Bool}
 use mathlib.Core.Path.{ap, ◌∙◌}
 use native.Mathlib.Omega.{arith}
-use borrow.Author.Rules.{rules}
 use Rattle.base.specs.Choice.{pick}
 use Rattle.drat_judge.proofs.RunsLaws.{tally_next}
 use Rattle.drat_judge.proofs.block.Goals as goal

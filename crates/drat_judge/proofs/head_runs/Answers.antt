@@ -2,7 +2,6 @@ use Prim.Native.Nat.{ℕ}
 use mathlib.Core.Bool.{◌&&◌}
 use mathlib.Core.Path.{◌≡◌, subst}
 use native.Mathlib.Omega.{arith}
-use borrow.Author.Rules.{rules}
 use Rattle.drat_judge.proofs.RunsLaws.{head_turn}
 use Rattle.drat_judge.specs.Local.{runs_at, judged}
 use Rattle.drat_judge.proofs.head_runs.Goals as goal

@@ -2,7 +2,6 @@ use mathlib.Core.Bool.{Bool, ◌&&◌}
 use mathlib.Core.Path.{ap, ◌∙◌}
 use lib.ListN.{length}
 use native.Mathlib.Omega.{arith}
-use borrow.Author.Rules.{rules}
 use Rattle.drat_judge.proofs.RunsLaws.{ended_done}
 use Rattle.drat_judge.proofs.is_judged.Goals as goal
 

@@ -1,4 +1,3 @@
-use borrow.Author.Rules.{rules}
 use Rattle.drat_judge.specs.Local.{small}
 use Rattle.drat_judge.proofs.is_small.Goals as goal
 

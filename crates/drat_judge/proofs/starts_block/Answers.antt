@@ -4,7 +4,6 @@ use mathlib.Core.Path.{ap, ◌∙◌}
 use lib.Dec.{ltb}
 use lib.ListN.{get_or}
 use native.Mathlib.Omega.{arith}
-use borrow.Author.Rules.{rules}
 use Rattle.base.specs.Choice.{pick}
 use Rattle.drat_judge.proofs.RunsLaws.{starts_next}
 use Rattle.drat_judge.proofs.starts_block.Goals as goal

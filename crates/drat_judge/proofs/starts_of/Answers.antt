@@ -2,7 +2,6 @@ use mathlib.Core.Bool.{Bool}
 use mathlib.Core.Path.{sym, ap, ◌∙◌}
 use lib.ListN.{length}
 use native.Mathlib.Omega.{arith}
-use borrow.Author.Rules.{rules}
 use Rattle.base.specs.Choice.{pick}
 use Rattle.drat_judge.proofs.RunsLaws.{starts_none, starts_first, starts_done}
 use Rattle.drat_judge.proofs.starts_of.Goals as goal

@@ -2,7 +2,6 @@ use mathlib.Core.Bool.{Bool, ◌&&◌}
 use mathlib.Core.Path.{ap, ◌∙◌}
 use lib.ListN.{length}
 use native.Mathlib.Omega.{arith}
-use borrow.Author.Rules.{rules}
 use Rattle.drat_judge.proofs.RunsLaws.{runs_out}
 use Rattle.drat_judge.specs.Local.{runs_at}
 use Rattle.drat_judge.proofs.tail_runs.Goals as goal

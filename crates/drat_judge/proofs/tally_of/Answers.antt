@@ -1,6 +1,5 @@
 use lib.ListN.{length}
 use native.Mathlib.Omega.{arith}
-use borrow.Author.Rules.{rules}
 use Rattle.drat_judge.proofs.RunsLaws.{tally_done}
 use Rattle.drat_judge.proofs.tally_of.Goals as goal
 

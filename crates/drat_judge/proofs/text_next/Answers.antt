@@ -1,4 +1,3 @@
-use borrow.Author.Rules.{rules}
 use Rattle.drat_judge.specs.Local.{text_next}
 use Rattle.drat_judge.proofs.text_next.Goals as goal
 

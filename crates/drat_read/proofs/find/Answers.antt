@@ -6,7 +6,6 @@ use Rattle.drat.specs.declared.Scanned.TheVariants.{Whole}
 use Rattle.drat_judge.proofs.CountsLaws.{counts_are}
 use Rattle.drat_read.specs.Known.{Found}
 use Rattle.drat_read.proofs.FillLaws.{ample_fits, whole_found}
-use borrow.Author.Rules.{rules}
 use Rattle.drat_read.proofs.find.Goals as goal
 
 pub returns-then-is_ample : goal.returns-then-is_ample

@@ -1,7 +1,6 @@
 use native.Mathlib.Omega.{arith}
 use Rattle.drat.proofs.Sound.{Bytes}
 use Rattle.drat_scan.proofs.ScanLaws.{end_after, first_is}
-use borrow.Author.Rules.{rules}
 use Rattle.drat_read.proofs.first_step.Goals as goal
 
 pub slice_bounds-result-count : goal.slice_bounds-result-count

@@ -1,8 +1,7 @@
-use mathlib.Core.Path.{refl, subst}
+use mathlib.Core.Path.{subst}
 use lib.ListN.{length}
 use Rattle.drat_read.specs.Known.{Found}
 use Rattle.drat_read.proofs.FillLaws.{fits_call}
-use borrow.Author.Rules.{rules}
 use Rattle.drat_read.proofs.read_proof.Goals as goal
 
 pub returns-in-Fits-clause-value : goal.returns-in-Fits-clause-value

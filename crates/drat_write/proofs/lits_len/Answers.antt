@@ -2,7 +2,6 @@ use Prim.Native.Nat.{◌<◌}
 use mathlib.Core.Path.{ap}
 use native.Mathlib.Omega.{arith}
 use lib.ListN.{length}
-use borrow.Author.Rules.{rules}
 use Rattle.drat.proofs.Steps.{numbers_next_length, numbers_done}
 use Rattle.drat_write.proofs.lits_len.Goals as goal
 

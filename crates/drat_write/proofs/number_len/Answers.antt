@@ -1,7 +1,6 @@
 use mathlib.Core.Path.{ap, ◌∙◌}
 use native.Mathlib.Omega.{arith}
 use lib.ListN.{length}
-use borrow.Author.Rules.{rules}
 use Rattle.drat.proofs.Shapes.{text_length, code_length}
 use Rattle.drat.specs.declared.Format.{Format}
 use Rattle.drat.specs.Grammar.{number}

@@ -4,7 +4,6 @@ use mathlib.Core.Path.{ap, ap₂, ◌∙◌}
 use native.Mathlib.Omega.{arith}
 use lib.Seq.{sets}
 use lib.ListN.{length}
-use borrow.Author.Rules.{rules}
 use Rattle.drat.proofs.Steps.{step_length, step_sets}
 use Rattle.drat.specs.Grammar.{numbers, ends}
 use Rattle.drat_write.proofs.put_any.Goals as goal
@@ -43,5 +42,5 @@ pub returns-clause-fills : goal.returns-clause-fills
 returns-clause-fills c =
     let a = c.args in
     c.put_end.ensures.fills ∙ ap₂ (λ (x : List ℕ) (i : ℕ). sets x i (ends a.f)) (c.put_lits-q.ensures.fills ∙ ap₂ (λ (x : List ℕ) (i : ℕ). sets x i (numbers a.f a.lits.now)) c.put_open-p.ensures.fills c.put_open-p.ensures.value)
-          (c.put_lits-q.ensures.value ∙ ap (λ (i : ℕ). i + length (numbers a.f a.lits.now)) c.put_open-p.ensures.value)
-          ∙ step_sets a.f a.k a.lits.now a.out.now a.at
+    (c.put_lits-q.ensures.value ∙ ap (λ (i : ℕ). i + length (numbers a.f a.lits.now)) c.put_open-p.ensures.value)
+    ∙ step_sets a.f a.k a.lits.now a.out.now a.at

@@ -2,7 +2,6 @@ use mathlib.Core.Path.{sym, ap, ◌∙◌}
 use native.Mathlib.Omega.{arith}
 use lib.Seq.{sets}
 use lib.ListN.{length}
-use borrow.Author.Rules.{rules}
 use Rattle.drat.proofs.Shapes.{number_code}
 use Rattle.drat_write.proofs.put_binary.Goals as goal
 

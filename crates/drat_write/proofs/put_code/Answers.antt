@@ -3,7 +3,6 @@ use native.Mathlib.Numerals.{towards_suc}
 use native.Mathlib.Omega.{arith}
 use lib.Seq.{sets}
 use lib.ListN.{length, length-set}
-use borrow.Author.Rules.{rules}
 use Rattle.drat.proofs.Shapes.{leb_1, leb_2}
 use Rattle.drat_write.proofs.put_code.Goals as goal
 

@@ -2,7 +2,6 @@ use mathlib.Core.Path.{sym, ap, ◌∙◌}
 use native.Mathlib.Omega.{arith}
 use lib.Seq.{sets}
 use lib.ListN.{length}
-use borrow.Author.Rules.{rules}
 use Rattle.drat.proofs.Shapes.{blanked_1, blanked_2, blanked_3, blanked_4}
 use Rattle.drat_write.proofs.put_decimal.Goals as goal
 

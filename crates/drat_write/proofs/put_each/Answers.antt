@@ -4,7 +4,6 @@ use mathlib.Core.Path.{sym, ap, ap₂, ◌∙◌}
 use native.Mathlib.Omega.{arith}
 use lib.Seq.{sets}
 use lib.ListN.{length, drop}
-use borrow.Author.Rules.{rules}
 use Rattle.drat.proofs.Steps.{numbers_next_length, numbers_done, numbers_sets}
 use Rattle.drat.specs.Grammar.{numbers}
 use Rattle.drat_write.proofs.put_each.Goals as goal

@@ -1,9 +1,7 @@
 use Prim.Native.Nat.{◌+◌, ◌-◌, ◌≤◌}
 use mathlib.Core.Path.{◌≡◌}
-use native.Mathlib.Omega.{arith}
 use lib.Seq.{sets}
 use lib.ListN.{length, drop}
-use borrow.Author.Rules.{rules}
 use Rattle.drat.specs.Grammar.{numbers}
 use Rattle.drat_write.proofs.put_each.Given as goal
 

@@ -1,5 +1,5 @@
 use Prim.Native.Nat.{ℕ, ◌+◌, ◌<◌}
-use mathlib.Core.Path.{◌≡◌, refl, sym, ap, ◌∙◌}
+use mathlib.Core.Path.{◌≡◌, sym, ap, ◌∙◌}
 use native.Mathlib.Omega.{arith}
 use lib.Seq.{sets}
 use lib.ListN.{length, get_or, set, drop, length-set}
@@ -7,8 +7,6 @@ use Rattle.drat.proofs.Shapes.{short_sets}
 use Rattle.drat.proofs.Steps.{numbers_done}
 use Rattle.drat.specs.Grammar.{numbers}
 use Rattle.drat.specs.declared.Format.TheVariants.{Binary}
-use borrow.Author.Rules.{rules}
-use Rattle.drat_write.proofs.put_short.Reads as reads
 use Rattle.drat_write.proofs.put_short.Goals as goal
 
 pub loop-i-preserved : goal.loop-i-preserved

@@ -1,12 +1,9 @@
 use Prim.Native.Nat.{◌+◌, ◌-◌, ◌≤◌}
-use mathlib.Core.Path.{◌≡◌, refl}
-use native.Mathlib.Omega.{arith}
+use mathlib.Core.Path.{◌≡◌}
 use lib.Seq.{sets}
 use lib.ListN.{length, drop}
 use Rattle.drat.specs.Grammar.{numbers}
 use Rattle.drat.specs.declared.Format.TheVariants.{Binary}
-use borrow.Author.Rules.{rules}
-use Rattle.drat_write.proofs.put_short.Reads as reads
 use Rattle.drat_write.proofs.put_short.Given as goal
 
 abbrev pub invariant-loop-i : goal.invariant-loop-i

@@ -1,7 +1,6 @@
 use mathlib.Core.Path.{◌∙◌}
 use native.Mathlib.Omega.{arith}
 use lib.ListN.{length-set}
-use borrow.Author.Rules.{rules}
 use Rattle.drat.proofs.Shapes.{text_length, text_place, text_sets}
 use Rattle.drat_write.proofs.put_text.Goals as goal
 

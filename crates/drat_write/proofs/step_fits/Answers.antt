@@ -2,7 +2,6 @@ use mathlib.Core.Path.{sym}
 use native.Mathlib.Omega.{arith}
 use lib.ListN.{length}
 use borrow.Author.Tests.{le-leb}
-use borrow.Author.Rules.{rules}
 use Rattle.drat.proofs.Shapes.{step_le}
 use Rattle.drat.specs.Grammar.{step_of, encode_step}
 use Rattle.drat_write.proofs.step_fits.Goals as goal

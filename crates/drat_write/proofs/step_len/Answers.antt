@@ -1,5 +1,4 @@
 use native.Mathlib.Omega.{arith}
-use borrow.Author.Rules.{rules}
 use Rattle.drat.proofs.Steps.{step_length}
 use Rattle.drat_write.proofs.step_len.Goals as goal
 

@@ -1,6 +1,4 @@
 use mathlib.Core.Path.{sym, ◌∙◌}
-use native.Mathlib.Omega.{arith}
-use borrow.Author.Rules.{rules}
 use Rattle.drat.proofs.WritingLaws.{inside}
 use Rattle.drat_write.proofs.write_clause.Goals as goal
 

@@ -1,6 +1,4 @@
 use mathlib.Core.Path.{sym, ◌∙◌}
-use native.Mathlib.Omega.{arith}
-use borrow.Author.Rules.{rules}
 use Rattle.drat.proofs.ListedLaws.{is_listed}
 use Rattle.drat_write.proofs.write_proof.Goals as goal
 
@@ -13,4 +11,4 @@ pub put_proof-e-requires-clause-listed : goal.put_proof-e-requires-clause-listed
 put_proof-e-requires-clause-listed c =
     let a = c.args in
     is_listed a.codes.now a.ends.now a.kinds.now
-          (sym c.no_proof.ensures ∙ c.if-no_proof.false)
+    (sym c.no_proof.ensures ∙ c.if-no_proof.false)

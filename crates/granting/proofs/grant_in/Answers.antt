@@ -1,5 +1,4 @@
 use Rattle.granting.proofs.GrantLaws.{grant_at_once}
-use borrow.Author.Rules.{rules}
 use Rattle.granting.proofs.grant_in.Goals as goal
 
 pub returns : goal.returns

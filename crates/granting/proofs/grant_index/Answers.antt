@@ -1,7 +1,6 @@
 use Rattle.table.proofs.FoundLaws.{solver_word, solver_word_lem}
 use mathlib.Core.Path.{ap, ◌∙◌}
 use Rattle.granting.proofs.GrantLaws.{next_asks, next_done, kept_done, reads_below}
-use borrow.Author.Rules.{rules}
 use Rattle.granting.proofs.grant_index.Goals as goal
 
 pub grant_next-requires-clause-solver_in_bounds : goal.grant_next-requires-clause-solver_in_bounds

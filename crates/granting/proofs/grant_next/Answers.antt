@@ -1,6 +1,4 @@
-use mathlib.Core.Path.{refl}
 use Rattle.scope.proofs.CursorLaws.{free_mapped}
-use borrow.Author.Rules.{rules}
 use Rattle.granting.proofs.grant_next.Goals as goal
 
 pub grant-counts-requires-clause-all_mapped : goal.grant-counts-requires-clause-all_mapped

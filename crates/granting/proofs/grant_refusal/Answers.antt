@@ -1,6 +1,5 @@
 use Rattle.granting.proofs.GrantLaws.{grant_3, below_records, grant_6, below_solvers, grant_2, grant_0}
 use native.Mathlib.Omega.{arith}
-use borrow.Author.Rules.{rules}
 use Rattle.granting.proofs.grant_refusal.Goals as goal
 
 pub returns-then-c-global : goal.returns-then-c-global

@@ -1,7 +1,6 @@
 use mathlib.Core.List.{[]}
 use Rattle.granting.proofs.GrantLaws.{grant_refused, grant_asks, grant_few, grant_done}
 use Rattle.changes.proofs.LeavesLaws.{notes_fit}
-use borrow.Author.Rules.{rules}
 use Rattle.granting.proofs.known_solver_from_global.Goals as goal
 
 pub returns-then-n-ne0 : goal.returns-then-n-ne0

@@ -1,6 +1,5 @@
 use Rattle.table.proofs.CheckLaws.{no_of}
 use Rattle.granting.proofs.GrantLaws.{grant_unsound}
-use borrow.Author.Rules.{rules}
 use Rattle.granting.proofs.solver_from_global.Goals as goal
 
 pub returns-then-not-is_sound : goal.returns-then-not-is_sound

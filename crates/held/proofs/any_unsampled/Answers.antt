@@ -1,12 +1,10 @@
 use Rattle.held.proofs.RunLaws.{asked}
 use mathlib.Core.Path.{sym, ◌∙◌}
-use mathlib.Core.Bool.{false}
 use native.Mathlib.Omega.{arith}
 use Rattle.base.specs.Bounded.{any_of}
 use Rattle.base.proofs.MemberLaws.{any_start, any_step, any_some}
 use Rattle.scope.specs.Literals.{index_of}
 use Rattle.naming.specs.Parts.{is_unsampled}
-use borrow.Author.Rules.{rules}
 use Rattle.held.proofs.any_unsampled.Goals as goal
 
 pub loop-i-init : goal.loop-i-init

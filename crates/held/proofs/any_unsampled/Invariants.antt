@@ -1,12 +1,10 @@
 use Prim.Native.Nat.{◌-◌, ◌≤◌}
 use mathlib.Core.Path.{◌≡◌}
 use mathlib.Core.Bool.{false}
-use native.Mathlib.Omega.{arith}
 use lib.ListN.{length, take}
 use Rattle.base.specs.Bounded.{any_of}
 use Rattle.scope.specs.Literals.{index_of}
 use Rattle.naming.specs.Parts.{is_unsampled}
-use borrow.Author.Rules.{rules}
 use Rattle.held.proofs.any_unsampled.Given as goal
 
 abbrev pub invariant-loop-i : goal.invariant-loop-i

@@ -1,6 +1,5 @@
 use native.Mathlib.Omega.{arith}
 use Rattle.held.proofs.RunLaws.{tried_some, tried_all}
-use borrow.Author.Rules.{rules}
 use Rattle.held.proofs.fill_held.Goals as goal
 
 pub returns-then-n-lits : goal.returns-then-n-lits

@@ -3,7 +3,6 @@ use native.Mathlib.Omega.{arith}
 use Rattle.table.proofs.FoundLaws.{solver_word, solver_word_lem}
 use Rattle.held.specs.Parts.{none}
 use Rattle.held.proofs.RunLaws.{run_more, held_small}
-use borrow.Author.Rules.{rules}
 use Rattle.held.proofs.held_lits.Goals as goal
 
 pub loop-i-init : goal.loop-i-init

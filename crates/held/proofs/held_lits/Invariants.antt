@@ -1,8 +1,6 @@
 use Prim.Native.Nat.{◌-◌}
-use native.Mathlib.Omega.{arith}
 use lib.ListN.{length}
 use Rattle.held.specs.Parts.{HeldRun}
-use borrow.Author.Rules.{rules}
 use Rattle.held.proofs.held_lits.Given as goal
 
 abbrev pub invariant-loop-i : goal.invariant-loop-i

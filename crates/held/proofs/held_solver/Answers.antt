@@ -1,7 +1,6 @@
 use mathlib.Core.Path.{◌∙◌, ap}
 use Rattle.table.proofs.FoundLaws.{global_word, global_word_lem}
 use Rattle.held.proofs.RunLaws.{held_none, held_some}
-use borrow.Author.Rules.{rules}
 use Rattle.held.proofs.held_solver.Goals as goal
 
 pub returns-in_default : goal.returns-in_default

@@ -6,13 +6,16 @@ pub loop-i-init : goal.loop-i-init
 loop-i-init t c = (record { with = λ x h. gap_start _ _ _ _ }, c.requires.none_free)
 
 pub map_up-m-requires : goal.map_up-m-requires
-map_up-m-requires t c =
-    (let l = c.loop-i-test.true in let e = c.decreases in omega arith,
-    (record {
+map_up-m-requires t c = (
+  let l = c.loop-i-test.true in let e = c.decreases in omega arith,
+  (
+    record {
       rest = c.requires.up_asks.rest;
       asks = gap_asks _ _ _ _ _ _ _ _ c.requires.up_asks.asks (c.loop-i.invariant.0.with _ c.requires.up_asks.asks) c.loop-i-test.true;
     },
-    c.loop-i.invariant.1))
+    c.loop-i.invariant.1,
+  ),
+)
 
 pub loop-i-preserved : goal.loop-i-preserved
 loop-i-preserved t c = (

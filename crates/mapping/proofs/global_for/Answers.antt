@@ -1,6 +1,5 @@
 use Rattle.mapping.proofs.FreeLaws.{for_own, for_least, for_passed}
 use native.Mathlib.Omega.{arith}
-use borrow.Author.Rules.{rules}
 use Rattle.mapping.proofs.global_for.Goals as goal
 
 pub returns-then-u-mark-clause-global_value : goal.returns-then-u-mark-clause-global_value
@@ -16,4 +15,4 @@ returns-clause-global_value c =
 pub returns-clause-none_free_2 : goal.returns-clause-none_free_2
 returns-clause-none_free_2 c =
     for_passed _ _ _
-      c.least_deleted-g.ensures
+    c.least_deleted-g.ensures

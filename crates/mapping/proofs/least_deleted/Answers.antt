@@ -1,5 +1,4 @@
 use Rattle.mapping.proofs.FreeLaws.{deleted_found, deleted_more, deleted_end}
-use borrow.Author.Rules.{rules}
 use Rattle.mapping.proofs.least_deleted.Goals as goal
 
 pub returns-then-records-i-ge36 : goal.returns-then-records-i-ge36

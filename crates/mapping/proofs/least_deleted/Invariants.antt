@@ -1,7 +1,6 @@
 use Prim.Native.Nat.{◌-◌}
 use Rattle.scope.specs.Cursor.{NoneFree}
 use Rattle.mapping.specs.Parts.{free}
-use borrow.Author.Rules.{rules}
 use Rattle.mapping.proofs.least_deleted.Given as goal
 
 abbrev pub invariant-loop-i : goal.invariant-loop-i

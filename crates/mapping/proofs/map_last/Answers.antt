@@ -1,7 +1,6 @@
 use Rattle.table.proofs.FoundLaws.{global_word, global_word_lem}
 use Rattle.mapping.proofs.GapLaws.{last_kept, last_asks, last_done}
 use mathlib.Core.Path.{◌∙◌, ap}
-use borrow.Author.Rules.{rules}
 use Rattle.mapping.proofs.map_last.Goals as goal
 
 pub map_one-requires-clause-globals_in_bounds : goal.map_one-requires-clause-globals_in_bounds
@@ -53,10 +52,10 @@ pub returns-in_default-clause-none_free_2 : goal.returns-in_default-clause-none_
 returns-in_default-clause-none_free_2 c =
     let e = global_word_lem _ _ c.global_of.ensures ∙ ap global_word c.in_default.is in
     (last_done _ _ _ _ c.requires.up_asks.asks c.requires.user_le_users e _ _ _ _ _ _ _
-          c.args.notes.now _ (c.map_one.ensures.global_value_1, (c.map_one.ensures.global_value_2 c.requires.up_asks.rest, (c.map_one.ensures.global_value_3, (c.map_one.ensures.global_value_4, (c.map_one.ensures.gu_value_1, (c.map_one.ensures.gu_value_2, (c.map_one.ensures.gu_value_3, c.map_one.ensures.gu_value_4)))))))).1
+    c.args.notes.now _ (c.map_one.ensures.global_value_1, (c.map_one.ensures.global_value_2 c.requires.up_asks.rest, (c.map_one.ensures.global_value_3, (c.map_one.ensures.global_value_4, (c.map_one.ensures.gu_value_1, (c.map_one.ensures.gu_value_2, (c.map_one.ensures.gu_value_3, c.map_one.ensures.gu_value_4)))))))).1
 
 pub returns-clause-up_leaves : goal.returns-clause-up_leaves
 returns-clause-up_leaves c =
     record {
-    with = λ x h. last_kept _ _ _ _ _ ((global_word_lem _ _ c.global_of.ensures ∙ ap global_word c.in-At.is));
-  }
+      with = λ x h. last_kept _ _ _ _ _ ((global_word_lem _ _ c.global_of.ensures ∙ ap global_word c.in-At.is));
+    }

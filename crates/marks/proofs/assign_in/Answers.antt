@@ -2,7 +2,6 @@ use native.Mathlib.Omega.{arith}
 use mathlib.Core.Path.{sym, ◌∙◌}
 use Rattle.table.proofs.FoundLaws.{global_word_lem}
 use Rattle.marks.proofs.ChangeLaws.{assign_in_unheld, assign_in_place, assign_in_9, assign_in_done}
-use borrow.Author.Rules.{rules}
 use Rattle.marks.proofs.assign_in.Goals as goal
 
 pub returns-in_default : goal.returns-in_default

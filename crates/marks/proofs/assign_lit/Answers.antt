@@ -1,7 +1,5 @@
-use mathlib.Core.Path.{refl}
 use Rattle.table.proofs.CheckLaws.{no_of}
 use Rattle.marks.proofs.ChangeLaws.{assign_1}
-use borrow.Author.Rules.{rules}
 use Rattle.marks.proofs.assign_lit.Goals as goal
 
 pub returns-then-not-is_sound : goal.returns-then-not-is_sound

@@ -2,7 +2,6 @@ use native.Mathlib.Omega.{arith}
 use mathlib.Core.Path.{sym, ◌∙◌}
 use Rattle.table.proofs.FoundLaws.{global_word_lem}
 use Rattle.marks.proofs.ChangeLaws.{mark_in_unheld, mark_in_place, mark_in_small, mark_in_done}
-use borrow.Author.Rules.{rules}
 use Rattle.marks.proofs.mark_in.Goals as goal
 
 pub returns-in_default : goal.returns-in_default

@@ -1,9 +1,7 @@
 use Rattle.modes.proofs.HiddenLaws.{hidden_at}
-use native.Mathlib.Omega.{arith}
 use Prim.Native.Nat.{◌-◌, ◌≤◌}
 use mathlib.Core.Path.{◌≡◌}
 use Rattle.base.specs.Bounded.{count}
-use borrow.Author.Rules.{rules}
 use Rattle.modes.proofs.count_hidden.Given as goal
 
 abbrev pub invariant-loop-g : goal.invariant-loop-g

@@ -1,7 +1,5 @@
 use Rattle.modes.proofs.ChangeLaws.{hide_fits, hide_room, hide_delete, hide_leaves}
 use Rattle.modes.proofs.NotesLaws.{there_live}
-use native.Mathlib.Omega.{arith}
-use borrow.Author.Rules.{rules}
 use Rattle.modes.proofs.hide.Goals as goal
 
 pub unmap-counts-requires-clause-user_in_bounds : goal.unmap-counts-requires-clause-user_in_bounds

@@ -1,6 +1,5 @@
 use native.Mathlib.Omega.{arith}
 use Rattle.modes.proofs.ObserveCallLaws.{mark_words, observe_none, observe_refused, observe_asks, observe_fits, observe_does}
-use borrow.Author.Rules.{rules}
 use Rattle.modes.proofs.known_observe_internal_vars.Goals as goal
 
 pub count_hidden-hidden-requires : goal.count_hidden-hidden-requires

@@ -1,5 +1,4 @@
 use Rattle.modes.proofs.SetModeLaws.{set_refused, set_asks, set_does}
-use borrow.Author.Rules.{rules}
 use Rattle.modes.proofs.known_set_sampling_mode.Goals as goal
 
 pub returns-then-n-ne0 : goal.returns-then-n-ne0

@@ -1,7 +1,6 @@
 use Rattle.modes.proofs.HiddenLaws.{fine_more}
 use Rattle.table.proofs.CheckLaws.{all_start}
 use native.Mathlib.Omega.{arith}
-use borrow.Author.Rules.{rules}
 use Rattle.modes.proofs.none_assumed.Goals as goal
 
 pub loop-g-init : goal.loop-g-init
@@ -9,6 +8,6 @@ loop-g-init c = (omega arith, all_start _)
 
 pub loop-g-preserved : goal.loop-g-preserved
 loop-g-preserved c = (
-      omega arith,
-      fine_more c.args.records.now _ _ _ _ c.requires c.loop-g-test.true c.is_hidden.ensures c.loop-g.invariant.1,
-    )
+  omega arith,
+  fine_more c.args.records.now _ _ _ _ c.requires c.loop-g-test.true c.is_hidden.ensures c.loop-g.invariant.1,
+)

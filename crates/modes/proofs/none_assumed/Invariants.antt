@@ -1,9 +1,7 @@
 use Rattle.modes.proofs.HiddenLaws.{fine}
-use native.Mathlib.Omega.{arith}
 use Prim.Native.Nat.{◌-◌, ◌≤◌}
 use mathlib.Core.Path.{◌≡◌}
 use Rattle.base.specs.Bounded.{all_below}
-use borrow.Author.Rules.{rules}
 use Rattle.modes.proofs.none_assumed.Given as goal
 
 abbrev pub invariant-loop-g : goal.invariant-loop-g

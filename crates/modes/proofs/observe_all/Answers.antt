@@ -13,9 +13,9 @@ observe_one-k-requires c =
 
 pub loop-g-preserved : goal.loop-g-preserved
 loop-g-preserved c = (
-      let l = c.loop-g-test.true in omega arith,
-      λ x. observing_more _ _ _ _ _ _ _ _ _ _ (c.loop-g.invariant.1 x) _ _ _ _ _ _ (c.observe_one-k.ensures.leaves x, (c.observe_one-k.ensures.users_filled x, c.observe_one-k.ensures.all_mapped)),
-    )
+  let l = c.loop-g-test.true in omega arith,
+  λ x. observing_more _ _ _ _ _ _ _ _ _ _ (c.loop-g.invariant.1 x) _ _ _ _ _ _ (c.observe_one-k.ensures.leaves x, (c.observe_one-k.ensures.users_filled x, c.observe_one-k.ensures.all_mapped)),
+)
 
 pub returns-clause-leaves : goal.returns-clause-leaves
 returns-clause-leaves c =

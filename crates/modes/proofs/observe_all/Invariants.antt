@@ -1,6 +1,4 @@
 use Rattle.modes.proofs.ObserveCallLaws.{Observing}
-use native.Mathlib.Omega.{arith}
-use mathlib.Core.Path.{refl}
 use Prim.Native.Nat.{◌-◌, ◌≤◌}
 use Rattle.changes.specs.Solvers.{Solvers, table_with}
 use Rattle.modes.proofs.observe_all.Given as goal

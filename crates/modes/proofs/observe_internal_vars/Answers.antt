@@ -1,6 +1,5 @@
 use Rattle.modes.proofs.ObserveCallLaws.{observe_unsound}
 use Rattle.table.proofs.CheckLaws.{no_of}
-use borrow.Author.Rules.{rules}
 use Rattle.modes.proofs.observe_internal_vars.Goals as goal
 
 pub returns-then-not-is_sound-clause-meets : goal.returns-then-not-is_sound-clause-meets

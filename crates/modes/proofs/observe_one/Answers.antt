@@ -1,7 +1,6 @@
 use Rattle.modes.proofs.ObserveLaws.{observe_words, stays_leaves, stays_filled, shows_leaves, shows_filled, shows_mapped, observe_one_asks, one_room}
 use Rattle.modes.proofs.ObserveLaws.{one_small}
 use native.Mathlib.Omega.{arith}
-use borrow.Author.Rules.{rules}
 use Rattle.modes.proofs.observe_one.Goals as goal
 
 pub returns-then-not-is_hidden-clause-leaves : goal.returns-then-not-is_hidden-clause-leaves
@@ -55,4 +54,4 @@ returns-clause-all_mapped c =
     let test = c.is_hidden.ensures in
     let hidden = c.if-not-is_hidden.false in
     shows_mapped _ _ _ _ _ asks _ test hidden _ _ _ _ _ _ _ c.show-p.ensures.user_value (c.show-p.ensures.leaves _)
-            (omega arith)
+    (omega arith)

@@ -1,5 +1,4 @@
 use Rattle.modes.proofs.ObserveCallLaws.{mark_words, observe_7, observe_2, observe_0}
-use borrow.Author.Rules.{rules}
 use Rattle.modes.proofs.observe_refusal.Goals as goal
 
 pub none_assumed-requires : goal.none_assumed-requires

@@ -1,6 +1,5 @@
 use Rattle.modes.proofs.SetModeLaws.{same_does, set_fits, hide_is, hide_asks, hide_does, show_is, show_asks, show_does, change_asks, change_does}
 use Rattle.modes.proofs.NotesLaws.{there_live}
-use borrow.Author.Rules.{rules}
 use Rattle.modes.proofs.set_mode.Goals as goal
 
 pub returns-then-was-m : goal.returns-then-was-m

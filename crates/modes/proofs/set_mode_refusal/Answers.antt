@@ -1,5 +1,4 @@
 use Rattle.modes.proofs.SetModeLaws.{below_words, set_3, set_6, set_7, set_2, set_0}
-use borrow.Author.Rules.{rules}
 use Rattle.modes.proofs.set_mode_refusal.Goals as goal
 
 pub returns-then-c-global : goal.returns-then-c-global

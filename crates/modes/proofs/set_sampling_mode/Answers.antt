@@ -1,6 +1,5 @@
 use Rattle.modes.proofs.SetModeLaws.{set_unsound}
 use Rattle.table.proofs.CheckLaws.{no_of}
-use borrow.Author.Rules.{rules}
 use Rattle.modes.proofs.set_sampling_mode.Goals as goal
 
 pub returns-then-not-is_sound : goal.returns-then-not-is_sound

@@ -1,7 +1,5 @@
 use Rattle.modes.proofs.ChangeLaws.{show_fits, show_leaves}
 use Rattle.modes.proofs.NotesLaws.{there_live}
-use native.Mathlib.Omega.{arith}
-use borrow.Author.Rules.{rules}
 use Rattle.modes.proofs.show.Goals as goal
 
 pub map-counts-requires-clause-user_in_bounds : goal.map-counts-requires-clause-user_in_bounds

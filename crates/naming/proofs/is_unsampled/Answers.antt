@@ -1,7 +1,6 @@
 use Rattle.table.proofs.FoundLaws.{global_word, global_word_lem}
 use Rattle.naming.proofs.SampledLaws.{inside_below, unsampled_none, unsampled_some}
 use mathlib.Core.Path.{◌∙◌, ap}
-use borrow.Author.Rules.{rules}
 use Rattle.naming.proofs.is_unsampled.Goals as goal
 
 pub returns-in_default : goal.returns-in_default

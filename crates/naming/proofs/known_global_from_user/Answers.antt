@@ -1,7 +1,6 @@
 use Rattle.naming.proofs.CallLaws.{map_refused, map_asks, map_few, map_done}
 use Rattle.mapping.proofs.GapLaws.{up_asks, up_leaves}
 use Rattle.changes.proofs.LeavesLaws.{notes_fit}
-use borrow.Author.Rules.{rules}
 use Rattle.naming.proofs.known_global_from_user.Goals as goal
 
 pub returns-then-n-ne0 : goal.returns-then-n-ne0

@@ -1,7 +1,6 @@
 use Rattle.naming.proofs.CallLaws.{new_refused, new_asks, found_asks, found_low, map_few, new_done}
 use Rattle.mapping.proofs.GapLaws.{up_asks, up_leaves}
 use Rattle.changes.proofs.LeavesLaws.{notes_fit}
-use borrow.Author.Rules.{rules}
 use Rattle.naming.proofs.known_new_user_var.Goals as goal
 
 pub returns-then-n-ne0 : goal.returns-then-n-ne0

@@ -2,7 +2,6 @@ use Rattle.table.proofs.FoundLaws.{global_word, global_word_lem}
 use Rattle.naming.proofs.InLaws.{in_unmapped, in_outside, in_unsampled, in_free, in_sampled}
 use mathlib.Core.Path.{◌∙◌, ap}
 use native.Mathlib.Omega.{arith}
-use borrow.Author.Rules.{rules}
 use Rattle.naming.proofs.map_in.Goals as goal
 
 pub returns-in_default : goal.returns-in_default

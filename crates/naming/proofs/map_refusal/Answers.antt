@@ -1,7 +1,6 @@
 use Rattle.mapping.proofs.GapLaws.{user_small}
 use Rattle.naming.proofs.CallLaws.{all_inside, map_counts_lem, map_3, map_4, map_5, map_2, map_0}
 use native.Mathlib.Omega.{arith}
-use borrow.Author.Rules.{rules}
 use Rattle.naming.proofs.map_refusal.Goals as goal
 
 pub returns-then-c-user : goal.returns-then-c-user

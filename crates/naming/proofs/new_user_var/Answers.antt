@@ -1,6 +1,5 @@
 use Rattle.table.proofs.CheckLaws.{no_of}
 use Rattle.naming.proofs.CallLaws.{new_unsound}
-use borrow.Author.Rules.{rules}
 use Rattle.naming.proofs.new_user_var.Goals as goal
 
 pub returns-then-not-is_sound : goal.returns-then-not-is_sound

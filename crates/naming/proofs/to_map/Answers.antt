@@ -1,7 +1,6 @@
 use Rattle.table.proofs.FoundLaws.{global_word, global_word_lem}
 use Rattle.scope.proofs.ResultLaws.{word_none, word_some}
 use mathlib.Core.Path.{sym, ◌∙◌, ap}
-use borrow.Author.Rules.{rules}
 use Rattle.naming.proofs.to_map.Goals as goal
 
 pub returns-in_default : goal.returns-in_default

@@ -1,7 +1,5 @@
 use Rattle.removal.specs.Counting.{NotesCounted}
-use native.Mathlib.Omega.{arith}
 use Prim.Native.Nat.{◌*◌, ◌-◌, ◌≤◌}
-use borrow.Author.Rules.{rules}
 use Rattle.removal.proofs.count_notes.Given as goal
 
 abbrev pub invariant-loop-s : goal.invariant-loop-s

@@ -1,6 +1,5 @@
 use Rattle.removal.proofs.RemoveLaws.{removable, never_nothing, held_asks, held_fits, remove_does, remove_refused}
 use mathlib.Core.Path.{sym, ◌∙◌}
-use borrow.Author.Rules.{rules}
 use Rattle.removal.proofs.known_remove_solver_var.Goals as goal
 
 pub returns-then-n-ne0 : goal.returns-then-n-ne0

@@ -1,5 +1,4 @@
 use Rattle.removal.proofs.SweepCallLaws.{sweep_refused, all_asks, all_fits, sweep_does}
-use borrow.Author.Rules.{rules}
 use Rattle.removal.proofs.known_sweep.Goals as goal
 
 pub returns-then-n-ne0 : goal.returns-then-n-ne0

@@ -1,6 +1,5 @@
 use Rattle.removal.proofs.SweepOneLaws.{learnt_none, learnt_some, learnt_small}
 use native.Mathlib.Omega.{arith}
-use borrow.Author.Rules.{rules}
 use Rattle.removal.proofs.learnt_record.Goals as goal
 
 pub returns-then-v-eq0-clause-value : goal.returns-then-v-eq0-clause-value

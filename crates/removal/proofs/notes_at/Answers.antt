@@ -1,7 +1,6 @@
 use Rattle.removal.proofs.SweepOneLaws.{notes_none, notes_kept, notes_removed}
 use Rattle.table.proofs.FoundLaws.{global_word_lem}
 use mathlib.Core.Path.{sym, ◌∙◌}
-use borrow.Author.Rules.{rules}
 use Rattle.removal.proofs.notes_at.Goals as goal
 
 pub returns-in_default : goal.returns-in_default

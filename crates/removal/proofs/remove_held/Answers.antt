@@ -2,7 +2,6 @@ use Rattle.removal.proofs.RemoveLaws.{remove_room, remove_asks, remove_leaves}
 use native.Mathlib.Omega.{arith}
 use mathlib.Core.List.{[]}
 use Rattle.scope.specs.Table.{table_of}
-use borrow.Author.Rules.{rules}
 use Rattle.removal.proofs.remove_held.Goals as goal
 
 pub put_note-requires-clause-at_in_bounds : goal.put_note-requires-clause-at_in_bounds

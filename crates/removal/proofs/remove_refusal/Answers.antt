@@ -1,9 +1,7 @@
 use native.Mathlib.Omega.{arith}
 use borrow.Author.Tests.{eq-eqb, ne_eqb}
-use Rattle.base.proofs.Truth.{truth, false_of}
 use Rattle.removal.proofs.RefusalLaws.{remove_unheld, remove_reads, remove_16, remove_2, remove_0}
 use mathlib.Core.Path.{refl, sym, ◌∙◌}
-use borrow.Author.Rules.{rules}
 use Rattle.removal.proofs.remove_refusal.Goals as goal
 
 pub returns-in_default : goal.returns-in_default

@@ -1,6 +1,5 @@
 use Rattle.removal.proofs.RemoveLaws.{remove_unsound}
 use Rattle.table.proofs.CheckLaws.{no_of}
-use borrow.Author.Rules.{rules}
 use Rattle.removal.proofs.remove_solver_var.Goals as goal
 
 pub returns-then-not-is_sound : goal.returns-then-not-is_sound

@@ -13,10 +13,10 @@ sweep_one-p-requires c =
 
 pub loop-s-preserved : goal.loop-s-preserved
 loop-s-preserved c = (
-      let l = c.loop-s-test.true in omega arith,
-      λ gu. sweep_turn _ _ _ _ _ _ _ _ _ (c.loop-s.invariant.1 gu)
-          (c.sweep_one-p.ensures gu),
-    )
+  let l = c.loop-s-test.true in omega arith,
+  λ gu. sweep_turn _ _ _ _ _ _ _ _ _ (c.loop-s.invariant.1 gu)
+      (c.sweep_one-p.ensures gu),
+)
 
 pub returns : goal.returns
 returns c =

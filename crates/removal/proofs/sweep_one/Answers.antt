@@ -1,7 +1,6 @@
 use Rattle.removal.proofs.SweepOneLaws.{learn_asks, one_none, one_kept, one_asks, one_removed}
 use Rattle.table.proofs.FoundLaws.{global_word_lem}
 use mathlib.Core.Path.{sym, ◌∙◌}
-use borrow.Author.Rules.{rules}
 use Rattle.removal.proofs.sweep_one.Goals as goal
 
 pub returns-in_default : goal.returns-in_default

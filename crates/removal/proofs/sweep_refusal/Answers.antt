@@ -5,7 +5,6 @@ use Rattle.scope.proofs.SoundLaws.{sound_of}
 use Rattle.removal.proofs.SweepLaws.{swept_end}
 use Rattle.removal.proofs.SweepOneLaws.{readable}
 use Rattle.removal.proofs.HeldLaws.{holding_of}
-use borrow.Author.Rules.{rules}
 use Rattle.removal.proofs.sweep_refusal.Goals as goal
 
 pub count_notes-n-requires-clause-mark_bound : goal.count_notes-n-requires-clause-mark_bound

@@ -1,5 +1,4 @@
 use Rattle.scope.proofs.CursorLaws.{free_found, free_end}
-use borrow.Author.Rules.{rules}
 use Rattle.scope.proofs.least_free.Goals as goal
 
 pub returns-then-xs-i-eq0 : goal.returns-then-xs-i-eq0

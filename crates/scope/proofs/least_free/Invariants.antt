@@ -1,6 +1,5 @@
 use Prim.Native.Nat.{◌-◌}
 use Rattle.scope.specs.Cursor.{AllMapped}
-use borrow.Author.Rules.{rules}
 use Rattle.scope.proofs.least_free.Given as goal
 
 abbrev pub invariant-loop-i : goal.invariant-loop-i

@@ -1,10 +1,4 @@
 use Rattle.scope.proofs.BiMapLaws.{put_refused, put_done}
-use native.Mathlib.Omega.{arith}
-use borrow.Author.Rules.{rules}
-use Rattle.scope.proofs.put_pair.Reads as reads
-use Rattle.scope.proofs.cover.Reads as cover-reads
-use Rattle.scope.proofs.index_in.Reads as index-in-reads
-use Rattle.scope.proofs.link.Reads as link-reads
 use Rattle.scope.proofs.put_pair.Goals as goal
 
 pub returns-then-not-i-c : goal.returns-then-not-i-c

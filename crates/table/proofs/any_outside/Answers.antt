@@ -4,7 +4,6 @@ use lib.Dec.{leb}
 use Rattle.base.proofs.MemberLaws.{any_start}
 use Rattle.scope.specs.Literals.{index_of}
 use Rattle.table.proofs.CheckLaws.{any_on}
-use borrow.Author.Rules.{rules}
 use Rattle.table.proofs.any_outside.Goals as goal
 
 pub loop-i-init : goal.loop-i-init

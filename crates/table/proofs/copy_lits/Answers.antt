@@ -1,7 +1,6 @@
 use mathlib.Core.Path.{refl}
 use native.Mathlib.Omega.{arith}
 use Rattle.base.proofs.StoreLaws.{copy_next}
-use borrow.Author.Rules.{rules}
 use Rattle.table.proofs.copy_lits.Goals as goal
 
 pub loop-i-preserved : goal.loop-i-preserved

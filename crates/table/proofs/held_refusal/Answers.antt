@@ -1,6 +1,5 @@
 use Rattle.table.proofs.FoundLaws.{unheld_8, held_0}
 use mathlib.Core.Path.{sym, ◌∙◌}
-use borrow.Author.Rules.{rules}
 use Rattle.table.proofs.held_refusal.Goals as goal
 
 pub returns-in_default : goal.returns-in_default

@@ -1,5 +1,4 @@
 use Rattle.scope.proofs.WordLaws.{found_none, found_some}
-use borrow.Author.Rules.{rules}
 use Rattle.table.proofs.holder.Goals as goal
 
 pub returns-then-w-eq0 : goal.returns-then-w-eq0

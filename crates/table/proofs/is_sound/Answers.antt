@@ -1,7 +1,6 @@
 use Rattle.scope.proofs.SoundLaws.{sizes_of}
 use Rattle.table.proofs.CheckLaws.{yes_of, no_sizes, no_marks, no_tails, no_pairs, pairs_is, tails_is, sound_is}
 use native.Mathlib.Omega.{arith}
-use borrow.Author.Rules.{rules}
 use Rattle.table.proofs.is_sound.Goals as goal
 
 pub returns-then-not-sizes_ok : goal.returns-then-not-sizes_ok

@@ -1,7 +1,6 @@
 use native.Mathlib.Omega.{arith}
 use Rattle.scope.specs.Lookup.{assignment_word_of}
 use Rattle.var_map.proofs.LookupLaws.{no_word, a_word, same_word}
-use borrow.Author.Rules.{rules}
 use Rattle.var_map.proofs.assignment_in.Goals as goal
 
 pub returns-then-mark-solver : goal.returns-then-mark-solver

@@ -1,8 +1,6 @@
 use lib.ListN.{length}
 use Rattle.var_map.proofs.OpenLaws.{Blanked}
-use native.Mathlib.Omega.{arith}
 use Prim.Native.Nat.{◌-◌}
-use borrow.Author.Rules.{rules}
 use Rattle.var_map.proofs.blank.Given as goal
 
 abbrev pub invariant-loop-i : goal.invariant-loop-i

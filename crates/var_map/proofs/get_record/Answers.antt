@@ -1,8 +1,6 @@
-use mathlib.Core.Path.{refl}
 use Rattle.scope.specs.Lookup.{record_word_of}
 use Rattle.table.proofs.CheckLaws.{no_of}
 use Rattle.var_map.proofs.LookupLaws.{lookup_1}
-use borrow.Author.Rules.{rules}
 use Rattle.var_map.proofs.get_record.Goals as goal
 
 pub returns-then-not-is_sound : goal.returns-then-not-is_sound

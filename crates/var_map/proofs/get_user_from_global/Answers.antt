@@ -1,8 +1,6 @@
-use mathlib.Core.Path.{refl}
 use Rattle.scope.specs.Lookup.{user_from_global_of}
 use Rattle.table.proofs.CheckLaws.{no_of}
 use Rattle.var_map.proofs.LookupLaws.{lookup_1}
-use borrow.Author.Rules.{rules}
 use Rattle.var_map.proofs.get_user_from_global.Goals as goal
 
 pub returns-then-not-is_sound : goal.returns-then-not-is_sound

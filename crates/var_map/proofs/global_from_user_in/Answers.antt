@@ -3,7 +3,6 @@ use Rattle.scope.specs.Lookup.{global_from_user_of}
 use Rattle.scope.proofs.SoundLaws.{sound_of}
 use Rattle.table.proofs.FoundLaws.{global_word_lem}
 use Rattle.var_map.proofs.LookupLaws.{in_none, in_one}
-use borrow.Author.Rules.{rules}
 use Rattle.var_map.proofs.global_from_user_in.Goals as goal
 
 pub returns-in_default : goal.returns-in_default

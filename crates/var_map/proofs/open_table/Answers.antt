@@ -1,5 +1,4 @@
 use Rattle.var_map.proofs.OpenLaws.{refused_10, opened_empty}
-use borrow.Author.Rules.{rules}
 use Rattle.var_map.proofs.open_table.Goals as goal
 
 pub returns-then-not-sizes_ok : goal.returns-then-not-sizes_ok

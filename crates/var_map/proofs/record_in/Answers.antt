@@ -1,7 +1,6 @@
 use native.Mathlib.Omega.{arith}
 use Rattle.scope.specs.Lookup.{record_word_of}
 use Rattle.var_map.proofs.LookupLaws.{no_word, a_word, record_word_lem}
-use borrow.Author.Rules.{rules}
 use Rattle.var_map.proofs.record_in.Goals as goal
 
 pub returns-then-mark-global : goal.returns-then-mark-global

@@ -3,7 +3,6 @@ use Rattle.scope.specs.Lookup.{user_from_global_of}
 use Rattle.scope.proofs.SoundLaws.{sound_of}
 use Rattle.table.proofs.FoundLaws.{user_word_lem}
 use Rattle.var_map.proofs.LookupLaws.{in_none, in_one}
-use borrow.Author.Rules.{rules}
 use Rattle.var_map.proofs.user_from_global_in.Goals as goal
 
 pub returns-in_default : goal.returns-in_default

@@ -1,4 +1,3 @@
-use borrow.Author.Rules.{rules}
 use Rattle.dimacs_judge.specs.Limits.{above}
 use Rattle.dimacs_judge.proofs.limit.is_above.Goals as goal
 

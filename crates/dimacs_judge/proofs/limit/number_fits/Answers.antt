@@ -1,4 +1,3 @@
-use borrow.Author.Rules.{rules}
 use Rattle.dimacs_judge.specs.Limits.{fits}
 use Rattle.dimacs_judge.proofs.limit.number_fits.Goals as goal
 

@@ -1,8 +1,6 @@
 use Prim.Native.Nat.{ℕ, ◌-◌, ◌≤◌, ◌<◌}
 use mathlib.Core.List.{List}
 use lib.ListN.{length}
-use native.Mathlib.Omega.{arith}
-use borrow.Author.Rules.{rules}
 use Rattle.dimacs.proofs.Turns.{Turn}
 use Rattle.dimacs_read.specs.Known.{LinesFit}
 use Rattle.dimacs_read.proofs.fill.fill.Given as goal

@@ -6,7 +6,6 @@ use Rattle.dimacs.specs.Reading.{value_from}
 use Rattle.dimacs_read.specs.Heading.{digits_at}
 use Rattle.dimacs_read.proofs.CallLaws.{starts_length}
 use Rattle.dimacs_read.proofs.HeadingLaws.{no_opening, no_first, too_large, no_blank, no_second, no_feed, head_found, capped_above, capped_small}
-use borrow.Author.Rules.{rules}
 use Rattle.dimacs_read.proofs.heading.head_at.Goals as goal
 
 pub returns-then-not-header_starts : goal.returns-then-not-header_starts

@@ -1,8 +1,6 @@
-use mathlib.Core.Path.{refl, sym, ◌∙◌}
-use mathlib.Core.Bool.{false}
+use mathlib.Core.Path.{sym, ◌∙◌}
 use native.Mathlib.Omega.{arith}
 use Rattle.dimacs_read.proofs.HeadingLaws.{place_here, place_next, place_past}
-use borrow.Author.Rules.{rules}
 use Rattle.dimacs_read.proofs.heading.header_place.Goals as goal
 
 pub returns-then-not-passes-clause-value : goal.returns-then-not-passes-clause-value

@@ -1,10 +1,8 @@
 use Prim.Native.Nat.{◌-◌, ◌≤◌}
-use mathlib.Core.Path.{◌≡◌, refl}
+use mathlib.Core.Path.{◌≡◌}
 use mathlib.Core.Bool.{false}
-use native.Mathlib.Omega.{arith}
 use lib.ListN.{length, drop}
 use Rattle.dimacs.specs.Reading.{header_place}
-use borrow.Author.Rules.{rules}
 use Rattle.dimacs_read.proofs.heading.header_place.Given as goal
 
 abbrev pub invariant-loop-i : goal.invariant-loop-i

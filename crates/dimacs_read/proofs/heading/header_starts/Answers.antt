@@ -1,6 +1,5 @@
 use mathlib.Core.Path.{sym}
 use Rattle.dimacs_read.proofs.HeadingLaws.{opens_is}
-use borrow.Author.Rules.{rules}
 use Rattle.dimacs_read.proofs.heading.header_starts.Goals as goal
 
 pub returns : goal.returns

@@ -4,7 +4,6 @@ use native.Mathlib.Omega.{arith}
 use lib.ListN.{length}
 use Rattle.dimacs_read.specs.Heading.{digits_at}
 use Rattle.dimacs_read.proofs.HeadingLaws.{proper_nought, proper_other}
-use borrow.Author.Rules.{rules}
 use Rattle.dimacs_read.proofs.heading.is_proper.Goals as goal
 
 pub returns-then-s-from-eq48 : goal.returns-then-s-from-eq48

@@ -1,6 +1,4 @@
-use native.Mathlib.Omega.{arith}
 use Rattle.dimacs_read.proofs.HeadingLaws.{run_start, run_more, run_over, run_end, no_digit_below, no_digit_above}
-use borrow.Author.Rules.{rules}
 use Rattle.dimacs_read.proofs.heading.run_at.Goals as goal
 
 pub loop-i-init : goal.loop-i-init

@@ -1,8 +1,6 @@
-use native.Mathlib.Omega.{arith}
 use Prim.Native.Nat.{◌-◌}
 use lib.ListN.{length}
 use Rattle.dimacs_read.proofs.HeadingLaws.{Running}
-use borrow.Author.Rules.{rules}
 use Rattle.dimacs_read.proofs.heading.run_at.Given as goal
 
 abbrev pub invariant-loop-i : goal.invariant-loop-i

@@ -1,7 +1,6 @@
 use mathlib.Core.List.{[]}
 use mathlib.Core.Path.{sym, ◌∙◌}
 use native.Mathlib.Omega.{arith}
-use borrow.Author.Rules.{rules}
 use Rattle.dimacs.proofs.Turns.{turn_start, turn_lit, turn_stop, turn_bad, turn_end, turn_cut, lit_moves, stop_moves}
 use Rattle.dimacs_read.proofs.lines.scan.Goals as goal
 

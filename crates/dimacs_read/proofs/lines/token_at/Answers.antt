@@ -2,7 +2,6 @@ use mathlib.Core.Path.{sym, ap, ◌∙◌}
 use native.Mathlib.Omega.{arith}
 use Rattle.dimacs.specs.Reading.{within}
 use Rattle.dimacs.proofs.LineLaws.{within_lit, within_past, within_stop, within_bad}
-use borrow.Author.Rules.{rules}
 use Rattle.dimacs_read.proofs.lines.token_at.Goals as goal
 
 pub returns-then-code-v : goal.returns-then-code-v

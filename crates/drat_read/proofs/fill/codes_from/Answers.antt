@@ -2,7 +2,6 @@ use mathlib.Core.Path.{ap, ◌∙◌}
 use lib.ListN.{length}
 use lib.Seq.{length-sets}
 use native.Mathlib.Omega.{arith}
-use borrow.Author.Rules.{rules}
 use Rattle.drat.proofs.Sound.{Bytes}
 use Rattle.drat.specs.declared.Format.TheVariants.{Binary}
 use Rattle.drat_read.proofs.BodyLaws.{filling_start, filling_inside, filling_stop, filling_lit, filling_more}

@@ -1,7 +1,5 @@
 use Prim.Native.Nat.{◌-◌}
 use lib.ListN.{length}
-use native.Mathlib.Omega.{arith}
-use borrow.Author.Rules.{rules}
 use Rattle.drat.specs.declared.Format.TheVariants.{Binary}
 use Rattle.drat_read.proofs.BodyLaws.{BodyFilling}
 use Rattle.drat_read.proofs.fill.codes_from.Given as goal

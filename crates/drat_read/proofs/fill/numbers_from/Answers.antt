@@ -7,7 +7,6 @@ use Rattle.drat.proofs.Sound.{Bytes}
 use Rattle.drat.specs.Reading.{seps}
 use Rattle.drat.specs.declared.Format.TheVariants.{Text}
 use Rattle.drat_read.proofs.BodyLaws.{BodyFilling, filling_start, filling_inside, filling_stop, filling_more, filling_number, filling_read, filling_gap}
-use borrow.Author.Rules.{rules}
 use Rattle.drat_read.proofs.fill.numbers_from.Goals as goal
 
 pub loop-at-init : goal.loop-at-init

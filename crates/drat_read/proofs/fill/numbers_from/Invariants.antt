@@ -1,9 +1,7 @@
 use Prim.Native.Nat.{◌-◌}
 use lib.ListN.{length}
-use native.Mathlib.Omega.{arith}
 use Rattle.drat.specs.declared.Format.TheVariants.{Text}
 use Rattle.drat_read.proofs.BodyLaws.{BodyFilling}
-use borrow.Author.Rules.{rules}
 use Rattle.drat_read.proofs.fill.numbers_from.Given as goal
 
 abbrev pub invariant-loop-at : goal.invariant-loop-at

@@ -1,5 +1,3 @@
-use mathlib.Core.Path.{refl}
-use native.Mathlib.Omega.{arith}
 use Rattle.drat_read.proofs.LitLaws.{gap_end, gap_more}
 use Rattle.drat_read.proofs.fill.past_gap.Goals as goal
 

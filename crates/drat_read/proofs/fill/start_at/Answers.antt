@@ -7,7 +7,6 @@ use Rattle.drat.specs.Reading.{one_step}
 use Rattle.drat.specs.declared.Format.{Format}
 use Rattle.drat_read.proofs.OpenLaws.{step_inside, text_gap, opened}
 use Rattle.drat_read.specs.Known.{IsStep, first_place}
-use borrow.Author.Rules.{rules}
 use Rattle.drat_read.proofs.fill.start_at.Goals as goal
 
 pub bounds-s-at : goal.bounds-s-at

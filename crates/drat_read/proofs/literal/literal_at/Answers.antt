@@ -1,5 +1,4 @@
 use native.Mathlib.Omega.{arith}
-use borrow.Author.Rules.{rules}
 use Rattle.drat_read.proofs.LiteralLaws.{lit_as, second_inside, third_inside, fourth_inside}
 use Rattle.drat_read.proofs.LiteralLaws.{fifth_inside, one_is, two_is, three_is, four_is, five_is}
 use Rattle.drat_read.proofs.literal.literal_at.Goals as goal

@@ -1,5 +1,4 @@
 use mathlib.Core.Path.{sym, ◌∙◌}
-use borrow.Author.Rules.{rules}
 use borrow.Author.Tests.{eq-eqb, ne_eqb}
 use Rattle.drat.proofs.At.{binary_here, token_past}
 use Rattle.drat.specs.declared.Format.TheVariants.{Binary}

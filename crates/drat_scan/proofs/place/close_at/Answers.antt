@@ -1,6 +1,5 @@
 use mathlib.Core.Path.{sym, ◌∙◌}
 use Rattle.drat.proofs.At.{close_here, close_past}
-use borrow.Author.Rules.{rules}
 use Rattle.drat_scan.proofs.place.close_at.Goals as goal
 
 pub returns-then-s-at : goal.returns-then-s-at

@@ -1,6 +1,5 @@
 use mathlib.Core.Path.{sym, ◌∙◌}
 use native.Mathlib.Omega.{arith}
-use borrow.Author.Rules.{rules}
 use borrow.Author.Tests.{eq-eqb, ne_eqb, lt-ltb, le-ltb}
 use Rattle.drat.proofs.At.{digits_here, digits_past}
 use Rattle.drat.proofs.Numerals.{is_in_range, below_range, above_range}

@@ -1,6 +1,5 @@
 use mathlib.Core.Path.{sym, ◌∙◌}
 use Rattle.drat_scan.proofs.PlaceLaws.{gap_some}
-use borrow.Author.Rules.{rules}
 use Rattle.drat_scan.proofs.place.gap_after.Goals as goal
 
 pub returns-then-is_sep : goal.returns-then-is_sep

@@ -1,6 +1,5 @@
 use mathlib.Core.Path.{sym, ◌∙◌}
 use Rattle.drat_scan.proofs.PlaceLaws.{open_none, open_some, open_not}
-use borrow.Author.Rules.{rules}
 use Rattle.drat_scan.proofs.place.gap_at.Goals as goal
 
 pub returns-then-s-at : goal.returns-then-s-at

@@ -4,7 +4,6 @@ use borrow.Author.Tests.{eq-eqb, ne_eqb}
 use Rattle.drat.proofs.At.{text_opens, binary_opens, opening_past}
 use Rattle.drat.specs.Reading.{opening}
 use Rattle.drat.specs.declared.Format.{Format}
-use borrow.Author.Rules.{rules}
 use Rattle.drat_scan.proofs.place.opening_at.Goals as goal
 
 pub returns-then-s-at : goal.returns-then-s-at

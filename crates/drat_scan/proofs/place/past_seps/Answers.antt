@@ -1,8 +1,7 @@
-use mathlib.Core.Path.{refl, sym, ◌∙◌}
+use mathlib.Core.Path.{sym, ◌∙◌}
 use native.Mathlib.Omega.{arith}
 use Rattle.drat.proofs.At.{seps_past}
 use Rattle.drat_scan.proofs.PlaceLaws.{seps_none, seps_one}
-use borrow.Author.Rules.{rules}
 use Rattle.drat_scan.proofs.place.past_seps.Goals as goal
 
 pub returns-then-not-is_sep : goal.returns-then-not-is_sep

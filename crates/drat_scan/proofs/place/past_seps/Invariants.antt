@@ -1,9 +1,7 @@
 use Prim.Native.Nat.{◌+◌, ◌-◌, ◌≤◌}
-use mathlib.Core.Path.{◌≡◌, refl}
+use mathlib.Core.Path.{◌≡◌}
 use lib.ListN.{length, drop}
-use native.Mathlib.Omega.{arith}
 use Rattle.drat.specs.Reading.{seps}
-use borrow.Author.Rules.{rules}
 use Rattle.drat_scan.proofs.place.past_seps.Given as goal
 
 abbrev pub invariant-loop-i : goal.invariant-loop-i

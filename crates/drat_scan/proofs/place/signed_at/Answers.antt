@@ -1,6 +1,4 @@
 use mathlib.Core.Path.{sym, ◌∙◌}
-use native.Mathlib.Omega.{arith}
-use borrow.Author.Rules.{rules}
 use Rattle.drat.proofs.At.{signed_past}
 use Rattle.drat_scan.proofs.PlaceLaws.{signed_digits}
 use Rattle.drat_scan.proofs.place.signed_at.Goals as goal

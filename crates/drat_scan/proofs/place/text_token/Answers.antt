@@ -7,7 +7,6 @@ use Rattle.drat.proofs.Places.{signed_moves}
 use Rattle.drat.specs.Reading.{then_gap}
 use Rattle.drat.specs.declared.Format.TheVariants.{Text}
 use Rattle.drat_scan.proofs.PlaceLaws.{text_literal}
-use borrow.Author.Rules.{rules}
 use Rattle.drat_scan.proofs.place.text_token.Goals as goal
 
 pub returns-then-s-at : goal.returns-then-s-at

@@ -1,8 +1,6 @@
 use Prim.Native.Nat.{◌-◌}
 use lib.ListN.{length}
-use native.Mathlib.Omega.{arith}
 use Rattle.drat_scan.proofs.ScanLaws.{Between, InStep}
-use borrow.Author.Rules.{rules}
 use Rattle.drat_scan.proofs.scan.scan.Given as goal
 
 abbrev pub invariant-loop-next : goal.invariant-loop-next

@@ -1,7 +1,6 @@
 use mathlib.Core.List.{[]}
 use mathlib.Core.Path.{sym, ap, ◌∙◌}
 use native.Mathlib.Omega.{arith}
-use borrow.Author.Rules.{rules}
 use Rattle.drat.proofs.Ends.{end_part, end_cons, end_step, end_whole, end_broken, end_fault, step_is}
 use Rattle.drat.proofs.Places.{body_at, lit_at, stop_at, bad_at, opens_at, wrong_at_lem}
 use Rattle.drat.proofs.Sound.{Bytes}

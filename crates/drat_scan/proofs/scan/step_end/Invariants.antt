@@ -1,8 +1,6 @@
 use Prim.Native.Nat.{◌-◌, ◌≤◌}
 use mathlib.Core.Path.{◌≡◌}
 use lib.ListN.{length}
-use native.Mathlib.Omega.{arith}
-use borrow.Author.Rules.{rules}
 use Rattle.drat.proofs.Ends.{end_part}
 use Rattle.drat.proofs.Places.{body_at, step_at}
 use Rattle.drat.specs.Filled.{end_of}

@@ -1,11 +1,9 @@
 use Prim.Native.Nat.{◌<◌}
-use mathlib.Core.Path.{refl, sym, ap, ◌∙◌}
+use mathlib.Core.Path.{sym, ap, ◌∙◌}
 use native.Mathlib.Omega.{arith}
 use mathlib.Core.Bool.{Bool, ◌&&◌}
 use lib.ListN.{length}
 use Rattle.drat.proofs.ListedLaws.{rises_more, rises_done}
-use borrow.Author.Rules.{rules}
-use Rattle.drat_write.proofs.proof.ends_rise.Reads as reads
 use Rattle.drat_write.proofs.proof.ends_rise.Goals as goal
 
 pub loop-i-preserved : goal.loop-i-preserved

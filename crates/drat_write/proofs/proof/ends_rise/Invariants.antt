@@ -1,11 +1,8 @@
 use Prim.Native.Nat.{◌-◌, ◌≤◌}
-use mathlib.Core.Path.{◌≡◌, refl}
-use native.Mathlib.Omega.{arith}
+use mathlib.Core.Path.{◌≡◌}
 use mathlib.Core.Bool.{◌&&◌}
 use lib.ListN.{length, drop}
 use Rattle.drat.specs.Listed.{rises_to}
-use borrow.Author.Rules.{rules}
-use Rattle.drat_write.proofs.proof.ends_rise.Reads as reads
 use Rattle.drat_write.proofs.proof.ends_rise.Given as goal
 
 abbrev pub invariant-loop-i : goal.invariant-loop-i

@@ -6,11 +6,6 @@ use Rattle.drat.proofs.ListedLaws.{frames_next, frames_done}
 use Rattle.drat.proofs.Steps.{opens_le, ends_le}
 use Rattle.drat.specs.Grammar.{opens}
 use Rattle.drat.specs.declared.Kind.{Kind}
-use borrow.Author.Rules.{rules}
-use Rattle.drat_write.proofs.proof.frames_len.Reads as reads
-use Rattle.drat_write.proofs.end_len.Reads as end-len-reads
-use Rattle.drat_write.proofs.open_len.Reads as open-len-reads
-use Rattle.drat_write.proofs.proof.kind_in.Reads as kind-in-reads
 use Rattle.drat_write.proofs.proof.frames_len.Goals as goal
 
 pub loop-i-preserved : goal.loop-i-preserved

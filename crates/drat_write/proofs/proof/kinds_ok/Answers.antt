@@ -1,5 +1,4 @@
 use native.Mathlib.Omega.{arith}
-use borrow.Author.Rules.{rules}
 use Rattle.drat.proofs.WritingLaws.{test_none, test_more}
 use Rattle.drat_write.proofs.proof.kinds_ok.Goals as goal
 

@@ -3,9 +3,6 @@ use mathlib.Core.Path.{ap}
 use native.Mathlib.Omega.{arith}
 use lib.ListN.{length}
 use Rattle.drat.proofs.Steps.{numbers_next_length, numbers_done}
-use borrow.Author.Rules.{rules}
-use Rattle.drat_write.proofs.proof.numbers_len.Reads as reads
-use Rattle.drat_write.proofs.number_len.Reads as number-len-reads
 use Rattle.drat_write.proofs.proof.numbers_len.Goals as goal
 
 pub loop-i-preserved : goal.loop-i-preserved

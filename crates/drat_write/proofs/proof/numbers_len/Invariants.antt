@@ -1,11 +1,7 @@
 use Prim.Native.Nat.{◌+◌, ◌-◌, ◌*◌, ◌≤◌}
 use mathlib.Core.Path.{◌≡◌}
-use native.Mathlib.Omega.{arith}
 use lib.ListN.{length, drop}
 use Rattle.drat.specs.Grammar.{numbers}
-use borrow.Author.Rules.{rules}
-use Rattle.drat_write.proofs.proof.numbers_len.Reads as reads
-use Rattle.drat_write.proofs.number_len.Reads as number-len-reads
 use Rattle.drat_write.proofs.proof.numbers_len.Given as goal
 
 abbrev pub invariant-loop-i : goal.invariant-loop-i

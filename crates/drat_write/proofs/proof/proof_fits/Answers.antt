@@ -4,7 +4,6 @@ use native.Mathlib.Omega.{arith}
 use lib.Dec.{leb}
 use lib.ListN.{length}
 use borrow.Author.Tests.{le-leb}
-use borrow.Author.Rules.{rules}
 use Rattle.drat.proofs.ListedLaws.{listed_length, listed_le}
 use Rattle.drat.specs.Grammar.{encode}
 use Rattle.drat.specs.Listed.{listed}

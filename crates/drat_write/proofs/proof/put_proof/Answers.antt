@@ -1,6 +1,6 @@
 use Prim.Native.Nat.{ℕ, ◌+◌, ◌<◌}
 use mathlib.Core.List.{List}
-use mathlib.Core.Path.{refl, sym, ap, ap₂, ◌∙◌}
+use mathlib.Core.Path.{sym, ap, ap₂, ◌∙◌}
 use native.Mathlib.Omega.{arith}
 use lib.Seq.{sets}
 use lib.ListN.{length, get_or, drop}
@@ -9,10 +9,6 @@ use Rattle.drat.specs.Grammar.{step_of, encode_step, encode}
 use Rattle.drat.specs.Writing.{part}
 use Rattle.drat.specs.Listed.{listed}
 use Rattle.drat.specs.declared.Kind.{Kind}
-use borrow.Author.Rules.{rules}
-use Rattle.drat_write.proofs.proof.put_proof.Reads as reads
-use Rattle.drat_write.proofs.proof.kind_in.Reads as kind-in-reads
-use Rattle.drat_write.proofs.put_step.Reads as put-step-reads
 use Rattle.drat_write.proofs.proof.put_proof.Goals as goal
 
 pub offset_bounds-codes-a : goal.offset_bounds-codes-a

@@ -1,15 +1,10 @@
 use Prim.Native.Nat.{◌+◌, ◌-◌, ◌≤◌}
-use mathlib.Core.Path.{◌≡◌, refl}
+use mathlib.Core.Path.{◌≡◌}
 use mathlib.Core.Bool.{true}
-use native.Mathlib.Omega.{arith}
 use lib.Seq.{sets}
 use lib.ListN.{length, drop}
 use Rattle.drat.specs.Grammar.{encode}
 use Rattle.drat.specs.Listed.{listed, rises_to}
-use borrow.Author.Rules.{rules}
-use Rattle.drat_write.proofs.proof.put_proof.Reads as reads
-use Rattle.drat_write.proofs.proof.kind_in.Reads as kind-in-reads
-use Rattle.drat_write.proofs.put_step.Reads as put-step-reads
 use Rattle.drat_write.proofs.proof.put_proof.Given as goal
 
 abbrev pub invariant-loop-i : goal.invariant-loop-i

@@ -4,7 +4,6 @@ use Rattle.scope.proofs.BiMapLaws.{insert_done}
 use Rattle.scope.proofs.CountsLaws.{solver_covered}
 use Rattle.scope.proofs.StoredLaws.{granted_is, grant_from}
 use native.Mathlib.Omega.{arith}
-use borrow.Author.Rules.{rules}
 use Rattle.scope.proofs.Counts.grant.Goals as goal
 
 pub least_free-requires-clause-all_mapped : goal.least_free-requires-clause-all_mapped

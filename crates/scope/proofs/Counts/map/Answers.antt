@@ -1,6 +1,6 @@
 use lib.ListN.{get_or}
 use Prim.Native.Nat.{ℕ, ◌+◌}
-use mathlib.Core.Path.{◌∙◌, ap, refl}
+use mathlib.Core.Path.{◌∙◌, ap}
 use Rattle.base.specs.Choice.{pick}
 use Rattle.base.proofs.MemberLaws.{get_d_default}
 use Rattle.scope.specs.declared.Name.TheVariants.{User}
@@ -8,7 +8,6 @@ use Rattle.scope.specs.Table.{is_deleted}
 use Rattle.scope.proofs.BiMapLaws.{insert_done}
 use Rattle.scope.proofs.CountsLaws.{user_covered}
 use Rattle.scope.proofs.StoredLaws.{mapped_is}
-use borrow.Author.Rules.{rules}
 use Rattle.scope.proofs.Counts.map.Goals as goal
 
 pub returns-clause-value : goal.returns-clause-value
@@ -20,7 +19,7 @@ returns-clause-value c =
     let w = get_or e.records.now e.global.0 47 in
     let u = c.used_with-used.ensures in
     mapped_is e.self _ e.user.0 e.global.0 w _ (p.counts ∙ user_covered _ e.user e.global.0)
-          (u ∙ ap (λ (w : ℕ). e.self.used + pick (is_deleted w) 1 0) (get_d_default e.records.now e.global.0 0 47 c.requires.global_in_bounds_2))
+    (u ∙ ap (λ (w : ℕ). e.self.used + pick (is_deleted w) 1 0) (get_d_default e.records.now e.global.0 0 47 c.requires.global_in_bounds_2))
 
 pub returns-clause-gu_value : goal.returns-clause-gu_value
 returns-clause-gu_value c =

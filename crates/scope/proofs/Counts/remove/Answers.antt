@@ -1,6 +1,5 @@
 use native.Mathlib.Omega.{arith}
 use Rattle.scope.proofs.StoredLaws.{removed_is}
-use borrow.Author.Rules.{rules}
 use Rattle.scope.proofs.Counts.remove.Goals as goal
 
 pub returns-clause-value : goal.returns-clause-value

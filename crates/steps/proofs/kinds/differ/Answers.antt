@@ -1,5 +1,4 @@
 use Rattle.steps.proofs.KindLaws.{differ_is}
-use borrow.Author.Rules.{rules}
 use Rattle.steps.proofs.kinds.differ.Goals as goal
 
 pub returns : goal.returns

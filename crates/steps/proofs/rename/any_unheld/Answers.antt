@@ -7,7 +7,6 @@ use Rattle.scope.specs.Literals.{index_of}
 use mathlib.Core.Path.{sym, ◌∙◌}
 use native.Mathlib.Omega.{arith}
 use Rattle.base.proofs.MemberLaws.{any_start, any_step, any_some}
-use borrow.Author.Rules.{rules}
 use Rattle.steps.proofs.rename.any_unheld.Goals as goal
 
 pub loop-i-init : goal.loop-i-init

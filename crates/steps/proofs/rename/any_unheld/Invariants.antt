@@ -4,9 +4,7 @@ use Rattle.scope.specs.Literals.{index_of}
 use Prim.Native.Nat.{◌≤◌, ◌-◌}
 use mathlib.Core.Bool.{false}
 use mathlib.Core.Path.{◌≡◌}
-use native.Mathlib.Omega.{arith}
 use Rattle.base.specs.Bounded.{any_of}
-use borrow.Author.Rules.{rules}
 use Rattle.steps.proofs.rename.any_unheld.Given as goal
 
 abbrev pub invariant-loop-i : goal.invariant-loop-i

@@ -1,9 +1,7 @@
-use mathlib.Core.Bool.{false}
 use mathlib.Core.Path.{sym}
 use native.Mathlib.Omega.{arith}
 use Rattle.base.proofs.MemberLaws.{any_start, any_step, any_some}
 use Rattle.steps.proofs.LiteralLaws.{lacks, lacks_by}
-use borrow.Author.Rules.{rules}
 use Rattle.steps.proofs.rename.any_unnamed.Goals as goal
 
 pub loop-i-init : goal.loop-i-init
@@ -16,7 +14,7 @@ returns-then-w c =
 
 pub loop-i-preserved : goal.loop-i-preserved
 loop-i-preserved c = (
-      omega arith,
-      any_step (lacks c.args.gs.now) _ _ _ c.loop-i-test.true c.loop-i.invariant.1
-          (lacks_by c.args.gs.now _ _ _ c.word_at-w.ensures c.if-w.false),
-    )
+  omega arith,
+  any_step (lacks c.args.gs.now) _ _ _ c.loop-i-test.true c.loop-i.invariant.1
+      (lacks_by c.args.gs.now _ _ _ c.word_at-w.ensures c.if-w.false),
+)

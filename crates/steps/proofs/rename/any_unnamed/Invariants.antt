@@ -3,8 +3,6 @@ use lib.ListN.{length, take}
 use Prim.Native.Nat.{◌≤◌, ◌-◌}
 use mathlib.Core.Bool.{false}
 use mathlib.Core.Path.{◌≡◌}
-use native.Mathlib.Omega.{arith}
-use borrow.Author.Rules.{rules}
 use Rattle.steps.proofs.rename.any_unnamed.Given as goal
 
 abbrev pub invariant-loop-i : goal.invariant-loop-i

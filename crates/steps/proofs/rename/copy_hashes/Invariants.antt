@@ -1,9 +1,7 @@
 use Prim.Native.Nat.{◌≤◌, ◌-◌}
 use lib.ListN.{length}
-use mathlib.Core.Path.{◌≡◌, refl}
-use native.Mathlib.Omega.{arith}
+use mathlib.Core.Path.{◌≡◌}
 use Rattle.base.proofs.StoreLaws.{copied}
-use borrow.Author.Rules.{rules}
 use Rattle.steps.proofs.rename.copy_hashes.Given as goal
 
 abbrev pub invariant-loop-i : goal.invariant-loop-i

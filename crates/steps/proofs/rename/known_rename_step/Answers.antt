@@ -1,6 +1,5 @@
 use Rattle.steps.proofs.StepLaws.{carried_by, rename_clear, step_nameable, literals_fit, hashes_fit}
 use Rattle.steps.proofs.RenameLaws.{rename_refused, rename_done}
-use borrow.Author.Rules.{rules}
 use Rattle.steps.proofs.rename.known_rename_step.Goals as goal
 
 pub returns-then-n-ne0-clause-meets : goal.returns-then-n-ne0-clause-meets

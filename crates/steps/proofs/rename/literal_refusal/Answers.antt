@@ -1,6 +1,5 @@
 use Rattle.steps.proofs.LiteralLaws.{refuse_many, refuse_beyond, pass_global, refuse_unheld, pass_solver}
 use mathlib.Core.Path.{sym, ◌∙◌}
-use borrow.Author.Rules.{rules}
 use Rattle.steps.proofs.rename.literal_refusal.Goals as goal
 
 pub returns-then-lits-gt8192 : goal.returns-then-lits-gt8192

@@ -1,6 +1,5 @@
 use mathlib.Core.Path.{sym, ◌∙◌}
 use Rattle.steps.proofs.RenameLaws.{alone_many, alone_unheld, alone_short, alone_done}
-use borrow.Author.Rules.{rules}
 use Rattle.steps.proofs.rename.rename_in.Goals as goal
 
 pub returns-then-lits-gt8192 : goal.returns-then-lits-gt8192
@@ -22,7 +21,6 @@ returns-then-out-lits c = λ t step k h g r u.
 
 pub returns : goal.returns
 returns c = λ t step k h g r u.
-    
     let a = c.args in
     alone_done t step k a.gs.now a.lits.now a.out.now h g r u _ c.if-lits-gt8192.false
     (sym c.any_unnamed.ensures ∙ c.if-any_unnamed.false) c.if-out-lits.false c.rename_named.ensures

@@ -2,9 +2,7 @@ use Rattle.scope.specs.Write.{rename_lit}
 use Prim.Native.Nat.{◌≤◌, ◌-◌}
 use lib.ListN.{length, get_or}
 use mathlib.Core.Path.{◌≡◌}
-use native.Mathlib.Omega.{arith}
 use Rattle.base.proofs.StoreLaws.{copied}
-use borrow.Author.Rules.{rules}
 use Rattle.steps.proofs.rename.rename_lits.Given as goal
 
 abbrev pub invariant-loop-i : goal.invariant-loop-i

@@ -4,7 +4,6 @@ use mathlib.Core.Bool.{true}
 use native.Mathlib.Omega.{arith}
 use Rattle.base.proofs.StoreLaws.{copy_next, copy_end}
 use Rattle.steps.proofs.LiteralLaws.{named_at}
-use borrow.Author.Rules.{rules}
 use Rattle.steps.proofs.rename.rename_named.Goals as goal
 
 pub rename_lit-requires-clause-code_bound : goal.rename_lit-requires-clause-code_bound
@@ -17,10 +16,10 @@ rename_lit-requires-clause-code_nonzero c =
 
 pub loop-i-preserved : goal.loop-i-preserved
 loop-i-preserved c = (
-      omega arith,
-      copy_next (rename_lit (λ s. get_or c.args.gs.now s 0) true) c.args.out.now c.args.lits.now _ _ _
-          c.loop-i-test.true c.loop-i.invariant.1 c.rename_lit.ensures,
-    )
+  omega arith,
+  copy_next (rename_lit (λ s. get_or c.args.gs.now s 0) true) c.args.out.now c.args.lits.now _ _ _
+      c.loop-i-test.true c.loop-i.invariant.1 c.rename_lit.ensures,
+)
 
 pub returns : goal.returns
 unfolding rename_lits

@@ -3,9 +3,7 @@ use Prim.Native.Nat.{◌≤◌, ◌-◌}
 use lib.ListN.{length, get_or}
 use mathlib.Core.Bool.{true}
 use mathlib.Core.Path.{◌≡◌}
-use native.Mathlib.Omega.{arith}
 use Rattle.base.proofs.StoreLaws.{copied}
-use borrow.Author.Rules.{rules}
 use Rattle.steps.proofs.rename.rename_named.Given as goal
 
 abbrev pub invariant-loop-i : goal.invariant-loop-i

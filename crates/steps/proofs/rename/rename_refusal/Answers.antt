@@ -1,5 +1,4 @@
 use Rattle.steps.proofs.StepLaws.{rename_first, rename_short_literals, rename_short_hashes, rename_pass}
-use borrow.Author.Rules.{rules}
 use Rattle.steps.proofs.rename.rename_refusal.Goals as goal
 
 pub returns-then-n-ne0 : goal.returns-then-n-ne0

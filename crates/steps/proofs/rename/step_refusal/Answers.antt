@@ -1,6 +1,5 @@
 use Rattle.steps.proofs.StepLaws.{refuse_14, refuse_literals}
 use mathlib.Core.Path.{refl, sym, ◌∙◌}
-use borrow.Author.Rules.{rules}
 use Rattle.steps.proofs.rename.step_refusal.Goals as goal
 
 pub returns-then-differ : goal.returns-then-differ

@@ -2,7 +2,6 @@ use Rattle.steps.proofs.WriteLaws.{bytes_add, bytes_delete, bytes_nothing, bytes
 use lib.ListN.{length}
 use native.Mathlib.Omega.{arith}
 use mathlib.Core.Path.{sym, ap, ◌∙◌}
-use borrow.Author.Rules.{rules}
 use Rattle.steps.proofs.write.bytes_len.Goals as goal
 
 pub returns-in-Add-clause-value : goal.returns-in-Add-clause-value

@@ -1,7 +1,6 @@
 use Rattle.steps.proofs.WriteLaws.{write_first, write_lacked, write_judged, lacked_by}
 use Rattle.steps.proofs.StepLaws.{carried_by, step_clear, step_nameable}
 use mathlib.Core.Path.{sym, ◌∙◌}
-use borrow.Author.Rules.{rules}
 use Rattle.steps.proofs.write.known_write_step.Goals as goal
 
 pub returns-then-n-ne0-clause-meets : goal.returns-then-n-ne0-clause-meets

@@ -5,7 +5,6 @@ use lib.ListN.{length}
 use native.Mathlib.Omega.{arith}
 use mathlib.Core.List.{List}
 use mathlib.Core.Path.{sym, ap, ◌∙◌}
-use borrow.Author.Rules.{rules}
 use Rattle.steps.proofs.write.put_bytes.Goals as goal
 
 pub put_step-requires-clause-lits_in_bounds : goal.put_step-requires-clause-lits_in_bounds
@@ -25,7 +24,7 @@ pub returns-in-Add-clause-fills : goal.returns-in-Add-clause-fills
 returns-in-Add-clause-fills c =
     let e = sym (bytes_add c.args.f _ c.args.lits.now c.in-Add.is) in
     c.put_step.ensures.fills ∙ ap (λ
-          (bs : List ℕ). sets c.args.out.now c.args.at bs) e
+    (bs : List ℕ). sets c.args.out.now c.args.at bs) e
 
 pub returns-in-Delete-clause-value : goal.returns-in-Delete-clause-value
 returns-in-Delete-clause-value c =
@@ -36,7 +35,7 @@ pub returns-in-Delete-clause-fills : goal.returns-in-Delete-clause-fills
 returns-in-Delete-clause-fills c =
     let e = sym (bytes_delete c.args.f _ c.args.lits.now c.in-Delete.is) in
     c.put_step-in-Delete.ensures.fills ∙ ap (λ
-          (bs : List ℕ). sets c.args.out.now c.args.at bs) e
+    (bs : List ℕ). sets c.args.out.now c.args.at bs) e
 
 pub returns-in-Nothing-clause-value : goal.returns-in-Nothing-clause-value
 returns-in-Nothing-clause-value c =

@@ -1,21 +1,20 @@
-use mathlib.Core.Path.{refl, sym, ap, ◌∙◌}
+use mathlib.Core.Path.{sym, ap, ◌∙◌}
 use lib.Seq.{sets}
 use lib.ListN.{length}
 use native.Mathlib.Omega.{arith}
 use Rattle.steps.proofs.UnitLaws.{units_length, units_done, units_put}
-use borrow.Author.Rules.{rules}
 use Rattle.steps.proofs.write.put_units.Goals as goal
 
 pub put_step-p-requires-clause-lits_in_bounds : goal.put_step-p-requires-clause-lits_in_bounds
 put_step-p-requires-clause-lits_in_bounds c =
     omega (
-    arith,
-    units_length c.args.f c.args.lits.now
-        c.loop-i.i c.loop-i-test.true,
-    c.requires.lits_in_bounds,
-    c.loop-i.invariant.1,
-    c.loop-i.invariant.2,
-  )
+      arith,
+      units_length c.args.f c.args.lits.now
+          c.loop-i.i c.loop-i-test.true,
+      c.requires.lits_in_bounds,
+      c.loop-i.invariant.1,
+      c.loop-i.invariant.2,
+    )
 
 pub loop-i-preserved : goal.loop-i-preserved
 loop-i-preserved c = (

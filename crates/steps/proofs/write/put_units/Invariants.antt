@@ -1,13 +1,11 @@
-use mathlib.Core.Path.{refl, ◌≡◌}
+use mathlib.Core.Path.{◌≡◌}
 use Prim.Native.Nat.{◌+◌, ◌-◌, ◌≤◌}
 use lib.Seq.{sets}
 use lib.ListN.{length}
-use native.Mathlib.Omega.{arith}
 use Rattle.scope.specs.Steps.{written}
 use Rattle.scope.specs.declared.Writes.TheVariants.{AddEach}
 use Rattle.drat.specs.Grammar.{encode}
 use Rattle.steps.proofs.UnitLaws.{units_from}
-use borrow.Author.Rules.{rules}
 use Rattle.steps.proofs.write.put_units.Given as goal
 
 abbrev pub invariant-loop-i : goal.invariant-loop-i

@@ -2,7 +2,6 @@ use mathlib.Core.Path.{ap}
 use lib.ListN.{length}
 use native.Mathlib.Omega.{arith}
 use Rattle.steps.proofs.UnitLaws.{units_length, units_done}
-use borrow.Author.Rules.{rules}
 use Rattle.steps.proofs.write.units_len.Goals as goal
 
 pub loop-i-preserved : goal.loop-i-preserved
@@ -20,7 +19,7 @@ loop-i-preserved c = (
 pub returns-clause-value : goal.returns-clause-value
 returns-clause-value c =
     omega (
-    arith,
-    ap length (units_done c.args.f c.args.lits.now c.loop-i.i
-        c.loop-i-test.false),
-  )
+      arith,
+      ap length (units_done c.args.f c.args.lits.now c.loop-i.i
+          c.loop-i-test.false),
+    )

@@ -1,7 +1,5 @@
 use Rattle.steps.proofs.WriteLaws.{laid_short, laid_whole}
 use Rattle.steps.proofs.LiteralLaws.{names_codes, names_part, names_given}
-use native.Mathlib.Omega.{arith}
-use borrow.Author.Rules.{rules}
 use Rattle.steps.proofs.write.write_over.Goals as goal
 
 pub bytes_len-n-requires-clause-codes : goal.bytes_len-n-requires-clause-codes
@@ -23,8 +21,8 @@ returns-then-out-n-clause-out c =
 pub put_bytes-requires-clause-codes : goal.put_bytes-requires-clause-codes
 put_bytes-requires-clause-codes c =
     (names_given c.args.gs.now c.args.solvervars c.args.lits.now _ _ c.requires.lits_in_bounds
-          c.rename_lits.ensures c.requires.nameable.few (names_codes c.args.gs.now
-          c.args.solvervars c.args.lits.now c.requires.nameable.small c.requires.nameable.codes)).0
+    c.rename_lits.ensures c.requires.nameable.few (names_codes c.args.gs.now
+    c.args.solvervars c.args.lits.now c.requires.nameable.small c.requires.nameable.codes)).0
 
 pub returns-clause-value : goal.returns-clause-value
 returns-clause-value c =

@@ -1,6 +1,5 @@
 use Rattle.steps.proofs.WriteLaws.{write_unsound}
 use Rattle.table.proofs.CheckLaws.{no_of}
-use borrow.Author.Rules.{rules}
 use Rattle.steps.proofs.write.write_step.Goals as goal
 
 pub returns-then-not-is_sound-clause-meets : goal.returns-then-not-is_sound-clause-meets

@@ -1,9 +1,7 @@
 use Prim.Native.Nat.{◌-◌, ◌≤◌}
-use mathlib.Core.Path.{◌≡◌, refl}
-use native.Mathlib.Omega.{arith}
+use mathlib.Core.Path.{◌≡◌}
 use Rattle.base.specs.Bounded.{all_below}
 use Rattle.table.specs.Checks.{is_filled}
-use borrow.Author.Rules.{rules}
 use Rattle.table.proofs.checks.all_filled.Given as goal
 
 abbrev pub invariant-loop-i : goal.invariant-loop-i

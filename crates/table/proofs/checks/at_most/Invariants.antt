@@ -1,9 +1,7 @@
 use Rattle.table.proofs.CheckLaws.{most_at}
 use Rattle.base.specs.Bounded.{all_below}
-use native.Mathlib.Omega.{arith}
-use mathlib.Core.Path.{◌≡◌, refl}
+use mathlib.Core.Path.{◌≡◌}
 use Prim.Native.Nat.{◌-◌, ◌≤◌}
-use borrow.Author.Rules.{rules}
 use Rattle.table.proofs.checks.at_most.Given as goal
 
 abbrev pub invariant-loop-i : goal.invariant-loop-i

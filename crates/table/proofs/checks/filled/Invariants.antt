@@ -1,9 +1,7 @@
 use Rattle.table.specs.Checks.{is_filled}
 use Rattle.base.specs.Bounded.{count}
-use native.Mathlib.Omega.{arith}
 use mathlib.Core.Path.{◌≡◌}
 use Prim.Native.Nat.{◌-◌, ◌≤◌}
-use borrow.Author.Rules.{rules}
 use Rattle.table.proofs.checks.filled.Given as goal
 
 abbrev pub invariant-loop-i : goal.invariant-loop-i

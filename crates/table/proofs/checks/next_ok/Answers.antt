@@ -2,7 +2,6 @@ use mathlib.Core.Path.{◌≡◌}
 use Rattle.base.proofs.Truth.{truth}
 use native.Mathlib.Omega.{arith}
 use Rattle.table.proofs.CheckLaws.{next_past, next_gap, next_mark, next_here}
-use borrow.Author.Rules.{rules}
 use Rattle.table.proofs.checks.next_ok.Goals as goal
 
 pub returns-then-mark-next : goal.returns-then-mark-next

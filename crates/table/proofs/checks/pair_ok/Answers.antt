@@ -1,5 +1,4 @@
 use Rattle.table.proofs.CheckLaws.{pair_is}
-use borrow.Author.Rules.{rules}
 use Rattle.table.proofs.checks.pair_ok.Goals as goal
 
 pub returns : goal.returns

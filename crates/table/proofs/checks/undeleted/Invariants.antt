@@ -1,9 +1,7 @@
 use Prim.Native.Nat.{◌-◌, ◌≤◌}
 use mathlib.Core.Path.{◌≡◌}
-use native.Mathlib.Omega.{arith}
 use Rattle.base.specs.Bounded.{count}
 use Rattle.scope.specs.Table.{is_undeleted}
-use borrow.Author.Rules.{rules}
 use Rattle.table.proofs.checks.undeleted.Given as goal
 
 abbrev pub invariant-loop-i : goal.invariant-loop-i
