@@ -32,7 +32,7 @@ pub extern "C" fn hz_known_grant(
     requires { soundb (given c gu.now ug.now sg.old gs.old assignment.old records.now) ≡ true }
     ensures { Gives (λ t room. grant_of t global room) (plain 2) (result.refusal ∷ result.solver ∷ result.notes ∷ []) result.counts
         (lent c (constant gu.now) (constant ug.now) (change sg.old sg.new) (change gs.old gs.new)
-            (change assignment.old assignment.new) (constant records.now) (change notes.old notes.new)) }
+        (change assignment.old assignment.new) (constant records.now) (change notes.old notes.new)) }
 {
     let r = granting::known_solver_from_global(
         c,

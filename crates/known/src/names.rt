@@ -38,7 +38,7 @@ pub extern "C" fn hz_known_map(
     requires none_free { NoneFree (free records.old) c.global gfrom }
     ensures { Gives (λ t room. map_of t user sampling room) (plain 2) (result.refusal ∷ result.global ∷ result.notes ∷ []) result.counts
         (lent c (change gu.old gu.new) (change ug.old ug.new) (constant sg.now) (constant gs.now)
-            (constant assignment.now) (change records.old records.new) (change notes.old notes.new)) }
+        (constant assignment.now) (change records.old records.new) (change notes.old notes.new)) }
 {
     let r = naming::known_global_from_user(
         c,
@@ -75,7 +75,7 @@ pub extern "C" fn hz_known_new_user(
     requires none_free { NoneFree (free records.old) c.global gfrom }
     ensures { Gives (λ t room. new_user_of t room) (plain 3) (result.refusal ∷ result.user ∷ result.global ∷ result.notes ∷ []) result.counts
         (lent c (change gu.old gu.new) (change ug.old ug.new) (constant sg.now) (constant gs.now)
-            (constant assignment.now) (change records.old records.new) (change notes.old notes.new)) }
+        (constant assignment.now) (change records.old records.new) (change notes.old notes.new)) }
 {
     let r = naming::known_new_user_var(c, gu, ug, sg, gs, assignment, records, ufrom, gfrom, notes);
     new_mapped_out(r, c)

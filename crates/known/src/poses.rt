@@ -34,7 +34,7 @@ pub extern "C" fn hz_known_pose(
     ensures gives { Gives (λ t room. pose_of t lits.now sampling (length out.old) room) (plain 2)
         (result.refusal ∷ result.filled ∷ result.notes ∷ []) result.counts
         (lent c (change gu.old gu.new) (change ug.old ug.new) (change sg.old sg.new) (change gs.old gs.new)
-            (change assignment.old assignment.new) (change records.old records.new) (change notes.old notes.new)) }
+        (change assignment.old assignment.new) (change records.old records.new) (change notes.old notes.new)) }
     ensures out { Fills (change out.old out.new) 0
         (pose_of (given c gu.old ug.old sg.old gs.old assignment.old records.old) lits.now sampling (length out.old) (length notes.old)).words }
 {

@@ -25,7 +25,7 @@ pub extern "C" fn hz_known_remove(
     requires { soundb (given c gu.now ug.now sg.old gs.old assignment.now records.old) ≡ true }
     ensures { Gives (λ t room. remove_of t solver room) (plain 1) (result.refusal ∷ result.notes ∷ []) result.counts
         (lent c (constant gu.now) (constant ug.now) (change sg.old sg.new) (change gs.old gs.new)
-            (constant assignment.now) (change records.old records.new) (change notes.old notes.new)) }
+        (constant assignment.now) (change records.old records.new) (change notes.old notes.new)) }
 {
     let r = removal::known_remove_solver_var(
         c,
@@ -56,7 +56,7 @@ pub extern "C" fn hz_known_sweep(
     requires { soundb (given c gu.now ug.now sg.old gs.old assignment.now records.old) ≡ true }
     ensures { Gives (λ t room. sweep_of t room) (plain 1) (result.refusal ∷ result.notes ∷ []) result.counts
         (lent c (constant gu.now) (constant ug.now) (change sg.old sg.new) (change gs.old gs.new)
-            (constant assignment.now) (change records.old records.new) (change notes.old notes.new)) }
+        (constant assignment.now) (change records.old records.new) (change notes.old notes.new)) }
 {
     let r = removal::known_sweep(c, gu, ug, sg, gs, assignment, records, notes);
     removed_out(r, c)

@@ -35,7 +35,7 @@ pub extern "C" fn hz_known_set_mode(
     ensures { Gives (λ t room. for_known (mode_for mode) t (λ m. set_mode_of t global m room)) (optional 1)
         (result.refusal ∷ flag result.granted ∷ result.user ∷ result.notes ∷ []) result.counts
         (lent c (change gu.old gu.new) (change ug.old ug.new) (constant sg.now) (constant gs.now)
-            (constant assignment.now) (change records.old records.new) (change notes.old notes.new)) }
+        (constant assignment.now) (change records.old records.new) (change notes.old notes.new)) }
 {
     let ModeNumber::Known(m) = mode_in(mode) else {
         return HzModeSet {
@@ -80,7 +80,7 @@ pub extern "C" fn hz_known_observe(
     requires all_mapped { AllMapped gu.old c.user ufrom }
     ensures gives { Gives (λ t room. observe_of t (length users.old) room) (plain 2) (result.refusal ∷ result.filled ∷ result.notes ∷ []) result.counts
         (lent c (change gu.old gu.new) (change ug.old ug.new) (constant sg.now) (constant gs.now)
-            (constant assignment.now) (change records.old records.new) (change notes.old notes.new)) }
+        (constant assignment.now) (change records.old records.new) (change notes.old notes.new)) }
     ensures users { Fills (change users.old users.new) 0
         (observe_of (given c gu.old ug.old sg.now gs.now assignment.now records.old) (length users.old) (length notes.old)).words }
 {
