@@ -1,7 +1,7 @@
 -- The call: what its refusal and its accepted outcome say of the answer and of the lent memory.
-use Prim.Native.Nat.{ℕ, zero, suc, ◌≤◌, ◌<◌}
+use Prim.Native.Nat.{ℕ, ◌≤◌, ◌<◌}
 use mathlib.Core.Path.{◌≡◌, refl, sym, ap, ◌∙◌}
-use mathlib.Core.Bool.{Bool, true, false, ◌||◌, not}
+use mathlib.Core.Bool.{true, false, ◌||◌, not}
 use mathlib.Core.List.{List, [], ◌∷◌}
 use native.Mathlib.Omega.{arith}
 use lib.Dec.{ltb}
@@ -9,7 +9,7 @@ use lib.ListN.{length}
 use lib.Seq.{sets}
 use borrow.Author.Tests.{lt-ltb, le-ltb, ltb-false, not-false}
 use Rattle.base.specs.Choice.{pick}
-use Rattle.base.specs.Answer.{accepted, refused}
+use Rattle.base.specs.Answer.{accepted}
 use Rattle.base.proofs.MemberLaws.{or_left, or_right}
 use Rattle.scope.proofs.ResultLaws.{past, unless_some}
 use Rattle.scope.specs.Table.{Table}

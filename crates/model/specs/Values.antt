@@ -1,5 +1,5 @@
 -- Parts of Model over the lists that they read.
-use Rattle.std.specs.Prelude.{ℕ, ◌+◌, ◌-◌, ◌≤◌, ◌<◌, ◌≡◌, true, List, [], ◌≢◌, eqb, length, get_or}
+use Rattle.std.specs.Prelude.{ℕ, ◌-◌, ◌≤◌, ◌<◌, ◌≡◌, true, List, [], ◌≢◌, eqb, length, get_or}
 use Rattle.base.specs.Choice.{pick}
 use Rattle.scope.specs.declared.Counts.{Counts}
 use Rattle.scope.specs.Table.{Table, table_of, word, unit_of, is_deleted, fresh_record}

@@ -1,11 +1,11 @@
 -- Laws of one user: mapped, then granted.
-use Prim.Native.Nat.{ℕ, zero, suc, ◌+◌, ◌-◌, ◌<◌}
+use Prim.Native.Nat.{ℕ, zero, suc, ◌+◌, ◌<◌}
 use mathlib.Core.Path.{◌≡◌, refl, sym, ap, ◌∙◌, subst}
 use mathlib.Core.List.{List}
 use native.Mathlib.Omega.{arith}
 use lib.ListN.{length, get_or, length-append}
 use Rattle.scope.specs.Table.{Table}
-use Rattle.scope.specs.Outcome.{Result, ◌then◌}
+use Rattle.scope.specs.Outcome.{Result}
 use Rattle.scope.specs.Map.{map_user}
 use Rattle.scope.specs.Grant.{grant}
 use Rattle.scope.proofs.ResultLaws.{word_none, word_some}

@@ -179,7 +179,7 @@ fn pose_any(
     requires none_free { NoneFree (free records.old) c.global gfrom }
     ensures meets { Meets (λ t room. pose_of t lits.now sampling (length out.old) room) (posed result c)
         (lent c (change gu.old gu.new) (change ug.old ug.new) (change sg.old sg.new) (change gs.old gs.new)
-            (change assignment.old assignment.new) (change records.old records.new) (change notes.old notes.new)) }
+        (change assignment.old assignment.new) (change records.old records.new) (change notes.old notes.new)) }
     ensures out { Fills (change out.old out.new) 0 (pose_of (given c gu.old ug.old sg.old gs.old assignment.old records.old) lits.now sampling
         (length out.old) (length notes.old)).words }
 {
@@ -226,7 +226,7 @@ pub fn solver_from_user_lits(
 ) -> PosedLits
     ensures meets { Meets (λ t room. pose_of t lits.now sampling (length out.old) room) (posed result c)
         (lent c (change gu.old gu.new) (change ug.old ug.new) (change sg.old sg.new) (change gs.old gs.new)
-            (change assignment.old assignment.new) (change records.old records.new) (change notes.old notes.new)) }
+        (change assignment.old assignment.new) (change records.old records.new) (change notes.old notes.new)) }
     ensures out { Fills (change out.old out.new) 0 (pose_of (given c gu.old ug.old sg.old gs.old assignment.old records.old) lits.now sampling
         (length out.old) (length notes.old)).words }
 {
@@ -258,7 +258,7 @@ pub fn known_solver_from_user_lits(
     requires none_free { NoneFree (free records.old) c.global gfrom }
     ensures meets { Meets (λ t room. pose_of t lits.now sampling (length out.old) room) (posed result c)
         (lent c (change gu.old gu.new) (change ug.old ug.new) (change sg.old sg.new) (change gs.old gs.new)
-            (change assignment.old assignment.new) (change records.old records.new) (change notes.old notes.new)) }
+        (change assignment.old assignment.new) (change records.old records.new) (change notes.old notes.new)) }
     ensures out { Fills (change out.old out.new) 0 (pose_of (given c gu.old ug.old sg.old gs.old assignment.old records.old) lits.now sampling
         (length out.old) (length notes.old)).words }
 {

@@ -1,13 +1,12 @@
 -- Sections one at a time, parts of a list, and how often a word stands in a list.
-use Prim.Native.Nat.{ℕ, zero, suc, ◌+◌, ◌-◌, ◌<◌, ◌≤◌, ◌%◌}
-use mathlib.Core.Path.{◌≡◌, refl, sym, ap, ap₂, ◌∙◌}
+use Prim.Native.Nat.{ℕ, suc, ◌+◌, ◌-◌, ◌<◌, ◌≤◌, ◌%◌}
+use mathlib.Core.Path.{◌≡◌, refl, ap, ap₂, ◌∙◌}
 use mathlib.Core.Bool.{Bool, true, false, ◌&&◌}
 use mathlib.Core.List.{List, [], ◌∷◌, ◌++◌}
 use native.Mathlib.Omega.{arith}
-use native.Mathlib.Numerals.{add-one}
 use lib.Dec.{leb, eqb}
 use lib.ListN.{length, get_or, take, drop, length-append, length-drop, get_or-eq_default}
-use lib.Seq.{drop-drop, take-suc, take_all, get_or-drop}
+use lib.Seq.{drop-drop, take-suc, get_or-drop}
 use Rattle.base.specs.Bounded.{keep_of}
 use Rattle.base.specs.Choice.{pick}
 use Rattle.base.proofs.MemberLaws.{keep_append}

@@ -1,6 +1,5 @@
 use Rattle.binary.proofs.ThinLaws.{thin_unsound}
 use Rattle.table.proofs.CheckLaws.{no_of}
-use borrow.Author.Rules.{rules}
 use Rattle.binary.proofs.simplify_binary.Goals as goal
 
 pub returns-then-not-is_sound-clause-meets : goal.returns-then-not-is_sound-clause-meets

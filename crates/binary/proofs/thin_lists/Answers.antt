@@ -1,8 +1,6 @@
 use Rattle.binary.proofs.NamedLaws.{all_named}
 use Rattle.binary.proofs.ThinLaws.{says_uncut, says_unmirrored, says_unheld, says_thinned}
 use mathlib.Core.Path.{sym, ◌∙◌}
-use native.Mathlib.Omega.{arith}
-use borrow.Author.Rules.{rules}
 use Rattle.binary.proofs.thin_lists.Goals as goal
 
 pub returns-then-not-cut_sections : goal.returns-then-not-cut_sections
@@ -27,8 +25,8 @@ returns-then-any_unheld c =
 pub thin_placed-requires-clause-all_named : goal.thin_placed-requires-clause-all_named
 thin_placed-requires-clause-all_named c =
     all_named c.args.solver _ _ c.requires
-          (sym c.all_mirrored.ensures ∙ c.if-not-all_mirrored.false)
-          (sym (c.any_unheld.ensures _ (c.cut_sections.ensures.placed c.if-not-cut_sections.false)) ∙ c.if-any_unheld.false)
+    (sym c.all_mirrored.ensures ∙ c.if-not-all_mirrored.false)
+    (sym (c.any_unheld.ensures _ (c.cut_sections.ensures.placed c.if-not-cut_sections.false)) ∙ c.if-any_unheld.false)
 
 pub returns : goal.returns
 returns c =

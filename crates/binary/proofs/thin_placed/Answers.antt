@@ -3,7 +3,6 @@ use Rattle.binary.specs.Entries.{words_by, entries_by, bytes_by}
 use Rattle.binary.proofs.ThinLaws.{words_count, lacks_words, fits}
 use Prim.Native.Nat.{◌+◌, ◌/◌}
 use native.Mathlib.Omega.{arith}
-use borrow.Author.Rules.{rules}
 use Rattle.binary.proofs.thin_placed.Goals as goal
 
 pub returns-then-out-words-clause-value : goal.returns-then-out-words-clause-value

@@ -24,8 +24,9 @@ pub loop-u-preserved : goal.loop-u-preserved
 loop-u-preserved c = (
   omega arith,
   elim c.if-v-ne0.branch [
-    then-v-ne0 w ↦ w.k-is ∙ users_count_some _ _ _ _ c.user_value-v.ensures.value w.if-v-ne0.true c.loop-u.invariant.1
-  | else-v-ne0 w ↦ w.k-is ∙ users_count_none _ _ _ _ c.user_value-v.ensures.value w.if-v-ne0.false c.loop-u.invariant.1 ],
+    | then-v-ne0 w ↦ w.k-is ∙ users_count_some _ _ _ _ c.user_value-v.ensures.value w.if-v-ne0.true c.loop-u.invariant.1
+    | else-v-ne0 w ↦ w.k-is ∙ users_count_none _ _ _ _ c.user_value-v.ensures.value w.if-v-ne0.false c.loop-u.invariant.1
+  ],
 )
 
 pub returns : goal.returns

@@ -1,7 +1,6 @@
 use Prim.Native.Nat.{◌≤◌, ◌-◌}
 use mathlib.Core.Path.{◌≡◌}
 use lib.ListN.{length}
-use native.Mathlib.Omega.{arith}
 use Rattle.model.specs.Values.{read_table}
 use Rattle.model.proofs.RowLaws.{users_to}
 use Rattle.model.proofs.count_users.Given as goal

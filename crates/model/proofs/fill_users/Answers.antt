@@ -36,17 +36,18 @@ overflow_add-k c = let x = users_count_bound _ _ _ c.loop-u.invariant.1 in omega
 
 pub loop-u-preserved : goal.loop-u-preserved
 loop-u-preserved c = elim c.if-v-ne0.branch [
-    then-v-ne0 w ↦ (
-      omega arith,
-      w.k-is ∙ users_count_some _ _ _ _ c.user_value-v.ensures.value w.if-v-ne0.true c.loop-u.invariant.1,
-      w.users-is ∙ users_fill_some _ _ _ _ _ _ _ c.loop-u.invariant.2 c.loop-u.invariant.1
-          c.user_value-v.ensures.value w.if-v-ne0.true (omega arith),
-    )
+  | then-v-ne0 w ↦ (
+    omega arith,
+    w.k-is ∙ users_count_some _ _ _ _ c.user_value-v.ensures.value w.if-v-ne0.true c.loop-u.invariant.1,
+    w.users-is ∙ users_fill_some _ _ _ _ _ _ _ c.loop-u.invariant.2 c.loop-u.invariant.1
+        c.user_value-v.ensures.value w.if-v-ne0.true (omega arith),
+  )
   | else-v-ne0 w ↦ (
-      omega arith,
-      w.k-is ∙ users_count_none _ _ _ _ c.user_value-v.ensures.value w.if-v-ne0.false c.loop-u.invariant.1,
-      w.users-is ∙ users_fill_none _ _ _ _ _ c.loop-u.invariant.2 c.user_value-v.ensures.value w.if-v-ne0.false,
-    ) ]
+    omega arith,
+    w.k-is ∙ users_count_none _ _ _ _ c.user_value-v.ensures.value w.if-v-ne0.false c.loop-u.invariant.1,
+    w.users-is ∙ users_fill_none _ _ _ _ _ c.loop-u.invariant.2 c.user_value-v.ensures.value w.if-v-ne0.false,
+  )
+]
 
 pub returns-clause-value : goal.returns-clause-value
 returns-clause-value c =
@@ -55,4 +56,4 @@ returns-clause-value c =
 pub returns-clause-fills : goal.returns-clause-fills
 returns-clause-fills c =
     users_fill_end _ _ _ _ c.loop-u.invariant.2
-      (omega arith) (omega arith)
+    (omega arith) (omega arith)

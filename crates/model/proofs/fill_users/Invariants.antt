@@ -3,7 +3,6 @@ use lib.Seq.{sets}
 use Prim.Native.Nat.{◌≤◌, ◌-◌}
 use mathlib.Core.Path.{◌≡◌}
 use lib.ListN.{length}
-use native.Mathlib.Omega.{arith}
 use Rattle.model.specs.Values.{read_table}
 use Rattle.model.proofs.fill_users.Given as goal
 

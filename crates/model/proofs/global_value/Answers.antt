@@ -1,6 +1,5 @@
 use native.Mathlib.Omega.{arith}
 use Rattle.model.proofs.ValueLaws.{value_deleted, value_held, value_false, value_own}
-use borrow.Author.Rules.{rules}
 use Rattle.model.proofs.global_value.Goals as goal
 
 pub returns-then-x-ge36-clause-value : goal.returns-then-x-ge36-clause-value

@@ -1,5 +1,4 @@
 use Rattle.model.proofs.CallLaws.{globals_asks, users_asks, model_told_refused, model_told_done}
-use borrow.Author.Rules.{rules}
 use Rattle.model.proofs.known_model.Goals as goal
 
 pub returns-then-n-ne0-clause-meets : goal.returns-then-n-ne0-clause-meets

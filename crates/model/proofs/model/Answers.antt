@@ -1,6 +1,5 @@
 use Rattle.model.proofs.CallLaws.{model_told_unsound}
 use Rattle.table.proofs.CheckLaws.{no_of}
-use borrow.Author.Rules.{rules}
 use Rattle.model.proofs.model.Goals as goal
 
 pub returns-then-not-is_sound-clause-meets : goal.returns-then-not-is_sound-clause-meets

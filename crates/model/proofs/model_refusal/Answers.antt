@@ -1,5 +1,4 @@
 use Rattle.model.proofs.CallLaws.{refusal_2_globals, refusal_0_ample, refusal_2_users, refusal_0}
-use borrow.Author.Rules.{rules}
 use Rattle.model.proofs.model_refusal.Goals as goal
 
 pub returns-then-globals-c : goal.returns-then-globals-c

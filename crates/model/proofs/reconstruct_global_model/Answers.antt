@@ -2,7 +2,6 @@ use Rattle.model.proofs.RowLaws.{globals_start, globals_next, globals_end}
 use mathlib.Core.Path.{◌∙◌}
 use native.Mathlib.Omega.{arith}
 use Rattle.model.proofs.ValueLaws.{value_is}
-use borrow.Author.Rules.{rules}
 use Rattle.model.proofs.reconstruct_global_model.Goals as goal
 
 pub loop-g-init : goal.loop-g-init

@@ -2,10 +2,8 @@ use Rattle.model.proofs.RowLaws.{globals_to}
 use lib.Seq.{sets}
 use Prim.Native.Nat.{◌≤◌, ◌-◌}
 use mathlib.Core.Path.{◌≡◌}
-use native.Mathlib.Omega.{arith}
 use mathlib.Core.List.{[]}
 use Rattle.model.specs.Values.{read_table}
-use borrow.Author.Rules.{rules}
 use Rattle.model.proofs.reconstruct_global_model.Given as goal
 
 abbrev pub invariant-loop-g : goal.invariant-loop-g

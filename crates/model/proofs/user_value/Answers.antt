@@ -1,7 +1,6 @@
 use mathlib.Core.Path.{◌∙◌}
 use native.Mathlib.Omega.{arith}
 use Rattle.model.proofs.ValueLaws.{user_unmapped, user_mapped_lem}
-use borrow.Author.Rules.{rules}
 use Rattle.model.proofs.user_value.Goals as goal
 
 pub returns-then-w-eq0-clause-value : goal.returns-then-w-eq0-clause-value

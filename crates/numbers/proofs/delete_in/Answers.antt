@@ -1,7 +1,6 @@
 use mathlib.Core.Path.{sym, ap, ◌∙◌}
 use Rattle.numbers.specs.Numbers.{delete, step_for}
 use Rattle.numbers.specs.Meant.{meant_cause}
-use borrow.Author.Rules.{rules}
 use Rattle.numbers.proofs.delete_in.Goals as goal
 
 pub returns-in_default : goal.returns-in_default

@@ -1,6 +1,5 @@
 use mathlib.Core.Path.{refl}
 use Rattle.scope.proofs.WordLaws.{found_none, found_some}
-use borrow.Author.Rules.{rules}
 use Rattle.numbers.proofs.solver_name_in.Goals as goal
 
 pub returns-then-n-eq0 : goal.returns-then-n-eq0

@@ -5,7 +5,6 @@ use Rattle.scope.specs.declared.UserName.{UserName}
 use Rattle.scope.specs.declared.ProofStep.TheVariants.{SolverVarName, UserVarName}
 use Rattle.numbers.specs.Numbers.{known, global_at, step_for}
 use Rattle.numbers.proofs.NumberLaws.{no_step}
-use borrow.Author.Rules.{rules}
 use Rattle.numbers.proofs.step_in.Goals as goal
 
 pub returns-in-0 : goal.returns-in-0

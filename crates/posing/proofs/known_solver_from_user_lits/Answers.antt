@@ -1,7 +1,5 @@
-use native.Mathlib.Omega.{arith}
 use Rattle.naming.proofs.CallLaws.{all_inside}
 use Rattle.posing.proofs.HeldLaws.{solvers_inside, tried_done}
-use borrow.Author.Rules.{rules}
 use Rattle.posing.proofs.known_solver_from_user_lits.Goals as goal
 
 pub pose_held-tried-requires-clause-map_below : goal.pose_held-tried-requires-clause-map_below

@@ -2,7 +2,6 @@ use Rattle.held.proofs.RunLaws.{run_up}
 use native.Mathlib.Omega.{arith}
 use Rattle.posing.proofs.AllLaws.{lits_start, turn_asks, turn_small, lits_more, lits_end, lits_sound}
 use Rattle.posing.proofs.HeldLaws.{run_done, solvers_inside}
-use borrow.Author.Rules.{rules}
 use Rattle.posing.proofs.place_all.Goals as goal
 
 pub loop-i-init : goal.loop-i-init

@@ -1,11 +1,9 @@
 use Prim.Native.Nat.{◌+◌, ◌-◌}
-use native.Mathlib.Omega.{arith}
 use lib.ListN.{length}
 use Rattle.scope.specs.Table.{table_of}
 use Rattle.scope.specs.Cursor.{NoneFree}
 use Rattle.mapping.specs.Parts.{free}
 use Rattle.posing.proofs.AllLaws.{LitsDone}
-use borrow.Author.Rules.{rules}
 use Rattle.posing.proofs.place_all.Given as goal
 
 abbrev pub invariant-loop-i : goal.invariant-loop-i

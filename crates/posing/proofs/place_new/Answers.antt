@@ -2,7 +2,6 @@ use mathlib.Core.Path.{ap}
 use Rattle.scope.specs.declared.Counts.{Counts}
 use Rattle.posing.proofs.PlaceLaws.{place_map_asks, place_grant_asks, place_leaves, global_ahead}
 use Rattle.mapping.proofs.GapLaws.{up_asks, up_leaves}
-use borrow.Author.Rules.{rules}
 use Rattle.posing.proofs.place_new.Goals as goal
 
 pub map_up-m-requires-clause-up_asks : goal.map_up-m-requires-clause-up_asks

@@ -1,7 +1,6 @@
 use Rattle.posing.proofs.CallLaws.{pose_asks, pose_few, pose_refused, pose_done}
 use Rattle.changes.proofs.LeavesLaws.{notes_fit}
 use native.Mathlib.Omega.{arith}
-use borrow.Author.Rules.{rules}
 use Rattle.posing.proofs.pose_any.Goals as goal
 
 pub returns-then-n-ne0-clause-meets : goal.returns-then-n-ne0-clause-meets

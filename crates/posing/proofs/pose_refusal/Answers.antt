@@ -2,7 +2,6 @@ use Rattle.posing.proofs.CallLaws.{pose_many, pose_3, pose_4, pose_5, pose_2, po
 use Rattle.posing.proofs.HeldLaws.{rest_outside, rest_inside, rest_asks, rest_counts}
 use Rattle.naming.proofs.CallLaws.{all_inside}
 use native.Mathlib.Omega.{arith}
-use borrow.Author.Rules.{rules}
 use Rattle.posing.proofs.pose_refusal.Goals as goal
 
 pub returns-then-lits-gt8192 : goal.returns-then-lits-gt8192

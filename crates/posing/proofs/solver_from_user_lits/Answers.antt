@@ -1,6 +1,5 @@
 use Rattle.table.proofs.CheckLaws.{no_of}
 use Rattle.posing.proofs.CallLaws.{pose_unsound}
-use borrow.Author.Rules.{rules}
 use Rattle.posing.proofs.solver_from_user_lits.Goals as goal
 
 pub returns-then-not-is_sound-clause-meets : goal.returns-then-not-is_sound-clause-meets

@@ -1,10 +1,8 @@
 use mathlib.Core.Path.{sym, ◌∙◌}
-use mathlib.Core.Bool.{true}
 use native.Mathlib.Omega.{arith}
 use Rattle.base.proofs.MemberLaws.{every_start, every_step, every_fails}
 use Rattle.scope.specs.Literals.{index_of}
 use Rattle.ready.specs.Ready.{is_ready}
-use borrow.Author.Rules.{rules}
 use Rattle.ready.proofs.all_ready.Goals as goal
 
 pub loop-i-init : goal.loop-i-init

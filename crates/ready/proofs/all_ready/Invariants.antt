@@ -1,12 +1,10 @@
 use Prim.Native.Nat.{◌-◌, ◌≤◌}
 use mathlib.Core.Path.{◌≡◌}
 use mathlib.Core.Bool.{true}
-use native.Mathlib.Omega.{arith}
 use lib.ListN.{length, take}
 use Rattle.base.specs.Bounded.{every_of}
 use Rattle.scope.specs.Literals.{index_of}
 use Rattle.ready.specs.Ready.{is_ready}
-use borrow.Author.Rules.{rules}
 use Rattle.ready.proofs.all_ready.Given as goal
 
 abbrev pub invariant-loop-i : goal.invariant-loop-i

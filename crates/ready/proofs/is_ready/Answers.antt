@@ -1,7 +1,6 @@
 use mathlib.Core.Path.{◌∙◌, ap}
 use Rattle.table.proofs.FoundLaws.{global_word, global_word_lem, solver_word, solver_word_lem}
 use Rattle.ready.proofs.ReadyLaws.{unready_unmapped, unready_ungranted, unready_large, ready_free, unready_outside, ready_record}
-use borrow.Author.Rules.{rules}
 use Rattle.ready.proofs.is_ready.Goals as goal
 
 pub returns-in_default : goal.returns-in_default

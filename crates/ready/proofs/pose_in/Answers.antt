@@ -2,7 +2,6 @@ use native.Mathlib.Omega.{arith}
 use Rattle.base.proofs.StoreLaws.{copy_next, copy_end}
 use Rattle.held.specs.Parts.{held_code}
 use Rattle.ready.proofs.ReadyLaws.{ready_at, user_there, global_there, ready_code, in_many, in_unready, in_ready}
-use borrow.Author.Rules.{rules}
 use Rattle.ready.proofs.pose_in.Goals as goal
 
 pub returns-then-lits-out : goal.returns-then-lits-out

@@ -1,10 +1,8 @@
 use Prim.Native.Nat.{◌-◌, ◌≤◌}
 use mathlib.Core.Path.{◌≡◌}
-use native.Mathlib.Omega.{arith}
 use lib.ListN.{length}
 use Rattle.base.proofs.StoreLaws.{copied}
 use Rattle.held.specs.Parts.{held_code}
-use borrow.Author.Rules.{rules}
 use Rattle.ready.proofs.pose_in.Given as goal
 
 abbrev pub invariant-loop-i : goal.invariant-loop-i

@@ -2,7 +2,6 @@ use Rattle.base.proofs.MemberLaws.{every_start, every_next}
 use lib.Dec.{ltb}
 use mathlib.Core.Path.{sym}
 use native.Mathlib.Omega.{arith}
-use borrow.Author.Rules.{rules}
 use Rattle.sections.proofs.all_below.Goals as goal
 
 pub loop-i-init : goal.loop-i-init

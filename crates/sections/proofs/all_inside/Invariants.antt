@@ -1,9 +1,7 @@
 use Rattle.sections.proofs.InsideLaws.{low_at}
 use mathlib.Core.Bool.{true}
 use Prim.Native.Nat.{ℕ, ◌-◌, ◌≤◌, ◌<◌}
-use mathlib.Core.Path.{◌≡◌, refl}
-use native.Mathlib.Omega.{arith}
-use borrow.Author.Rules.{rules}
+use mathlib.Core.Path.{◌≡◌}
 use Rattle.sections.proofs.all_inside.Given as goal
 
 abbrev pub invariant-loop-l : goal.invariant-loop-l

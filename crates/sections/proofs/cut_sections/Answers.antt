@@ -1,7 +1,6 @@
 use Rattle.sections.proofs.CutLaws.{cut_missing, cut_short, cut_more, cut_over, cut_whole}
 use mathlib.Core.Path.{sym}
 use native.Mathlib.Omega.{arith}
-use borrow.Author.Rules.{rules}
 use Rattle.sections.proofs.cut_sections.Goals as goal
 
 pub returns-then-lists-at-clause-value : goal.returns-then-lists-at-clause-value
@@ -11,7 +10,7 @@ returns-then-lists-at-clause-value c =
 pub returns-then-lists-at-2-clause-value : goal.returns-then-lists-at-2-clause-value
 returns-then-lists-at-2-clause-value c =
     sym (cut_short c.args.lists.now c.args.n _ _ _ c.loop-l.invariant
-          c.loop-l-test.true (omega arith) (omega arith))
+    c.loop-l-test.true (omega arith) (omega arith))
 
 pub loop-l-preserved : goal.loop-l-preserved
 loop-l-preserved c =

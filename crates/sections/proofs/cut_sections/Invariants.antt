@@ -1,7 +1,5 @@
 use Rattle.sections.proofs.CutLaws.{CutTo}
 use Prim.Native.Nat.{◌-◌}
-use native.Mathlib.Omega.{arith}
-use borrow.Author.Rules.{rules}
 use Rattle.sections.proofs.cut_sections.Given as goal
 
 abbrev pub invariant-loop-l : goal.invariant-loop-l

@@ -1,6 +1,5 @@
 use Rattle.simplify.proofs.SimplifyLaws.{refuse_literals}
 use mathlib.Core.Path.{refl}
-use borrow.Author.Rules.{rules}
 use Rattle.simplify.proofs.clause_refusal.Goals as goal
 
 pub returns : goal.returns

@@ -1,7 +1,6 @@
 use Rattle.simplify.proofs.SimplifyLaws.{dropped_short, dropped_filled}
 use Rattle.scope.specs.declared.ProofStep.TheVariants.{DeleteClause}
 use Rattle.steps.proofs.WriteLaws.{writes_by}
-use borrow.Author.Rules.{rules}
 use Rattle.simplify.proofs.drop_clause.Goals as goal
 
 pub returns-in_default : goal.returns-in_default

@@ -2,7 +2,6 @@ use Rattle.simplify.proofs.SimplifyLaws.{kept_short, kept_filled, kept_answer}
 use Rattle.scope.specs.Outcome.{Outcome}
 use lib.Seq.{sets}
 use mathlib.Core.Path.{sym, ap, ◌∙◌}
-use borrow.Author.Rules.{rules}
 use Rattle.simplify.proofs.keep_clause.Goals as goal
 
 pub returns-then-out-lits : goal.returns-then-out-lits

@@ -4,7 +4,6 @@ use Rattle.simplify.proofs.SimplifyLaws.{clause_nameable, sorted_as, comes_first
 use Rattle.scope.specs.declared.Simplified.TheVariants.{Kept, Dropped}
 use lib.ListN.{length}
 use mathlib.Core.Path.{refl, sym, ◌∙◌}
-use borrow.Author.Rules.{rules}
 use Rattle.simplify.proofs.known_simplify_clause.Goals as goal
 
 pub returns-then-n-ne0-clause-meets : goal.returns-then-n-ne0-clause-meets
@@ -13,7 +12,7 @@ returns-then-n-ne0-clause-meets c =
     _ c.clause_refusal-n.ensures c.if-n-ne0.true in
     let w = parts _ _ _ c.args.out.now c.args.bytes.now c.args.out.now c.args.bytes.now e refl refl refl in
     meets c.args.f _ c.args.lits.now c.args.redundant (length c.args.out.now) (length c.args.bytes.now) (Refused _)
-          w.0
+    w.0
 
 pub returns-then-n-ne0-clause-out : goal.returns-then-n-ne0-clause-out
 returns-then-n-ne0-clause-out c =
@@ -48,7 +47,7 @@ returns-in-Kept-clause-meets c =
     (c.sort_clause-what.ensures _ refl) c.in-Kept.is in
     let k = c.keep_clause.ensures c.args.f _ c.args.redundant (length c.args.bytes.now) s in
     meets c.args.f _ c.args.lits.now c.args.redundant (length c.args.out.now) (length c.args.bytes.now)
-          c.keep_clause.result k.0
+    c.keep_clause.result k.0
 
 pub returns-in-Kept-clause-bytes : goal.returns-in-Kept-clause-bytes
 returns-in-Kept-clause-bytes c =
@@ -56,7 +55,7 @@ returns-in-Kept-clause-bytes c =
     c.if-n-ne0.false
     (c.sort_clause-what.ensures _ refl) c.in-Kept.is in
     kept_bytes c.args.f _ c.args.lits.now c.args.redundant c.args.out.now c.args.bytes.now s.passes
-            s.sort
+    s.sort
 
 pub returns-in-Dropped-clause-meets : goal.returns-in-Dropped-clause-meets
 returns-in-Dropped-clause-meets c =
@@ -65,7 +64,7 @@ returns-in-Dropped-clause-meets c =
     (c.sort_clause-what.ensures _ refl) c.in-Dropped.is in
     let k = c.drop_clause.ensures _ (length c.args.out.now) s refl in
     meets c.args.f _ c.args.lits.now c.args.redundant (length c.args.out.now) (length c.args.bytes.now)
-          c.drop_clause.result k.0
+    c.drop_clause.result k.0
 
 pub returns-in-Dropped-clause-out : goal.returns-in-Dropped-clause-out
 returns-in-Dropped-clause-out c =
@@ -73,7 +72,7 @@ returns-in-Dropped-clause-out c =
     c.if-n-ne0.false
     (c.sort_clause-what.ensures _ refl) c.in-Dropped.is in
     dropped_words c.args.f _ c.args.lits.now c.args.redundant c.args.out.now c.args.bytes.now s.passes
-            s.sort
+    s.sort
 
 pub returns-in-Shortened-clause-meets : goal.returns-in-Shortened-clause-meets
 returns-in-Shortened-clause-meets c =
@@ -82,4 +81,4 @@ returns-in-Shortened-clause-meets c =
     (c.sort_clause-what.ensures _ refl) refl in
     let k = c.shorten_clause.ensures _ s refl refl in
     meets c.args.f _ c.args.lits.now c.args.redundant (length c.args.out.now) (length c.args.bytes.now)
-          c.shorten_clause.result k.0
+    c.shorten_clause.result k.0

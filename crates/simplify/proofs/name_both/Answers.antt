@@ -1,5 +1,4 @@
 use Rattle.simplify.proofs.SimplifyLaws.{room_rest}
-use borrow.Author.Rules.{rules}
 use Rattle.simplify.proofs.name_both.Goals as goal
 
 pub keep_rest-requires-clause-lits_in_bounds : goal.keep_rest-requires-clause-lits_in_bounds

@@ -1,8 +1,6 @@
 use Rattle.simplify.proofs.SimplifyLaws.{both_short, both_whole}
 use Rattle.scope.specs.declared.ProofStep.TheVariants.{AtClause, DeleteClause}
 use Rattle.steps.proofs.WriteLaws.{writes_by}
-use native.Mathlib.Omega.{arith}
-use borrow.Author.Rules.{rules}
 use Rattle.simplify.proofs.put_both.Goals as goal
 
 pub returns-then-bytes-a-clause-value : goal.returns-then-bytes-a-clause-value

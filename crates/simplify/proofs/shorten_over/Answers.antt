@@ -3,8 +3,6 @@ use Rattle.simplify.proofs.SimplifyLaws.{clause_written, says_12, says_2_words, 
 use lib.Seq.{sets, length-take-le}
 use mathlib.Core.Bool.{true, false}
 use mathlib.Core.Path.{sym, ap, ◌∙◌}
-use native.Mathlib.Omega.{arith}
-use borrow.Author.Rules.{rules}
 use Rattle.simplify.proofs.shorten_over.Goals as goal
 
 pub returns-then-k-lt2 : goal.returns-then-k-lt2
@@ -30,13 +28,13 @@ slice_bounds-put_both-end-2 c =
 pub put_both-wrote-requires-clause-written : goal.put_both-wrote-requires-clause-written
 put_both-wrote-requires-clause-written c =
     rest_written _ _ c.requires.nameable _ c.requires.lits_in_bounds c.args.assignment.now _ _
-            c.name_both-k.ensures.value
-            c.name_both-k.ensures.rest
+    c.name_both-k.ensures.value
+    c.name_both-k.ensures.rest
 
 pub put_both-wrote-requires-clause-written_2 : goal.put_both-wrote-requires-clause-written_2
 put_both-wrote-requires-clause-written_2 c =
     clause_written _ _ c.requires.nameable _
-            c.requires.lits_in_bounds_2 _ c.name_both-k.ensures.clause
+    c.requires.lits_in_bounds_2 _ c.name_both-k.ensures.clause
 
 pub returns-in_default : goal.returns-in_default
 returns-in_default c =

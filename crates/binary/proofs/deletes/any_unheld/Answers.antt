@@ -4,9 +4,8 @@ use Rattle.steps.proofs.LiteralLaws.{word_filled}
 use Rattle.binary.specs.Entries.{unheld_by}
 use Rattle.binary.proofs.EachLaws.{filled_all, any_empty, any_passed, any_found, any_done}
 use borrow.Author.Tests.{eq-eqb}
-use mathlib.Core.Path.{refl, sym, ap, ◌∙◌}
+use mathlib.Core.Path.{sym, ap, ◌∙◌}
 use native.Mathlib.Omega.{arith}
-use borrow.Author.Rules.{rules}
 use Rattle.binary.proofs.deletes.any_unheld.Goals as goal
 use Rattle.binary.proofs.deletes.any_unheld.Goals.{then-place-l+in-At, else-place-l}
 
@@ -20,14 +19,15 @@ returns-in_default c =
 
 pub loop-l-preserved : goal.loop-l-preserved
 loop-l-preserved c = (
-      omega arith,
-      λ lists p. elim c.if-place-l.branch [
-        then-place-l+in-At w ↦ any_passed (unheld_by c.args.gs.now) lists c.args.n c.args.place.now p c.loop-l.l
-          c.loop-l-test.true w.if-place-l.true
-          (word_filled _ _ (global_word_lem _ _ (sym w.in-At.is ∙ w.holder.ensures))) ∙ c.loop-l.invariant.1 lists p
-      | else-place-l w ↦ any_empty (unheld_by c.args.gs.now) lists c.args.n c.args.place.now p c.loop-l.l
-          c.loop-l-test.true w.if-place-l.false ∙ c.loop-l.invariant.1 lists p ],
-    )
+  omega arith,
+  λ lists p. elim c.if-place-l.branch [
+    | then-place-l+in-At w ↦ any_passed (unheld_by c.args.gs.now) lists c.args.n c.args.place.now p c.loop-l.l
+        c.loop-l-test.true w.if-place-l.true
+        (word_filled _ _ (global_word_lem _ _ (sym w.in-At.is ∙ w.holder.ensures))) ∙ c.loop-l.invariant.1 lists p
+    | else-place-l w ↦ any_empty (unheld_by c.args.gs.now) lists c.args.n c.args.place.now p c.loop-l.l
+        c.loop-l-test.true w.if-place-l.false ∙ c.loop-l.invariant.1 lists p
+  ],
+)
 
 pub returns : goal.returns
 returns c =

@@ -4,9 +4,7 @@ use Rattle.binary.specs.Entries.{unheld_by}
 use Rattle.binary.proofs.EachLaws.{from, filled}
 use Prim.Native.Nat.{ℕ, ◌≤◌, ◌-◌}
 use mathlib.Core.List.{List}
-use mathlib.Core.Path.{◌≡◌, refl}
-use native.Mathlib.Omega.{arith}
-use borrow.Author.Rules.{rules}
+use mathlib.Core.Path.{◌≡◌}
 use Rattle.binary.proofs.deletes.any_unheld.Given as goal
 
 abbrev pub invariant-loop-l : goal.invariant-loop-l

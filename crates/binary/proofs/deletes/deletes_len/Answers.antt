@@ -1,7 +1,6 @@
 use Rattle.binary.specs.Entries.{deletes_by}
 use Rattle.binary.proofs.EachLaws.{bytes_length, bytes_short, bytes_fit, bytes_whole}
 use native.Mathlib.Omega.{arith}
-use borrow.Author.Rules.{rules}
 use Rattle.binary.proofs.deletes.deletes_len.Goals as goal
 
 pub returns-in_default : goal.returns-in_default

@@ -5,8 +5,6 @@ use Rattle.binary.proofs.EachLaws.{from}
 use Prim.Native.Nat.{◌+◌, ◌≤◌, ◌-◌}
 use lib.ListN.{length}
 use mathlib.Core.Path.{◌≡◌}
-use native.Mathlib.Omega.{arith}
-use borrow.Author.Rules.{rules}
 use Rattle.binary.proofs.deletes.deletes_len.Given as goal
 
 abbrev pub invariant-loop-l : goal.invariant-loop-l

@@ -6,7 +6,6 @@ use lib.ListN.{length}
 use lib.Seq.{sets}
 use mathlib.Core.List.{List}
 use mathlib.Core.Path.{sym, ap, ◌∙◌, subst}
-use borrow.Author.Rules.{rules}
 use Rattle.binary.proofs.deletes.put_delete.Goals as goal
 
 pub put_step-requires-clause-lits_in_bounds : goal.put_step-requires-clause-lits_in_bounds
@@ -14,7 +13,7 @@ put_step-requires-clause-lits_in_bounds c =
     let e = pair_named c.args.gs.now c.args.x c.args.m _ _ c.rename_lit.ensures
     c.rename_lit-2.ensures in
     subst (λ (ls : List ℕ). c.args.at + length (encode_step c.args.f (step_of Delete ls)) ≤ length c.args.bytes.now) (sym e)
-          c.requires.m_in_bounds
+    c.requires.m_in_bounds
 
 pub returns-clause-value : goal.returns-clause-value
 returns-clause-value c =

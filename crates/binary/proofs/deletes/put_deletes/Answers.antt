@@ -1,7 +1,7 @@
 use Rattle.binary.specs.Entries.{deletes_by}
 use Rattle.binary.proofs.EachLaws.{bytes_length, bytes_put, bytes_done}
 use lib.Seq.{sets}
-use mathlib.Core.Path.{refl, sym, ap, ◌∙◌}
+use mathlib.Core.Path.{sym, ap, ◌∙◌}
 use native.Mathlib.Omega.{arith}
 use Rattle.binary.proofs.deletes.put_deletes.Goals as goal
 

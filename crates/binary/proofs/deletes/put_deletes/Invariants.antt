@@ -5,8 +5,7 @@ use Rattle.binary.proofs.EachLaws.{from}
 use lib.Seq.{sets}
 use Prim.Native.Nat.{◌+◌, ◌≤◌, ◌-◌}
 use lib.ListN.{length}
-use mathlib.Core.Path.{◌≡◌, refl}
-use native.Mathlib.Omega.{arith}
+use mathlib.Core.Path.{◌≡◌}
 use Rattle.binary.proofs.deletes.put_deletes.Given as goal
 
 abbrev pub invariant-loop-l : goal.invariant-loop-l

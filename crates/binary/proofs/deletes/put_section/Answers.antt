@@ -3,9 +3,8 @@ use Rattle.binary.proofs.RowLaws.{steps_none, steps_length, steps_put, steps_pas
 use Rattle.binary.proofs.NamedLaws.{goes_is, clause_fits, delete_put, delete_place}
 use lib.ListN.{length}
 use lib.Seq.{sets}
-use mathlib.Core.Path.{refl, sym, ap, ◌∙◌}
+use mathlib.Core.Path.{sym, ap, ◌∙◌}
 use native.Mathlib.Omega.{arith}
-use borrow.Author.Rules.{rules}
 use Rattle.binary.proofs.deletes.put_section.Goals as goal
 use Rattle.binary.proofs.deletes.put_section.Goals.{then-goes, else-goes}
 
@@ -17,39 +16,40 @@ put_delete-p-requires-clause-m_in_bounds c =
     (delete_by c.args.gs.now c.args.l) c.loop-i.i
     c.loop-i-test.true t in
     clause_fits c.args.f c.args.gs.now c.args.l _ _ _ _
-          (omega (arith, c.requires.es_in_bounds, c.loop-i.invariant.1, c.loop-i.invariant.2))
-          (omega (arith, c.not_lit-x.ensures))
+    (omega (arith, c.requires.es_in_bounds, c.loop-i.invariant.1, c.loop-i.invariant.2))
+    (omega (arith, c.not_lit-x.ensures))
 
 pub loop-i-preserved : goal.loop-i-preserved
 loop-i-preserved c =
     elim c.if-goes.branch [
-      then-goes w ↦
-        let t = goes_is c.args.gs.now c.args.l _ _ c.not_lit-x.ensures c.args.assignment.now _ _ c.goes.ensures
+      | then-goes w ↦
+          let t = goes_is c.args.gs.now c.args.l _ _ c.not_lit-x.ensures c.args.assignment.now _ _ c.goes.ensures
           w.if-goes.true in
-        let z = steps_length (goes_by c.args.assignment.now c.args.l) c.args.es.now c.args.f
+          let z = steps_length (goes_by c.args.assignment.now c.args.l) c.args.es.now c.args.f
           (delete_by c.args.gs.now c.args.l) c.loop-i.i c.loop-i-test.true t in
-        let k = delete_place c.args.f c.args.gs.now c.args.l _ _ _ _ w.put_delete-p.ensures.value (omega (arith, c.not_lit-x.ensures)) in
-        let u = delete_put c.args.f c.args.gs.now c.args.l _ _ _ _ _ w.put_delete-p.ensures.fills
+          let k = delete_place c.args.f c.args.gs.now c.args.l _ _ _ _ w.put_delete-p.ensures.value (omega (arith, c.not_lit-x.ensures)) in
+          let u = delete_put c.args.f c.args.gs.now c.args.l _ _ _ _ _ w.put_delete-p.ensures.fills
           (omega (arith, c.not_lit-x.ensures)) in (
-          omega arith,
-          ap length w.bytes-is ∙ w.put_delete-p.auto.bytes ∙ c.loop-i.invariant.1,
-          omega (arith, w.p-is, k, z, c.loop-i.invariant.2),
-          steps_put (goes_by c.args.assignment.now c.args.l) c.args.es.now c.args.f
-            (delete_by c.args.gs.now c.args.l) c.loop-i.i
-            c.loop-i-test.true c.loop-i.bytes _ c.loop-i.p _ t (w.bytes-is ∙ u) (w.p-is ∙ k) ∙ c.loop-i.invariant.3,
-        )
-    | else-goes w ↦
-        let t = goes_is c.args.gs.now c.args.l _ _ c.not_lit-x.ensures c.args.assignment.now _ _ c.goes.ensures
+            omega arith,
+            ap length w.bytes-is ∙ w.put_delete-p.auto.bytes ∙ c.loop-i.invariant.1,
+            omega (arith, w.p-is, k, z, c.loop-i.invariant.2),
+            steps_put (goes_by c.args.assignment.now c.args.l) c.args.es.now c.args.f
+                (delete_by c.args.gs.now c.args.l) c.loop-i.i
+                c.loop-i-test.true c.loop-i.bytes _ c.loop-i.p _ t (w.bytes-is ∙ u) (w.p-is ∙ k) ∙ c.loop-i.invariant.3,
+          )
+      | else-goes w ↦
+          let t = goes_is c.args.gs.now c.args.l _ _ c.not_lit-x.ensures c.args.assignment.now _ _ c.goes.ensures
           w.if-goes.false in
-        let z = ap length (steps_none (goes_by c.args.assignment.now c.args.l) c.args.es.now c.args.f
+          let z = ap length (steps_none (goes_by c.args.assignment.now c.args.l) c.args.es.now c.args.f
           (delete_by c.args.gs.now c.args.l) c.loop-i.i c.loop-i-test.true t) in (
-          omega arith,
-          ap length w.bytes-is ∙ c.loop-i.invariant.1,
-          omega (arith, w.p-is, z, c.loop-i.invariant.2),
-          steps_pass (goes_by c.args.assignment.now c.args.l) c.args.es.now c.args.f
-            (delete_by c.args.gs.now c.args.l) c.loop-i.i
-            c.loop-i-test.true c.loop-i.bytes _ c.loop-i.p _ t w.bytes-is w.p-is ∙ c.loop-i.invariant.3,
-        ) ]
+            omega arith,
+            ap length w.bytes-is ∙ c.loop-i.invariant.1,
+            omega (arith, w.p-is, z, c.loop-i.invariant.2),
+            steps_pass (goes_by c.args.assignment.now c.args.l) c.args.es.now c.args.f
+                (delete_by c.args.gs.now c.args.l) c.loop-i.i
+                c.loop-i-test.true c.loop-i.bytes _ c.loop-i.p _ t w.bytes-is w.p-is ∙ c.loop-i.invariant.3,
+          )
+    ]
 
 pub returns-clause-value : goal.returns-clause-value
 returns-clause-value c =

@@ -4,9 +4,7 @@ use Rattle.binary.proofs.RowLaws.{steps_later}
 use Prim.Native.Nat.{◌+◌, ◌≤◌, ◌-◌}
 use lib.ListN.{length}
 use lib.Seq.{sets}
-use mathlib.Core.Path.{◌≡◌, refl}
-use native.Mathlib.Omega.{arith}
-use borrow.Author.Rules.{rules}
+use mathlib.Core.Path.{◌≡◌}
 use Rattle.binary.proofs.deletes.put_section.Given as goal
 
 abbrev pub invariant-loop-i : goal.invariant-loop-i

@@ -4,7 +4,6 @@ use Rattle.binary.proofs.NamedLaws.{goes_is, delete_len}
 use lib.ListN.{length}
 use mathlib.Core.Path.{ap}
 use native.Mathlib.Omega.{arith}
-use borrow.Author.Rules.{rules}
 use Rattle.binary.proofs.deletes.section_len.Goals as goal
 use Rattle.binary.proofs.deletes.section_len.Goals.{then-goes+else-room-used, else-goes}
 
@@ -22,19 +21,20 @@ returns-then-room-used c =
 pub loop-i-preserved : goal.loop-i-preserved
 loop-i-preserved c =
     elim c.if-goes.branch [
-      then-goes+else-room-used w ↦
-        let t = goes_is c.args.gs.now c.args.l _ _ c.not_lit-x.ensures c.args.assignment.now _ _ c.goes.ensures
+      | then-goes+else-room-used w ↦
+          let t = goes_is c.args.gs.now c.args.l _ _ c.not_lit-x.ensures c.args.assignment.now _ _ c.goes.ensures
           w.if-goes.true in
-        let z = steps_length (goes_by c.args.assignment.now c.args.l) c.args.es.now c.args.f
+          let z = steps_length (goes_by c.args.assignment.now c.args.l) c.args.es.now c.args.f
           (delete_by c.args.gs.now c.args.l) c.loop-i.i c.loop-i-test.true t in
-        let k = delete_len c.args.f c.args.gs.now c.args.l _ _ _ w.delete_len-k.ensures (omega (arith, c.not_lit-x.ensures)) in
-        (omega arith, omega (arith, w.used-is, k, z, c.loop-i.invariant.1), omega (arith, w.used-is, w.if-room-used.false, c.loop-i.invariant.2))
-    | else-goes w ↦
-        let t = goes_is c.args.gs.now c.args.l _ _ c.not_lit-x.ensures c.args.assignment.now _ _ c.goes.ensures
+          let k = delete_len c.args.f c.args.gs.now c.args.l _ _ _ w.delete_len-k.ensures (omega (arith, c.not_lit-x.ensures)) in
+          (omega arith, omega (arith, w.used-is, k, z, c.loop-i.invariant.1), omega (arith, w.used-is, w.if-room-used.false, c.loop-i.invariant.2))
+      | else-goes w ↦
+          let t = goes_is c.args.gs.now c.args.l _ _ c.not_lit-x.ensures c.args.assignment.now _ _ c.goes.ensures
           w.if-goes.false in
-        let z = ap length (steps_none (goes_by c.args.assignment.now c.args.l) c.args.es.now c.args.f
+          let z = ap length (steps_none (goes_by c.args.assignment.now c.args.l) c.args.es.now c.args.f
           (delete_by c.args.gs.now c.args.l) c.loop-i.i c.loop-i-test.true t) in
-        (omega arith, omega (arith, w.used-is, z, c.loop-i.invariant.1), omega (arith, w.used-is, c.loop-i.invariant.2)) ]
+          (omega arith, omega (arith, w.used-is, z, c.loop-i.invariant.1), omega (arith, w.used-is, c.loop-i.invariant.2))
+    ]
 
 pub returns : goal.returns
 returns c =

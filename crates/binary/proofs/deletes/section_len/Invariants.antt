@@ -4,8 +4,6 @@ use Rattle.binary.proofs.RowLaws.{steps_later}
 use Prim.Native.Nat.{◌+◌, ◌≤◌, ◌-◌}
 use lib.ListN.{length}
 use mathlib.Core.Path.{◌≡◌}
-use native.Mathlib.Omega.{arith}
-use borrow.Author.Rules.{rules}
 use Rattle.binary.proofs.deletes.section_len.Given as goal
 
 abbrev pub invariant-loop-i : goal.invariant-loop-i

@@ -1,10 +1,8 @@
 use Rattle.binary.specs.Entries.{stays_by, kept_by}
 use Rattle.binary.proofs.EachLaws.{from_length, from_done, at_kept}
-use Prim.Native.Nat.{◌+◌}
 use lib.ListN.{length}
 use mathlib.Core.Path.{ap}
 use native.Mathlib.Omega.{arith}
-use borrow.Author.Rules.{rules}
 use Rattle.binary.proofs.keep.count_all.Goals as goal
 
 pub overflow_add-k : goal.overflow_add-k

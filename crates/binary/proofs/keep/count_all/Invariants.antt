@@ -4,8 +4,6 @@ use Rattle.binary.proofs.EachLaws.{from}
 use Prim.Native.Nat.{◌+◌, ◌≤◌, ◌-◌}
 use lib.ListN.{length, get_or}
 use mathlib.Core.Path.{◌≡◌}
-use native.Mathlib.Omega.{arith}
-use borrow.Author.Rules.{rules}
 use Rattle.binary.proofs.keep.count_all.Given as goal
 
 abbrev pub invariant-loop-l : goal.invariant-loop-l

@@ -3,7 +3,6 @@ use Rattle.base.proofs.KeepLaws.{kept_start, count_some, count_none, count_most}
 use lib.ListN.{length}
 use mathlib.Core.Path.{sym, ap, ◌∙◌}
 use native.Mathlib.Omega.{arith}
-use borrow.Author.Rules.{rules}
 use Rattle.binary.proofs.keep.count_kept.Goals as goal
 use Rattle.binary.proofs.keep.count_kept.Goals.{then-stays, else-stays}
 
@@ -21,10 +20,11 @@ overflow_add-k c =
 
 pub loop-i-preserved : goal.loop-i-preserved
 loop-i-preserved c = (
-      omega arith,
-      elim c.if-stays.branch [
-        then-stays w ↦ w.k-is ∙ count_some (stays_by c.args.assignment.now c.args.l) c.args.es.now _ _ c.loop-i-test.true
-          (sym c.stays.ensures ∙ w.if-stays.true) c.loop-i.invariant.1
-      | else-stays w ↦ w.k-is ∙ count_none (stays_by c.args.assignment.now c.args.l) c.args.es.now _ _ c.loop-i-test.true
-          (sym c.stays.ensures ∙ w.if-stays.false) c.loop-i.invariant.1 ],
-    )
+  omega arith,
+  elim c.if-stays.branch [
+    | then-stays w ↦ w.k-is ∙ count_some (stays_by c.args.assignment.now c.args.l) c.args.es.now _ _ c.loop-i-test.true
+        (sym c.stays.ensures ∙ w.if-stays.true) c.loop-i.invariant.1
+    | else-stays w ↦ w.k-is ∙ count_none (stays_by c.args.assignment.now c.args.l) c.args.es.now _ _ c.loop-i-test.true
+        (sym c.stays.ensures ∙ w.if-stays.false) c.loop-i.invariant.1
+  ],
+)

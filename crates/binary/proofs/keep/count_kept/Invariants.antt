@@ -3,8 +3,6 @@ use Rattle.base.proofs.KeepLaws.{kept_to}
 use Prim.Native.Nat.{◌≤◌, ◌-◌}
 use lib.ListN.{length}
 use mathlib.Core.Path.{◌≡◌}
-use native.Mathlib.Omega.{arith}
-use borrow.Author.Rules.{rules}
 use Rattle.binary.proofs.keep.count_kept.Given as goal
 
 abbrev pub invariant-loop-i : goal.invariant-loop-i

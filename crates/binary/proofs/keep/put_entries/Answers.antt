@@ -2,9 +2,8 @@ use Rattle.binary.specs.Entries.{stays_by}
 use Rattle.binary.proofs.RowLaws.{kept_none, kept_count_lem, kept_put, kept_pass, kept_last}
 use lib.ListN.{length, length-set}
 use lib.Seq.{sets}
-use mathlib.Core.Path.{refl, sym, ap, ◌∙◌}
+use mathlib.Core.Path.{sym, ap, ◌∙◌}
 use native.Mathlib.Omega.{arith}
-use borrow.Author.Rules.{rules}
 use Rattle.binary.proofs.keep.put_entries.Goals as goal
 use Rattle.binary.proofs.keep.put_entries.Goals.{then-stays, else-stays}
 
@@ -17,25 +16,26 @@ bounds-out-k c =
 pub loop-i-preserved : goal.loop-i-preserved
 loop-i-preserved c =
     elim c.if-stays.branch [
-      then-stays w ↦
-        let t = sym c.stays.ensures ∙ w.if-stays.true in
-        let e = kept_count_lem (stays_by c.args.assignment.now c.args.l) c.args.es.now c.loop-i.i c.loop-i-test.true t in (
-          omega arith,
-          ap length w.out-is ∙ simp length-set c.loop-i.invariant.1,
-          omega (arith, w.k-is, e, c.loop-i.invariant.2),
-          kept_put (stays_by c.args.assignment.now c.args.l) c.args.es.now c.loop-i.i c.loop-i-test.true
-            c.loop-i.out _ c.loop-i.k _ t w.out-is w.k-is ∙ c.loop-i.invariant.3,
-        )
-    | else-stays w ↦
-        let t = sym c.stays.ensures ∙ w.if-stays.false in
-        let e = ap length (kept_none (stays_by c.args.assignment.now c.args.l) c.args.es.now c.loop-i.i
+      | then-stays w ↦
+          let t = sym c.stays.ensures ∙ w.if-stays.true in
+          let e = kept_count_lem (stays_by c.args.assignment.now c.args.l) c.args.es.now c.loop-i.i c.loop-i-test.true t in (
+            omega arith,
+            ap length w.out-is ∙ simp length-set c.loop-i.invariant.1,
+            omega (arith, w.k-is, e, c.loop-i.invariant.2),
+            kept_put (stays_by c.args.assignment.now c.args.l) c.args.es.now c.loop-i.i c.loop-i-test.true
+                c.loop-i.out _ c.loop-i.k _ t w.out-is w.k-is ∙ c.loop-i.invariant.3,
+          )
+      | else-stays w ↦
+          let t = sym c.stays.ensures ∙ w.if-stays.false in
+          let e = ap length (kept_none (stays_by c.args.assignment.now c.args.l) c.args.es.now c.loop-i.i
           c.loop-i-test.true t) in (
-          omega arith,
-          ap length w.out-is ∙ c.loop-i.invariant.1,
-          omega (arith, w.k-is, e, c.loop-i.invariant.2),
-          kept_pass (stays_by c.args.assignment.now c.args.l) c.args.es.now c.loop-i.i c.loop-i-test.true
-            c.loop-i.out _ c.loop-i.k _ t w.out-is w.k-is ∙ c.loop-i.invariant.3,
-        ) ]
+            omega arith,
+            ap length w.out-is ∙ c.loop-i.invariant.1,
+            omega (arith, w.k-is, e, c.loop-i.invariant.2),
+            kept_pass (stays_by c.args.assignment.now c.args.l) c.args.es.now c.loop-i.i c.loop-i-test.true
+                c.loop-i.out _ c.loop-i.k _ t w.out-is w.k-is ∙ c.loop-i.invariant.3,
+          )
+    ]
 
 pub returns-clause-value : goal.returns-clause-value
 returns-clause-value c =

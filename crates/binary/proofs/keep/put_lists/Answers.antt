@@ -2,7 +2,7 @@ use Rattle.scope.specs.Binary.{section_words}
 use Rattle.binary.specs.Entries.{kept_by}
 use Rattle.binary.proofs.EachLaws.{from_length, from_put, from_done, at_small}
 use lib.Seq.{sets}
-use mathlib.Core.Path.{refl, sym, ap, ◌∙◌}
+use mathlib.Core.Path.{sym, ap, ◌∙◌}
 use native.Mathlib.Omega.{arith}
 use Rattle.binary.proofs.keep.put_lists.Goals as goal
 
@@ -11,8 +11,8 @@ put_section-at-requires-clause-es_len_bound c =
     let z = from_length (λ l es. section_words (kept_by c.args.assignment.now l es)) c.args.lists.now c.args.n
     c.args.place.now c.requires.placed c.loop-l.l c.loop-l-test.true in
     at_small 4294967296 c.args.lists.now c.args.n c.args.place.now c.requires.placed
-          (λ i. omega (arith, c.type_inv.lists i))
-          c.loop-l.l c.loop-l-test.true
+    (λ i. omega (arith, c.type_inv.lists i))
+    c.loop-l.l c.loop-l-test.true
 
 pub put_section-at-requires-clause-es_in_bounds : goal.put_section-at-requires-clause-es_in_bounds
 put_section-at-requires-clause-es_in_bounds c =

@@ -4,8 +4,7 @@ use Rattle.binary.proofs.EachLaws.{from}
 use lib.Seq.{sets}
 use Prim.Native.Nat.{◌+◌, ◌≤◌, ◌-◌}
 use lib.ListN.{length}
-use mathlib.Core.Path.{◌≡◌, refl}
-use native.Mathlib.Omega.{arith}
+use mathlib.Core.Path.{◌≡◌}
 use Rattle.binary.proofs.keep.put_lists.Given as goal
 
 abbrev pub invariant-loop-l : goal.invariant-loop-l

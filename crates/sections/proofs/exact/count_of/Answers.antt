@@ -5,7 +5,6 @@ use lib.Dec.{eqb}
 use lib.ListN.{length}
 use mathlib.Core.Path.{sym, ap, ◌∙◌}
 use native.Mathlib.Omega.{arith}
-use borrow.Author.Rules.{rules}
 use Rattle.sections.proofs.exact.count_of.Goals as goal
 use Rattle.sections.proofs.exact.count_of.Goals.{then-es-i, else-es-i}
 
@@ -18,13 +17,14 @@ overflow_add-k c =
 
 pub loop-i-preserved : goal.loop-i-preserved
 loop-i-preserved c = (
-      omega arith,
-      elim c.if-es-i.branch [
-        then-es-i w ↦ w.k-is ∙ count_some (λ x. eqb x c.args.m) c.args.es.now _ _ c.loop-i-test.true
-          (eq-eqb _ _ w.if-es-i.true) c.loop-i.invariant.1
-      | else-es-i w ↦ w.k-is ∙ count_none (λ x. eqb x c.args.m) c.args.es.now _ _ c.loop-i-test.true
-          (ne_eqb _ _ w.if-es-i.false) c.loop-i.invariant.1 ],
-    )
+  omega arith,
+  elim c.if-es-i.branch [
+    | then-es-i w ↦ w.k-is ∙ count_some (λ x. eqb x c.args.m) c.args.es.now _ _ c.loop-i-test.true
+        (eq-eqb _ _ w.if-es-i.true) c.loop-i.invariant.1
+    | else-es-i w ↦ w.k-is ∙ count_none (λ x. eqb x c.args.m) c.args.es.now _ _ c.loop-i-test.true
+        (ne_eqb _ _ w.if-es-i.false) c.loop-i.invariant.1
+  ],
+)
 
 pub returns : goal.returns
 unfolding times

@@ -1,10 +1,8 @@
 use Rattle.sections.proofs.TallyLaws.{tally_none}
 use Rattle.sections.proofs.InsideLaws.{mirror_at, mirrored_is, all_upto}
 use Rattle.base.proofs.BelowLaws.{all_none, all_more, all_fails}
-use mathlib.Core.Bool.{true}
 use mathlib.Core.Path.{sym, ◌∙◌}
 use native.Mathlib.Omega.{arith}
-use borrow.Author.Rules.{rules}
 use Rattle.sections.proofs.exact.exactly_mirrored.Goals as goal
 
 pub loop-l-init : goal.loop-l-init
@@ -18,12 +16,12 @@ returns-then-not-section_mirrored c =
 
 pub loop-l-preserved : goal.loop-l-preserved
 loop-l-preserved c = (
-      omega arith,
-      all_more c.loop-l.l (mirror_at c.args.lists.now c.args.n) c.loop-l.invariant.1
-          (sym c.section_mirrored.ensures.result_value ∙ c.if-not-section_mirrored.false),
-      c.section_mirrored.ensures.tallied_2
-          c.if-not-section_mirrored.false,
-    )
+  omega arith,
+  all_more c.loop-l.l (mirror_at c.args.lists.now c.args.n) c.loop-l.invariant.1
+      (sym c.section_mirrored.ensures.result_value ∙ c.if-not-section_mirrored.false),
+  c.section_mirrored.ensures.tallied_2
+      c.if-not-section_mirrored.false,
+)
 
 pub returns : goal.returns
 returns c =

@@ -5,8 +5,6 @@ use mathlib.Core.List.{[]}
 use mathlib.Core.Bool.{true}
 use mathlib.Core.Path.{◌≡◌}
 use Prim.Native.Nat.{◌-◌, ◌≤◌}
-use native.Mathlib.Omega.{arith}
-use borrow.Author.Rules.{rules}
 use Rattle.sections.proofs.exact.exactly_mirrored.Given as goal
 
 abbrev pub invariant-loop-l : goal.invariant-loop-l

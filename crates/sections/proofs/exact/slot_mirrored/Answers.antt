@@ -1,7 +1,6 @@
 use Rattle.sections.proofs.InsideLaws.{mirror_is, mirror_not, count_there}
 use mathlib.Core.Path.{sym}
 use native.Mathlib.Omega.{arith}
-use borrow.Author.Rules.{rules}
 use Rattle.sections.proofs.exact.slot_mirrored.Goals as goal
 
 pub returns-then-k-other : goal.returns-then-k-other

@@ -1,9 +1,6 @@
 use Rattle.sections.specs.Tally.{Tallied}
-use mathlib.Core.Path.{refl}
 use lib.ListN.{length, take}
 use Prim.Native.Nat.{◌-◌, ◌≤◌}
-use native.Mathlib.Omega.{arith}
-use borrow.Author.Rules.{rules}
 use Rattle.sections.proofs.exact.tally_all.Given as goal
 
 abbrev pub invariant-loop-i : goal.invariant-loop-i

@@ -1,8 +1,6 @@
 use lib.ListN.{get_or}
 use Prim.Native.Nat.{ℕ, ◌+◌, ◌-◌, ◌≤◌, ◌<◌}
 use mathlib.Core.Path.{◌≡◌}
-use native.Mathlib.Omega.{arith}
-use borrow.Author.Rules.{rules}
 use Rattle.sections.proofs.queues.all_taken.Given as goal
 
 abbrev pub invariant-loop-l : goal.invariant-loop-l

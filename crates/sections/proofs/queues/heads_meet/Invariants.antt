@@ -1,9 +1,7 @@
-use native.Mathlib.Omega.{arith}
-use mathlib.Core.Path.{◌≡◌, refl}
+use mathlib.Core.Path.{◌≡◌}
 use Prim.Native.Nat.{◌+◌, ◌*◌, ◌≤◌}
 use lib.ListN.{length}
 use Rattle.sections.specs.Queues.{Even}
-use borrow.Author.Rules.{rules}
 use Rattle.sections.proofs.queues.heads_meet.Given as goal
 
 abbrev pub invariant-loop-walk : goal.invariant-loop-walk

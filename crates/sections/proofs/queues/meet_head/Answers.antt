@@ -1,7 +1,6 @@
 use Rattle.sections.proofs.QueueLaws.{head_entry, even_one}
 use mathlib.Core.Path.{refl, sym, ◌∙◌}
 use native.Mathlib.Omega.{arith}
-use borrow.Author.Rules.{rules}
 use Rattle.sections.proofs.queues.meet_head.Goals as goal
 
 pub meet_mirror-requires-clause-facing : goal.meet_mirror-requires-clause-facing
@@ -10,13 +9,13 @@ meet_mirror-requires-clause-facing c =
     c.requires.even c.requires.inside _ _ c.if-n-x.false refl
     c.if-place-x.false in
     record {
-            low = c.if-n-x.false;
-            is = refl;
-            ahead = c.if-place-x.false;
-            other = omega (arith, c.not_lit-y.ensures, c.requires.placed.even);
-            mirror = c.not_lit-y.ensures;
-            apart = c.if-y-x.true;
-          }
+      low = c.if-n-x.false;
+      is = refl;
+      ahead = c.if-place-x.false;
+      other = omega (arith, c.not_lit-y.ensures, c.requires.placed.even);
+      mirror = c.not_lit-y.ensures;
+      apart = c.if-y-x.true;
+    }
 
 pub returns : goal.returns
 returns c =

@@ -1,7 +1,5 @@
 use Rattle.sections.proofs.QueueLaws.{even_two}
 use mathlib.Core.Path.{refl, ◌∙◌}
-use native.Mathlib.Omega.{arith}
-use borrow.Author.Rules.{rules}
 use Rattle.sections.proofs.queues.meet_mirror.Goals as goal
 
 pub returns : goal.returns

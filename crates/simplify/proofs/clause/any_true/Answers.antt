@@ -1,9 +1,7 @@
 use Rattle.simplify.specs.Values.{true_by}
 use Rattle.base.proofs.MemberLaws.{any_start, any_step, any_some}
-use mathlib.Core.Bool.{false}
 use mathlib.Core.Path.{sym, ◌∙◌}
 use native.Mathlib.Omega.{arith}
-use borrow.Author.Rules.{rules}
 use Rattle.simplify.proofs.clause.any_true.Goals as goal
 
 pub loop-i-init : goal.loop-i-init

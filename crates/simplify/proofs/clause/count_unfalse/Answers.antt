@@ -4,7 +4,6 @@ use lib.ListN.{length}
 use mathlib.Core.Bool.{not}
 use mathlib.Core.Path.{sym, ap, ◌∙◌}
 use native.Mathlib.Omega.{arith}
-use borrow.Author.Rules.{rules}
 use Rattle.simplify.proofs.clause.count_unfalse.Goals as goal
 use Rattle.simplify.proofs.clause.count_unfalse.Goals.{then-not-is_false, else-not-is_false}
 
@@ -24,10 +23,11 @@ pub loop-i-preserved : goal.loop-i-preserved
 loop-i-preserved c = (
   omega arith,
   elim c.if-not-is_false.branch [
-    then-not-is_false w ↦ w.k-is ∙ count_some (λ x. not (false_by c.args.assignment.now x))
-      c.args.lits.now _ _ c.loop-i-test.true
-      (ap not (sym c.is_false.ensures ∙ w.if-not-is_false.true)) c.loop-i.invariant.1
-  | else-not-is_false w ↦ w.k-is ∙ count_none (λ x. not (false_by c.args.assignment.now x))
-      c.args.lits.now _ _ c.loop-i-test.true
-      (ap not (sym c.is_false.ensures ∙ w.if-not-is_false.false)) c.loop-i.invariant.1 ],
+    | then-not-is_false w ↦ w.k-is ∙ count_some (λ x. not (false_by c.args.assignment.now x))
+        c.args.lits.now _ _ c.loop-i-test.true
+        (ap not (sym c.is_false.ensures ∙ w.if-not-is_false.true)) c.loop-i.invariant.1
+    | else-not-is_false w ↦ w.k-is ∙ count_none (λ x. not (false_by c.args.assignment.now x))
+        c.args.lits.now _ _ c.loop-i-test.true
+        (ap not (sym c.is_false.ensures ∙ w.if-not-is_false.false)) c.loop-i.invariant.1
+  ],
 )

@@ -4,9 +4,8 @@ use Rattle.base.proofs.KeepLaws.{kept_start, count_some, count_none, count_most,
 use Rattle.base.proofs.KeepLaws.{store_none, store_end, store_there}
 use lib.ListN.{length, get_or}
 use mathlib.Core.Bool.{true, false, not}
-use mathlib.Core.Path.{◌≡◌, refl, sym, ap, ◌∙◌}
+use mathlib.Core.Path.{◌≡◌, sym, ap, ◌∙◌}
 use native.Mathlib.Omega.{arith}
-use borrow.Author.Rules.{rules}
 use Rattle.simplify.proofs.clause.keep_rest.Goals as goal
 use Rattle.simplify.proofs.clause.keep_rest.Goals.{then-not-is_false, else-not-is_false}
 
@@ -45,28 +44,29 @@ overflow_add-k c =
 pub loop-i-preserved : goal.loop-i-preserved
 loop-i-preserved c =
     elim c.if-not-is_false.branch [
-      then-not-is_false w ↦ let e : not (false_by c.args.assignment.now (get_or c.args.lits.now c.loop-i.i 0)) ≡ true =
-        ap not (sym c.is_false.ensures ∙ w.if-not-is_false.true) in (
-        omega arith,
-        w.k-is ∙ count_some (λ x. not (false_by c.args.assignment.now x)) c.args.lits.now _ _
-          c.loop-i-test.true e c.loop-i.invariant.1,
-        w.out-is ∙ store_some (λ x. not (false_by c.args.assignment.now x)) c.args.lits.now
-          (rename_lit (λ s. get_or c.args.gs.now s 0) c.args.named) c.args.out.now _ _ _ _
-          c.loop-i-test.true e c.loop-i.invariant.1 c.loop-i.invariant.2 w.rename_lit.ensures,
-      )
-    | else-not-is_false w ↦ let e : not (false_by c.args.assignment.now (get_or c.args.lits.now c.loop-i.i 0)) ≡ false =
-        ap not (sym c.is_false.ensures ∙ w.if-not-is_false.false) in (
-        omega arith,
-        w.k-is ∙ count_none (λ x. not (false_by c.args.assignment.now x)) c.args.lits.now _ _
-          c.loop-i-test.true e c.loop-i.invariant.1,
-        w.out-is ∙ store_none (λ x. not (false_by c.args.assignment.now x)) c.args.lits.now
-          (rename_lit (λ s. get_or c.args.gs.now s 0) c.args.named) c.args.out.now _ _ c.loop-i-test.true e
-          c.loop-i.invariant.2,
-      ) ]
+      | then-not-is_false w ↦ let e : not (false_by c.args.assignment.now (get_or c.args.lits.now c.loop-i.i 0)) ≡ true =
+          ap not (sym c.is_false.ensures ∙ w.if-not-is_false.true) in (
+            omega arith,
+            w.k-is ∙ count_some (λ x. not (false_by c.args.assignment.now x)) c.args.lits.now _ _
+                c.loop-i-test.true e c.loop-i.invariant.1,
+            w.out-is ∙ store_some (λ x. not (false_by c.args.assignment.now x)) c.args.lits.now
+                (rename_lit (λ s. get_or c.args.gs.now s 0) c.args.named) c.args.out.now _ _ _ _
+                c.loop-i-test.true e c.loop-i.invariant.1 c.loop-i.invariant.2 w.rename_lit.ensures,
+          )
+      | else-not-is_false w ↦ let e : not (false_by c.args.assignment.now (get_or c.args.lits.now c.loop-i.i 0)) ≡ false =
+          ap not (sym c.is_false.ensures ∙ w.if-not-is_false.false) in (
+            omega arith,
+            w.k-is ∙ count_none (λ x. not (false_by c.args.assignment.now x)) c.args.lits.now _ _
+                c.loop-i-test.true e c.loop-i.invariant.1,
+            w.out-is ∙ store_none (λ x. not (false_by c.args.assignment.now x)) c.args.lits.now
+                (rename_lit (λ s. get_or c.args.gs.now s 0) c.args.named) c.args.out.now _ _ c.loop-i-test.true e
+                c.loop-i.invariant.2,
+          )
+    ]
 
 pub returns-clause-fills : goal.returns-clause-fills
 unfolding rename_lits
 returns-clause-fills c =
     store_end
-          (λ x. not (false_by c.args.assignment.now x)) c.args.lits.now (rename_lit (λ s. get_or c.args.gs.now s 0) c.args.named)
-          c.args.out.now _ _ c.loop-i-test.false c.loop-i.invariant.2
+    (λ x. not (false_by c.args.assignment.now x)) c.args.lits.now (rename_lit (λ s. get_or c.args.gs.now s 0) c.args.named)
+    c.args.out.now _ _ c.loop-i-test.false c.loop-i.invariant.2

@@ -4,9 +4,7 @@ use Rattle.base.proofs.KeepLaws.{kept_to, stored}
 use Prim.Native.Nat.{◌≤◌, ◌-◌}
 use lib.ListN.{length, get_or}
 use mathlib.Core.Bool.{not}
-use mathlib.Core.Path.{◌≡◌, refl}
-use native.Mathlib.Omega.{arith}
-use borrow.Author.Rules.{rules}
+use mathlib.Core.Path.{◌≡◌}
 use Rattle.simplify.proofs.clause.keep_rest.Given as goal
 
 abbrev pub invariant-loop-i : goal.invariant-loop-i

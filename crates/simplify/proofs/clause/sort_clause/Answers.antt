@@ -1,6 +1,5 @@
 use Rattle.simplify.proofs.SortLaws.{sort_dropped, sort_kept, sort_binary, sort_shortened}
 use mathlib.Core.Path.{sym, ◌∙◌}
-use borrow.Author.Rules.{rules}
 use Rattle.simplify.proofs.clause.sort_clause.Goals as goal
 
 pub returns-then-any_true : goal.returns-then-any_true
