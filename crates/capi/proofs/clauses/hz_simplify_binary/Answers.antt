@@ -31,7 +31,7 @@ returns-in_default-clause-bytes c =
     let e = no_binary_format a.format t a.lists.now (length a.out.now) (length a.bytes.now)
     (sym c.format_in.ensures ∙ ap meant_format c.in_default.is) in
     filled_same a.bytes.now 0
-            (ap (λ (o : Outcome). o.bytes) e) refl
+    (ap (λ (o : Outcome). o.bytes) e) refl
 
 pub returns-clause-gives : goal.returns-clause-gives
 returns-clause-gives c =

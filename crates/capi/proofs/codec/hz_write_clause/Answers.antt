@@ -55,4 +55,4 @@ returns-clause-out c =
     (sym c.kind_in.ensures
     ∙ ap meant_kind c.in-Known-kind_in.is) in
     filled_same a.out.now a.at
-          (ap (λ (w' : Writing). w'.bytes) e) c.write_clause-r.ensures.fills
+    (ap (λ (w' : Writing). w'.bytes) e) c.write_clause-r.ensures.fills

@@ -37,4 +37,4 @@ returns-clause-out c =
     (sym c.format_in.ensures
     ∙ ap meant_format c.in-Known.is) in
     filled_same a.out.now 0
-          (ap (λ (w' : Writing). w'.bytes) e) c.write_proof-r.ensures.fills
+    (ap (λ (w' : Writing). w'.bytes) e) c.write_proof-r.ensures.fills
