@@ -5,7 +5,6 @@ use Rattle.numbers.specs.Surface.{plain}
 use Rattle.numbers.proofs.SurfaceLaws.{filled_same}
 use Rattle.capi.proofs.CodecLaws.{write_clause_is, no_clause_format, no_clause_kind, same_numbers}
 use Rattle.numbers.specs.Meant.{meant_format, meant_kind}
-use borrow.Author.Rules.{rules}
 use Rattle.capi.proofs.codec.hz_write_clause.Goals as goal
 
 pub returns-in_default-clause-value : goal.returns-in_default-clause-value
@@ -55,4 +54,4 @@ returns-clause-out c =
     (sym c.kind_in.ensures
     ∙ ap meant_kind c.in-Known-kind_in.is) in
     filled_same a.out.now a.at
-          (ap (λ (w' : Writing). w'.bytes) e) c.write_clause-r.ensures.fills
+    (ap (λ (w' : Writing). w'.bytes) e) c.write_clause-r.ensures.fills

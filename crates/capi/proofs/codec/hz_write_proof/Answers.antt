@@ -5,7 +5,6 @@ use Rattle.numbers.specs.Surface.{plain}
 use Rattle.numbers.proofs.SurfaceLaws.{filled_same}
 use Rattle.capi.proofs.CodecLaws.{write_proof_is, no_proof_format, same_numbers}
 use Rattle.numbers.specs.Meant.{meant_format}
-use borrow.Author.Rules.{rules}
 use Rattle.capi.proofs.codec.hz_write_proof.Goals as goal
 
 pub returns-in_default-clause-value : goal.returns-in_default-clause-value
@@ -37,4 +36,4 @@ returns-clause-out c =
     (sym c.format_in.ensures
     ∙ ap meant_format c.in-Known.is) in
     filled_same a.out.now 0
-          (ap (λ (w' : Writing). w'.bytes) e) c.write_proof-r.ensures.fills
+    (ap (λ (w' : Writing). w'.bytes) e) c.write_proof-r.ensures.fills

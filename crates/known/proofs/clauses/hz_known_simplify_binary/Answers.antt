@@ -5,7 +5,6 @@ use Rattle.scope.specs.Outcome.{Outcome}
 use Rattle.numbers.specs.Meant.{meant_format}
 use Rattle.numbers.proofs.SurfaceLaws.{same_given, quiet_refused, numbered_given, filled_same}
 use Rattle.numbers.proofs.LineLaws.{binary_is, no_binary_format}
-use borrow.Author.Rules.{rules}
 use Rattle.known.proofs.clauses.hz_known_simplify_binary.Goals as goal
 
 pub returns-in_default-clause-gives : goal.returns-in_default-clause-gives
@@ -31,7 +30,7 @@ returns-in_default-clause-bytes c =
     let e = no_binary_format a.format t a.lists.now (length a.out.now) (length a.bytes.now)
     (sym c.format_in.ensures ∙ ap meant_format c.in_default.is) in
     filled_same a.bytes.now 0
-            (ap (λ (o : Outcome). o.bytes) e) refl
+    (ap (λ (o : Outcome). o.bytes) e) refl
 
 pub returns-clause-gives : goal.returns-clause-gives
 returns-clause-gives c =

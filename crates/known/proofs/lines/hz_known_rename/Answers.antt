@@ -8,7 +8,6 @@ use Rattle.numbers.specs.Meant.{meant_step}
 use Rattle.numbers.specs.Lines.{step_given, words_at}
 use Rattle.numbers.proofs.SurfaceLaws.{same_given, quiet_refused, numbered_given, filled_same}
 use Rattle.numbers.proofs.LineLaws.{rename_is, no_rename_step, stepped_given}
-use borrow.Author.Rules.{rules}
 use Rattle.known.proofs.lines.hz_known_rename.Goals as goal
 
 pub returns-in_default-clause-gives_1 : goal.returns-in_default-clause-gives_1
@@ -43,7 +42,7 @@ returns-clause-gives_1 c =
     let e = rename_is a.step t a.solvervars a.lits.now a.hashes.now (length a.out.now) (length a.hashout.now) g in
     let ws = sym (ap words_at g) in
     same_given e (stepped_given t _ a.solvervars a.lits.now a.hashes.now (length a.out.now) (length a.hashout.now)
-          (ws ∙ sym (ap (λ (z : HzStep). words_at (step_given z)) c.renamed_out.ensures.step)) ws (numbered_given c.known_rename_step-r.ensures.meets (c.renamed_out.ensures.numbered _)))
+    (ws ∙ sym (ap (λ (z : HzStep). words_at (step_given z)) c.renamed_out.ensures.step)) ws (numbered_given c.known_rename_step-r.ensures.meets (c.renamed_out.ensures.numbered _)))
 
 pub returns-clause-out : goal.returns-clause-out
 returns-clause-out c =
@@ -60,4 +59,4 @@ returns-clause-hashout c =
     let g : step_given a.step ≡ known c.in-Known.s = sym c.step_in.ensures ∙ ap meant_step c.in-Known.is in
     let e = rename_is a.step t a.solvervars a.lits.now a.hashes.now (length a.out.now) (length a.hashout.now) g in
     filled_same a.hashout.now 0 (ap (λ (o' : Outcome). o'.more) e)
-              c.known_rename_step-r.ensures.hashout
+    c.known_rename_step-r.ensures.hashout
