@@ -5,7 +5,6 @@ use Rattle.drat.specs.Filled.{first}
 use Rattle.numbers.specs.Meant.{meant_format}
 use Rattle.numbers.specs.Surface.{placed, part_of}
 use Rattle.capi.proofs.CodecLaws.{first_is, place_is, no_first_format, no_place_format, first_taken}
-use borrow.Author.Rules.{rules}
 use Rattle.capi.proofs.codec.hz_first_step.Goals as goal
 
 pub returns-in_default-clause-value : goal.returns-in_default-clause-value

@@ -5,7 +5,6 @@ use Rattle.numbers.specs.Surface.{located}
 use Rattle.numbers.proofs.SurfaceLaws.{filled_same}
 use Rattle.capi.proofs.CodecLaws.{read_is, no_read_format, same_numbers}
 use Rattle.numbers.specs.Meant.{meant_format}
-use borrow.Author.Rules.{rules}
 use Rattle.capi.proofs.codec.hz_read.Goals as goal
 
 pub returns-in_default-clause-step : goal.returns-in_default-clause-step

@@ -5,7 +5,6 @@ use Rattle.numbers.specs.Surface.{plain}
 use Rattle.numbers.proofs.SurfaceLaws.{filled_same}
 use Rattle.capi.proofs.CodecLaws.{write_proof_is, no_proof_format, same_numbers}
 use Rattle.numbers.specs.Meant.{meant_format}
-use borrow.Author.Rules.{rules}
 use Rattle.capi.proofs.codec.hz_write_proof.Goals as goal
 
 pub returns-in_default-clause-value : goal.returns-in_default-clause-value

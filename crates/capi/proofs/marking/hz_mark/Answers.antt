@@ -2,7 +2,6 @@ use mathlib.Core.Path.{refl, sym, ap, ◌∙◌}
 use Rattle.numbers.specs.Meant.{meant_mark}
 use Rattle.numbers.proofs.NumberLaws.{known_is, unknown_is}
 use Rattle.numbers.proofs.SurfaceLaws.{same_given, quiet_refused, numbered_given}
-use borrow.Author.Rules.{rules}
 use Rattle.capi.proofs.marking.hz_mark.Goals as goal
 
 pub returns-in_default : goal.returns-in_default

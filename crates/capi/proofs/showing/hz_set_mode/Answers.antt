@@ -2,7 +2,6 @@ use mathlib.Core.Path.{refl, sym, ap, ◌∙◌}
 use Rattle.numbers.specs.Meant.{meant_mode}
 use Rattle.numbers.proofs.NumberLaws.{known_is, unknown_is}
 use Rattle.numbers.proofs.SurfaceLaws.{same_given, refused_given, numbered_given}
-use borrow.Author.Rules.{rules}
 use Rattle.capi.proofs.showing.hz_set_mode.Goals as goal
 
 pub returns-in_default : goal.returns-in_default

@@ -5,7 +5,6 @@ use Rattle.scope.specs.Outcome.{Outcome}
 use Rattle.numbers.specs.Meant.{meant_format}
 use Rattle.numbers.proofs.SurfaceLaws.{same_given, quiet_refused, numbered_given, filled_same}
 use Rattle.numbers.proofs.LineLaws.{binary_is, no_binary_format}
-use borrow.Author.Rules.{rules}
 use Rattle.known.proofs.clauses.hz_known_simplify_binary.Goals as goal
 
 pub returns-in_default-clause-gives : goal.returns-in_default-clause-gives

@@ -8,7 +8,6 @@ use Rattle.numbers.specs.Meant.{meant_step}
 use Rattle.numbers.specs.Lines.{step_given, words_at}
 use Rattle.numbers.proofs.SurfaceLaws.{same_given, quiet_refused, numbered_given, filled_same}
 use Rattle.numbers.proofs.LineLaws.{rename_is, no_rename_step, stepped_given}
-use borrow.Author.Rules.{rules}
 use Rattle.known.proofs.lines.hz_known_rename.Goals as goal
 
 pub returns-in_default-clause-gives_1 : goal.returns-in_default-clause-gives_1

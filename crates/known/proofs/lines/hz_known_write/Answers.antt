@@ -5,7 +5,6 @@ use Rattle.scope.specs.Outcome.{Outcome}
 use Rattle.numbers.specs.Meant.{meant_format, meant_step}
 use Rattle.numbers.proofs.SurfaceLaws.{same_given, quiet_refused, numbered_given, filled_same}
 use Rattle.numbers.proofs.LineLaws.{write_is, no_write_format, no_write_step}
-use borrow.Author.Rules.{rules}
 use Rattle.known.proofs.lines.hz_known_write.Goals as goal
 
 pub returns-in_default-clause-gives : goal.returns-in_default-clause-gives

@@ -4,7 +4,6 @@ use Rattle.numbers.proofs.NumberLaws.{known_is, unknown_is}
 use Rattle.marks.specs.Answers.{with_records}
 use Rattle.numbers.proofs.SurfaceLaws.{same_given, quiet_refused, numbered_left}
 use Rattle.known.proofs.InLaws.{left_same}
-use borrow.Author.Rules.{rules}
 use Rattle.known.proofs.marking.hz_mark_in.Goals as goal
 
 pub returns-in_default : goal.returns-in_default
