@@ -1,20 +1,18 @@
 -- What the numbers of the C surface stand for.
-use Rattle.std.specs.Prelude.{ℕ, Bool, not, eqb}
+use Rattle.std.specs.Prelude.{ℕ, Bool, not, eqb, Some, None, Option}
 use Rattle.base.specs.Choice.{pick}
 use Rattle.drat.specs.declared.Format.{Format}
 use Rattle.drat.specs.declared.Format.TheVariants.{Text, Binary}
 use Rattle.drat.specs.declared.Kind.{Kind}
 use Rattle.drat.specs.declared.Kind.TheVariants.{Add, Delete}
+use Rattle.scope.specs.declared.Solver.{Solver}
+use Rattle.scope.specs.declared.User.{User}
 use Rattle.scope.specs.declared.Mark.{Mark}
 use Rattle.scope.specs.declared.Mark.TheVariants.{Used, Assumed, Released}
 use Rattle.scope.specs.declared.SamplingMode.{SamplingMode}
 use Rattle.scope.specs.declared.SamplingMode.TheVariants.{Sample, Witness, Hide}
 use Rattle.scope.specs.declared.DeleteClauseProof.{DeleteClauseProof}
 use Rattle.scope.specs.declared.DeleteClauseProof.TheVariants.{Redundant, Satisfied, Simplified}
-use Rattle.scope.specs.declared.SolverName.{SolverName}
-use Rattle.scope.specs.declared.SolverName.TheVariants as S
-use Rattle.scope.specs.declared.UserName.{UserName}
-use Rattle.scope.specs.declared.UserName.TheVariants as U
 use Rattle.scope.specs.declared.ProofStep.{ProofStep}
 use Rattle.scope.specs.declared.ProofStep.TheVariants.{AddClause, AtClause, UnitClauses, DeleteClause, Model, Assumptions, FailedAssumptions, SolverVarName}
 use Rattle.scope.specs.declared.ProofStep.TheVariants.{UserVarName, DeleteVar, ChangeSamplingMode, ChangeHashBits, End}
@@ -71,11 +69,11 @@ abbrev pub global_at : ℕ → Global
 global_at n = record { 0 = n }
 
 -- a name by its word: index + 1, or 0 where it is withdrawn
-abbrev pub solver_name_for : ℕ → SolverName
-solver_name_for n = word S.Withdrawn (λ s. S.Granted (record { 0 = s })) n
+abbrev pub solver_name_for : ℕ → Option Solver
+solver_name_for n = word None (λ s. Some (record { 0 = s })) n
 
-abbrev pub user_name_for : ℕ → UserName
-user_name_for n = word U.Withdrawn (λ u. U.Granted (record { 0 = u })) n
+abbrev pub user_name_for : ℕ → Option User
+user_name_for n = word None (λ u. Some (record { 0 = u })) n
 
 -- the kind's place in the table of kinds, and what the step carries of its own
 unfoldable pub step_for : ℕ → ℕ → ℕ → Meaning ProofStep

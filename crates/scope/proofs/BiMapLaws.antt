@@ -1,4 +1,5 @@
 -- What an insertion leaves, from the tests that it passed.
+use Rattle.std.specs.Prelude.{Ok, Err, Result}
 use Prim.Native.Nat.{ℕ, ◌+◌, ◌<◌}
 use mathlib.Core.Path.{◌≡◌, refl, sym, ap, ◌∙◌, subst}
 use mathlib.Core.Bool.{Bool, true, false, ◌&&◌}
@@ -12,6 +13,9 @@ use Rattle.base.specs.Choice.{pick}
 use Rattle.base.proofs.BelowLaws.{and_left, and_right, and_both}
 use Rattle.scope.specs.declared.Counts.{Counts}
 use Rattle.scope.specs.declared.Name.{Name}
+use Rattle.scope.specs.declared.Refusal.{Refusal}
+use Rattle.scope.specs.Refusals.{number, refused_by, or_counts}
+use Rattle.scope.proofs.RefusedLaws.{number_above_0}
 use Rattle.scope.specs.declared.Name.TheVariants.{User, Solver}
 use Rattle.scope.specs.BiMap.{index_in, cover_name, insert_refusal, Inserts, Covered}
 
@@ -119,3 +123,12 @@ insert_covered c r fwd bwd f b n g k p v = go (fits c fwd bwd (index_in n) g) re
         let z : k ≡ 3 = p.refusal ∙ ap (λ (t : Bool). pick t 0 3) e in
         let q = ne_eqb k 0 (λ y. omega arith) in
         rw (p.counts, p.forward, p.backward, q) v
+
+-- an insertion that fits is accepted
+pub accepted : (c : Counts) (fwd bwd f b : List ℕ) (n : Name) (g : ℕ) (r : Result Counts Refusal) → Fits c fwd bwd (index_in n) g
+    → Inserts c fwd bwd n g (refused_by r) (or_counts c r) f b → r ≡ Ok (cover_name n c g)
+unfolding insert_refusal
+accepted c fwd bwd f b n g (Ok d) h p = ap Ok (insert_done c d fwd bwd f b n g 0 h p).counts
+accepted c fwd bwd f b n g (Err e) h p =
+    let z : number e ≡ 0 = p.refusal ∙ ap (λ (t : Bool). pick t 0 3) (fits_test c fwd bwd (index_in n) g h) in
+    let k = number_above_0 e in absurd (omega arith)

@@ -1,6 +1,7 @@
 pub mod Anchored
 pub mod ContractLaws
 pub mod CountsLaws
+pub mod RefusedLaws
 pub mod BiMapLaws
 pub mod SoundLaws
 pub mod PairLaws

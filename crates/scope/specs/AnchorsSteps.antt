@@ -1,12 +1,10 @@
 -- Anchors of Simplify, Rename and Write. Where two refusals apply in a row, a remark names the later one.
-use Rattle.std.specs.Prelude.{ℕ, false, true, List, [], ◌∷◌, replicate}
+use Rattle.std.specs.Prelude.{ℕ, false, true, List, [], ◌∷◌, replicate, Some, None, Option}
 use Rattle.drat.specs.declared.Format.TheVariants.{Text, Binary}
+use Rattle.scope.specs.declared.Solver.{Solver}
+use Rattle.scope.specs.declared.User.{User}
 use Rattle.scope.specs.declared.Global.{Global}
 use Rattle.scope.specs.declared.DeleteClauseProof.TheVariants.{Redundant, Satisfied, Simplified}
-use Rattle.scope.specs.declared.SolverName.{SolverName}
-use Rattle.scope.specs.declared.SolverName.TheVariants as S
-use Rattle.scope.specs.declared.UserName.{UserName}
-use Rattle.scope.specs.declared.UserName.TheVariants as U
 use Rattle.scope.specs.declared.ProofStep.TheVariants.{AddClause, AtClause, UnitClauses, DeleteClause, Model, Assumptions, FailedAssumptions}
 use Rattle.scope.specs.declared.ProofStep.TheVariants.{SolverVarName, UserVarName, DeleteVar, ChangeSamplingMode, ChangeHashBits, End}
 use Rattle.scope.specs.Table.{Table}
@@ -24,11 +22,11 @@ held4 = tab 4 0 4 4 4 4 (w4 0 0 0 0) (w4 0 0 0 0) (w4 3 4 2 1) (w4 4 3 1 2) (w4 
 abbrev pub the : ℕ → Global
 the g = record { 0 = g }
 
-abbrev pub the_solver : ℕ → SolverName
-the_solver s = S.Granted (record { 0 = s })
+abbrev pub the_solver : ℕ → Option Solver
+the_solver s = Some (record { 0 = s })
 
-abbrev pub the_user : ℕ → UserName
-the_user u = U.Granted (record { 0 = u })
+abbrev pub the_user : ℕ → Option User
+the_user u = Some (record { 0 = u })
 
 -- ---- Simplify: 1, 3, 8, 12, 2. 0 kept, 1 dropped, 2 shortened, 3 binary; literals left; the redundant flag; bytes.
 
@@ -121,9 +119,9 @@ renames =
     ∷ does (rename_of held4 FailedAssumptions true (w2 1 6) (w3 70 71 72) 2 3) is writes (w3 2 3 6) held4 (w2 7 2) (w3 70 71 72) []
     -- six pass as given; what stands beside them is no part of them
     ∷ does (rename_of held4 (SolverVarName (the 2) (the_solver 3)) true (w2 1 99) (w1 70) 0 0) is writes (0 ∷ 0 ∷ 7 ∷ 2 ∷ 4 ∷ []) held4 [] [] []
-    ∷ does (rename_of held4 (SolverVarName (the 2) S.Withdrawn) true (w2 1 99) (w1 70) 0 0) is writes (0 ∷ 0 ∷ 7 ∷ 2 ∷ 0 ∷ []) held4 [] [] []
+    ∷ does (rename_of held4 (SolverVarName (the 2) None) true (w2 1 99) (w1 70) 0 0) is writes (0 ∷ 0 ∷ 7 ∷ 2 ∷ 0 ∷ []) held4 [] [] []
     ∷ does (rename_of held4 (UserVarName (the 2) (the_user 3)) true (w2 1 99) (w1 70) 0 0) is writes (0 ∷ 0 ∷ 8 ∷ 2 ∷ 4 ∷ []) held4 [] [] []
-    ∷ does (rename_of held4 (UserVarName (the 2) U.Withdrawn) true (w2 1 99) (w1 70) 0 0) is writes (0 ∷ 0 ∷ 8 ∷ 2 ∷ 0 ∷ []) held4 [] [] []
+    ∷ does (rename_of held4 (UserVarName (the 2) None) true (w2 1 99) (w1 70) 0 0) is writes (0 ∷ 0 ∷ 8 ∷ 2 ∷ 0 ∷ []) held4 [] [] []
     ∷ does (rename_of held4 (DeleteVar (the 2)) true (w2 1 99) (w1 70) 0 0) is writes (w4 0 0 9 2) held4 [] [] []
     ∷ does (rename_of held4 (ChangeSamplingMode (the 2) true) true (w1 99) (w1 70) 0 0) is writes (0 ∷ 0 ∷ 10 ∷ 2 ∷ 1 ∷ []) held4 [] [] []
     ∷ does (rename_of held4 (ChangeSamplingMode (the 2) false) false (w1 99) [] 0 0) is writes (0 ∷ 0 ∷ 10 ∷ 2 ∷ 0 ∷ []) held4 [] [] []

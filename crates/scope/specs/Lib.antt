@@ -1,4 +1,5 @@
 pub mod Literals
+pub mod Refusals
 pub mod Table
 pub mod BiMap
 pub mod Cursor

@@ -1,14 +1,12 @@
 -- The thirteen step kinds (document 01, "Rename and write"), and what DRAT writes for each.
-use Rattle.std.specs.Prelude.{ℕ, ◌+◌, Bool, true, false, List, [], ◌∷◌, map}
+use Rattle.std.specs.Prelude.{ℕ, ◌+◌, Bool, true, false, List, [], ◌∷◌, map, Some, None, Option}
 use Rattle.base.specs.Choice.{pick}
 use Rattle.drat.specs.Grammar.{Step, step_of}
 use Rattle.drat.specs.declared.Kind.TheVariants.{Add, Delete}
+use Rattle.scope.specs.declared.Solver.{Solver}
+use Rattle.scope.specs.declared.User.{User}
 use Rattle.scope.specs.declared.DeleteClauseProof.{DeleteClauseProof}
 use Rattle.scope.specs.declared.DeleteClauseProof.TheVariants.{Redundant, Satisfied, Simplified}
-use Rattle.scope.specs.declared.SolverName.{SolverName}
-use Rattle.scope.specs.declared.SolverName.TheVariants as S
-use Rattle.scope.specs.declared.UserName.{UserName}
-use Rattle.scope.specs.declared.UserName.TheVariants as U
 use Rattle.scope.specs.declared.ProofStep.{ProofStep}
 use Rattle.scope.specs.declared.ProofStep.TheVariants.{AddClause, AtClause, UnitClauses, DeleteClause, Model, Assumptions, FailedAssumptions}
 use Rattle.scope.specs.declared.ProofStep.TheVariants.{SolverVarName, UserVarName, DeleteVar, ChangeSamplingMode, ChangeHashBits, End}
@@ -61,13 +59,13 @@ abbrev pub flag : Bool → ℕ
 flag b = pick b 1 0
 
 -- the word of a name that is granted or withdrawn: index + 1, or 0
-abbrev pub solver_name_word : SolverName → ℕ
-solver_name_word (S.Granted s) = s.0 + 1
-solver_name_word S.Withdrawn = 0
+abbrev pub solver_name_word : Option Solver → ℕ
+solver_name_word (Some s) = s.0 + 1
+solver_name_word None = 0
 
-abbrev pub user_name_word : UserName → ℕ
-user_name_word (U.Granted u) = u.0 + 1
-user_name_word U.Withdrawn = 0
+abbrev pub user_name_word : Option User → ℕ
+user_name_word (Some u) = u.0 + 1
+user_name_word None = 0
 
 -- a step in words: its kind, then what it carries of its own
 abbrev pub step_words : ProofStep → List ℕ

@@ -1,11 +1,82 @@
 // The types of document 01, and how the counts go through a single change. Its definitions are in specs/, their laws in proofs/.
 #![tactic(auto)]
 
-ghost use Rattle.std.specs.Prelude.{◌≡◌, ◌+◌, ◌^◌, ◌≤◌, ◌<◌, max, min, length, get_or, set};
+ghost use Rattle.std.specs.Prelude.{◌≡◌, ◌+◌, ◌^◌, ◌≤◌, ◌<◌, length, get_or, set};
 ghost use Rattle.base.specs.Choice.{pick};
 ghost use Rattle.scope.specs.Table.{cover_user, cover_solver, is_deleted, least_free, map_counts, grant_counts, remove_counts, drop_counts};
 ghost use Rattle.scope.specs.BiMap.{index_in, cover_name, Inserts};
 ghost use Rattle.scope.specs.Cursor.{AllMapped};
+ghost use Rattle.scope.specs.Modes.{mode_number};
+ghost use Rattle.scope.specs.Refusals.{number, refused_by, or_counts};
+
+use std::fmt;
+
+// Why a call is refused. The readers' refusals 13 and 17, which have a place, are in drat and dimacs.
+#[derive(Clone, Copy, Debug, PartialEq, Eq)]
+pub enum Refusal {
+    Unsound,
+    Short,
+    OutOfRange,
+    NotSampled,
+    NoRoom,
+    Deleted,
+    Assumed,
+    NotHeld,
+    HasValue,
+    BadSize,
+    NotInDrat,
+    FewUnknown,
+    Unmatched,
+    BadLists,
+    StillAssumed,
+}
+
+// The number that document 01 gives a refusal.
+impl From<Refusal> for u32 {
+    ghost from_gives = { λ r n. n ≡ number r };
+
+    fn from(r: Refusal) -> u32 {
+        match r {
+            Refusal::Unsound => 1,
+            Refusal::Short => 2,
+            Refusal::OutOfRange => 3,
+            Refusal::NotSampled => 4,
+            Refusal::NoRoom => 5,
+            Refusal::Deleted => 6,
+            Refusal::Assumed => 7,
+            Refusal::NotHeld => 8,
+            Refusal::HasValue => 9,
+            Refusal::BadSize => 10,
+            Refusal::NotInDrat => 11,
+            Refusal::FewUnknown => 12,
+            Refusal::Unmatched => 14,
+            Refusal::BadLists => 15,
+            Refusal::StillAssumed => 16,
+        }
+    }
+}
+
+impl fmt::Display for Refusal {
+    fn fmt<W: fmt::Write>(&self, f: &mut fmt::Formatter<W>) -> fmt::Result {
+        f.write_str(match self {
+            Refusal::Unsound => "the table is unsound",
+            Refusal::Short => "a lent slice is too short",
+            Refusal::OutOfRange => "an index out of range",
+            Refusal::NotSampled => "the global is not Sample",
+            Refusal::NoRoom => "no free global is left",
+            Refusal::Deleted => "the global is deleted",
+            Refusal::Assumed => "the global is assumed",
+            Refusal::NotHeld => "solver index not held",
+            Refusal::HasValue => "the solver index has a value",
+            Refusal::BadSize => "the capacity or the length of a slice",
+            Refusal::NotInDrat => "a step kind that DRAT lacks",
+            Refusal::FewUnknown => "fewer than two literals are unknown",
+            Refusal::Unmatched => "units and hashes differ in number",
+            Refusal::BadLists => "the lists are no sections, or an entry has no mirror",
+            Refusal::StillAssumed => "the global that holds the solver index is assumed",
+        })
+    }
+}
 
 // The capacity, the three watermarks, how many globals are undeleted, and the least unmapped solver index. The C surface has it as it is.
 #[repr(C)]
@@ -43,32 +114,18 @@ fn cut(a: &mut [u32], b: &mut [u32], i: u32, j: u32)
     b[j as usize] = 0;
 }
 
-pub fn larger(a: u32, b: u32) -> u32
-    ensures { result ≡ max a b }
-{
-    if a < b { b } else { a }
-}
-
-fn smaller(a: u32, b: u32) -> u32
-    ensures { result ≡ min a b }
-{
-    if a < b { a } else { b }
-}
-
 // The least index below the mark at which the map has 0, else the mark; below `from` it has none.
 pub fn least_free(xs: &[u32], mark: u32, from: u32) -> u32
     requires mark_in_bounds { mark ≤ length xs.now }
     requires all_mapped { AllMapped xs.now mark from }
     ensures { result ≡ least_free xs.now mark }
 {
-    let mut i = from;
-    while i < mark {
+    for i in from..mark {
         if xs[i as usize] == 0 {
             return i;
         }
-        i += 1;
     }
-    i
+    mark
 }
 
 // How many globals are undeleted once one whose record was `was` gets a user.
@@ -86,13 +143,6 @@ pub enum Name {
     Solver(Solver),
 }
 
-// What an insertion answers: the refusal, 0 for none, and the counts.
-#[derive(Clone, Copy)]
-pub struct Put {
-    pub refusal: u32,
-    pub counts: Counts,
-}
-
 fn index_in(n: Name) -> u32
     ensures { result ≡ index_in n }
 {
@@ -108,8 +158,8 @@ fn cover_user(c: Counts, u: User, g: Global) -> Counts
     ensures { result ≡ cover_user c u.0 g.0 }
 {
     let mut covered = c;
-    covered.user = larger(c.user, u.0 + 1);
-    covered.global = larger(c.global, g.0 + 1);
+    covered.user = c.user.max(u.0 + 1);
+    covered.global = c.global.max(g.0 + 1);
     covered
 }
 
@@ -119,8 +169,8 @@ fn cover_solver(c: Counts, s: Solver, g: Global) -> Counts
     ensures { result ≡ cover_solver c s.0 g.0 }
 {
     let mut covered = c;
-    covered.solver = larger(c.solver, s.0 + 1);
-    covered.global = larger(c.global, g.0 + 1);
+    covered.solver = c.solver.max(s.0 + 1);
+    covered.global = c.global.max(g.0 + 1);
     covered
 }
 
@@ -136,9 +186,15 @@ fn cover(c: Counts, n: Name, g: Global) -> Counts
     }
 }
 
-// The insertion by value: `fwd` takes the name to the global, `bwd` the global to the name.
-fn put_pair(c: Counts, fwd: &mut [u32], bwd: &mut [u32], n: Name, g: Global) -> Put
-    ensures { Inserts c fwd.old bwd.old n g.0 result.refusal result.counts fwd.new bwd.new }
+// The insertion by value: `fwd` takes the name to the global, `bwd` the global to the name. It answers the counts.
+fn put_pair(
+    c: Counts,
+    fwd: &mut [u32],
+    bwd: &mut [u32],
+    n: Name,
+    g: Global,
+) -> Result<Counts, Refusal>
+    ensures { Inserts c fwd.old bwd.old n g.0 (refused_by result) (or_counts c result) fwd.new bwd.new }
 {
     let i = index_in(n);
     let j = g.0;
@@ -147,35 +203,40 @@ fn put_pair(c: Counts, fwd: &mut [u32], bwd: &mut [u32], n: Name, g: Global) -> 
         & ((i as usize) < fwd.len())
         & ((j as usize) < bwd.len()))
     {
-        return Put {
-            refusal: 3,
-            counts: c,
-        };
+        return Err(Refusal::OutOfRange);
     }
     let counts = cover(c, n, g);
     link(fwd, bwd, i, j);
-    Put { refusal: 0, counts }
+    Ok(counts)
 }
 
-// The insertion with the counts lent: they are advanced by it. The answer is the refusal, 0 for none.
-pub fn insert(counts: &mut Counts, fwd: &mut [u32], bwd: &mut [u32], n: Name, g: Global) -> u32
-    ensures { Inserts counts.old fwd.old bwd.old n g.0 result counts.new fwd.new bwd.new }
+// The insertion with the counts lent: they are advanced by it.
+pub fn insert(
+    counts: &mut Counts,
+    fwd: &mut [u32],
+    bwd: &mut [u32],
+    n: Name,
+    g: Global,
+) -> Result<(), Refusal>
+    ensures { Inserts counts.old fwd.old bwd.old n g.0 (refused_by result) counts.new fwd.new bwd.new }
 {
-    let p = put_pair(*counts, fwd, bwd, n, g);
-    *counts = p.counts;
-    p.refusal
+    *counts = put_pair(*counts, fwd, bwd, n, g)?;
+    Ok(())
 }
 
 // The same with plain parameters, for every other caller.
-pub fn inserted(counts: Counts, fwd: &mut [u32], bwd: &mut [u32], n: Name, g: Global) -> Put
-    ensures { Inserts counts fwd.old bwd.old n g.0 result.refusal result.counts fwd.new bwd.new }
+pub fn inserted(
+    counts: Counts,
+    fwd: &mut [u32],
+    bwd: &mut [u32],
+    n: Name,
+    g: Global,
+) -> Result<Counts, Refusal>
+    ensures { Inserts counts fwd.old bwd.old n g.0 (refused_by result) (or_counts counts result) fwd.new bwd.new }
 {
     let mut c = counts;
-    let refusal = insert(&mut c, fwd, bwd, n, g);
-    Put {
-        refusal: refusal,
-        counts: c,
-    }
+    insert(&mut c, fwd, bwd, n, g)?;
+    Ok(c)
 }
 
 impl Counts {
@@ -203,8 +264,7 @@ impl Counts {
         let g = global.0 as usize;
         let used = used_with(self.used, records[g]);
         records[g] = w;
-        let p = inserted(self, gu, ug, Name::User(user), global);
-        self = p.counts;
+        self = inserted(self, gu, ug, Name::User(user), global).unwrap();
         self.used = used;
         self
     }
@@ -233,8 +293,7 @@ impl Counts {
         ensures sg_value { sg.new ≡ set sg.old global.0 (solver.0 + 1) }
         ensures gs_value { gs.new ≡ set gs.old solver.0 (global.0 + 1) }
     {
-        let p = inserted(self, gs, sg, Name::Solver(solver), global);
-        self = p.counts;
+        self = inserted(self, gs, sg, Name::Solver(solver), global).unwrap();
         self.next = least_free(gs, self.solver, solver.0 + 1);
         self
     }
@@ -256,7 +315,7 @@ impl Counts {
         ensures gs_value { gs.new ≡ set gs.old solver.0 0 }
     {
         cut(sg, gs, global.0, solver.0);
-        self.next = smaller(self.next, solver.0);
+        self.next = self.next.min(solver.0);
         self
     }
 
@@ -293,6 +352,18 @@ pub enum SamplingMode {
     Hide,
 }
 
+impl From<SamplingMode> for u32 {
+    ghost from_gives = { λ m n. n ≡ mode_number m };
+
+    fn from(m: SamplingMode) -> u32 {
+        match m {
+            SamplingMode::Sample => 0,
+            SamplingMode::Witness => 1,
+            SamplingMode::Hide => 2,
+        }
+    }
+}
+
 // What is marked at a held solver index: in use, assumed, no longer assumed.
 #[derive(Clone, Copy)]
 pub enum Mark {
@@ -321,21 +392,8 @@ pub enum Note {
     ModeChanged(Global, bool),
 }
 
-// What a naming step tells of a global: the solver index granted to it, or that its index is withdrawn.
-#[derive(Clone, Copy)]
-pub enum SolverName {
-    Granted(Solver),
-    Withdrawn,
-}
-
-// The same of its user index.
-#[derive(Clone, Copy)]
-pub enum UserName {
-    Granted(User),
-    Withdrawn,
-}
-
-// The thirteen step kinds. Literals and hashes stand in slices beside the step.
+// The thirteen step kinds. A naming step tells the index granted to a global, or that its index is withdrawn. Literals and hashes stand in
+// slices beside the step.
 #[derive(Clone, Copy)]
 pub enum ProofStep {
     AddClause,
@@ -345,8 +403,8 @@ pub enum ProofStep {
     Model,
     Assumptions,
     FailedAssumptions,
-    SolverVarName(Global, SolverName),
-    UserVarName(Global, UserName),
+    SolverVarName(Global, Option<Solver>),
+    UserVarName(Global, Option<User>),
     DeleteVar(Global),
     ChangeSamplingMode(Global, bool),
     ChangeHashBits(u32),

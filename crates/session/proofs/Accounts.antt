@@ -1,5 +1,6 @@
 -- Sessions computed from the definitions, with their answers and what the ledger of demand 3 then holds: its entries, which globals these
 -- show, its lines, how the lines enter, and the joined bytes. A wrong definition shows here in numbers.
+use Rattle.std.specs.Prelude.{Some}
 use mathlib.Core.Path.{◌≡◌, refl}
 use mathlib.Core.Bool.{false, true}
 use mathlib.Core.List.{List, [], ◌∷◌, ◌++◌, map}
@@ -13,7 +14,6 @@ use Rattle.drat.specs.declared.Kind.TheVariants.{Add, Delete}
 use Rattle.scope.specs.declared.Counts.{Counts}
 use Rattle.scope.specs.declared.Mark.TheVariants.{Assumed, Released}
 use Rattle.scope.specs.declared.SamplingMode.TheVariants.{Hide}
-use Rattle.scope.specs.declared.SolverName.TheVariants.{Granted}
 use Rattle.scope.specs.declared.ProofStep.TheVariants.{AddClause, AtClause, UnitClauses, DeleteClause, Model, SolverVarName}
 use Rattle.scope.specs.declared.DeleteClauseProof.TheVariants.{Redundant}
 use Rattle.scope.specs.Table.{Table, table_of, word, is_shown, give_user, take_user, give_solver, take_solver, put_record, put_value, drop_global, least_free, next_solver}
@@ -177,7 +177,7 @@ clauses =
     ∷ turn (simplify (1 ∷ 2 ∷ []) false) (lending 0 4 0 40)
     ∷ turn (simplify (2 ∷ 4 ∷ []) false) (lending 0 4 0 40)
     ∷ turn (simplify (1 ∷ 8 ∷ []) false) (lending 0 4 0 40)
-    ∷ turn (write (SolverVarName (record { 0 = 3 }) (Granted (record { 0 = 1 }))) true [] []) (lending 0 0 0 40)
+    ∷ turn (write (SolverVarName (record { 0 = 3 }) (Some (record { 0 = 1 }))) true [] []) (lending 0 0 0 40)
     ∷ turn (write UnitClauses true (2 ∷ 5 ∷ []) (9 ∷ 9 ∷ [])) (lending 0 0 0 40)
     ∷ turn (write (DeleteClause Redundant) true (4 ∷ []) []) (lending 0 0 0 40)
     ∷ turn (write (AtClause true) false (15 ∷ []) []) (lending 0 0 0 40)

@@ -1,4 +1,5 @@
 -- The number and the values of an answer tell the answer.
+use Rattle.std.specs.Prelude.{Some, None}
 use Prim.Native.Nat.{ℕ}
 use mathlib.Core.Path.{◌≡◌, refl, sym, ap, ◌∙◌}
 use mathlib.Core.Bool.{true, false}
@@ -7,8 +8,6 @@ use lib.Dec.{eqb}
 use lib.ListN.{get_or}
 use Rattle.scope.specs.declared.Counts.{Counts}
 use Rattle.scope.specs.declared.DeleteClauseProof.TheVariants.{Redundant, Satisfied, Simplified}
-use Rattle.scope.specs.declared.SolverName.TheVariants as S
-use Rattle.scope.specs.declared.UserName.TheVariants as U
 use Rattle.scope.specs.declared.ProofStep.{ProofStep}
 use Rattle.scope.specs.declared.ProofStep.TheVariants.{AddClause, AtClause, UnitClauses, DeleteClause, Model, Assumptions, FailedAssumptions, SolverVarName}
 use Rattle.scope.specs.declared.ProofStep.TheVariants.{UserVarName, DeleteVar, ChangeSamplingMode, ChangeHashBits, End}
@@ -34,8 +33,8 @@ step_from ws =
     ∷ Model
     ∷ Assumptions
     ∷ FailedAssumptions
-    ∷ SolverVarName (record { 0 = a }) (word S.Withdrawn (λ s. S.Granted (record { 0 = s })) b)
-    ∷ UserVarName (record { 0 = a }) (word U.Withdrawn (λ u. U.Granted (record { 0 = u })) b)
+    ∷ SolverVarName (record { 0 = a }) (word None (λ s. Some (record { 0 = s })) b)
+    ∷ UserVarName (record { 0 = a }) (word None (λ u. Some (record { 0 = u })) b)
     ∷ DeleteVar (record { 0 = a })
     ∷ ChangeSamplingMode (record { 0 = a }) (eqb b 1)
     ∷ ChangeHashBits a
@@ -54,10 +53,10 @@ from_words (DeleteClause Simplified) = refl
 from_words Model = refl
 from_words Assumptions = refl
 from_words FailedAssumptions = refl
-from_words (SolverVarName g (S.Granted s)) = ap (SolverVarName g) (found_index S.Withdrawn (λ s. S.Granted (record { 0 = s })) s.0)
-from_words (SolverVarName g S.Withdrawn) = refl
-from_words (UserVarName g (U.Granted u)) = ap (UserVarName g) (found_index U.Withdrawn (λ u. U.Granted (record { 0 = u })) u.0)
-from_words (UserVarName g U.Withdrawn) = refl
+from_words (SolverVarName g (Some s)) = ap (SolverVarName g) (found_index None (λ s. Some (record { 0 = s })) s.0)
+from_words (SolverVarName g None) = refl
+from_words (UserVarName g (Some u)) = ap (UserVarName g) (found_index None (λ u. Some (record { 0 = u })) u.0)
+from_words (UserVarName g None) = refl
 from_words (DeleteVar g) = refl
 from_words (ChangeSamplingMode g true) = refl
 from_words (ChangeSamplingMode g false) = refl

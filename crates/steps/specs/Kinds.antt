@@ -1,8 +1,6 @@
 -- The table of step kinds by number.
-use Rattle.std.specs.Prelude.{ℕ, false, List, [], ◌∷◌, get_or}
+use Rattle.std.specs.Prelude.{ℕ, false, List, [], ◌∷◌, get_or, None}
 use Rattle.scope.specs.declared.DeleteClauseProof.TheVariants.{Redundant}
-use Rattle.scope.specs.declared.SolverName.TheVariants as S
-use Rattle.scope.specs.declared.UserName.TheVariants as U
 use Rattle.scope.specs.declared.ProofStep.{ProofStep}
 use Rattle.scope.specs.declared.ProofStep.TheVariants.{AddClause, AtClause, UnitClauses, DeleteClause, Model, Assumptions, FailedAssumptions, SolverVarName}
 use Rattle.scope.specs.declared.ProofStep.TheVariants.{UserVarName, DeleteVar, ChangeSamplingMode, ChangeHashBits, End}
@@ -19,8 +17,8 @@ kinds =
     ∷ Model
     ∷ Assumptions
     ∷ FailedAssumptions
-    ∷ SolverVarName (record { 0 = 0 }) S.Withdrawn
-    ∷ UserVarName (record { 0 = 0 }) U.Withdrawn
+    ∷ SolverVarName (record { 0 = 0 }) None
+    ∷ UserVarName (record { 0 = 0 }) None
     ∷ DeleteVar (record { 0 = 0 })
     ∷ ChangeSamplingMode (record { 0 = 0 }) false
     ∷ ChangeHashBits 0
