@@ -1,10 +1,11 @@
 -- Laws of `sets`, a run of stores.
-use Prim.Native.Nat.{ℕ, suc, ◌+◌}
+use Rattle.std.proofs.lemmas.List.Edits.{sets-eq}
+use Prim.Native.Nat.{ℕ, suc, ◌+◌, ◌≤◌}
 use mathlib.Core.Path.{◌≡◌, sym, ap, ◌∙◌}
 use mathlib.Core.List.{List, [], ◌∷◌, ◌++◌}
 use native.Mathlib.Nat.{add-zero}
 use native.Mathlib.Omega.{arith}
-use lib.ListN.{length, set}
+use lib.ListN.{length, set, drop}
 use lib.Seq.{sets}
 
 -- one run of stores after another
@@ -15,3 +16,9 @@ sets_append (x ∷ xs) ys l i = sets_append xs ys (set l i x) (suc i) ∙ ap (λ
 -- a store just past a run of stores makes the run one longer
 pub store_next : (l m xs : List ℕ) (i n x : ℕ) → m ≡ sets l i xs → n ≡ i + length xs → set m n x ≡ sets l i (xs ++ x ∷ [])
 store_next l m xs i n x a b = ap (λ (k : List ℕ). set k n x) a ∙ ap (λ (k : ℕ). set (sets l i xs) k x) b ∙ sym (sets_append xs (x ∷ []) l i)
+
+-- a run of stores at the front
+pub sets_front : (xs l : List ℕ) → length xs ≤ length l → xs ++ drop (length xs) l ≡ sets l 0 xs
+sets_front xs l h =
+    let e : 0 + length xs ≡ length xs = omega arith in
+    ap (λ (n : ℕ). xs ++ drop n l) (sym e) ∙ sym (sets-eq xs l 0 (omega arith))

@@ -1,49 +1,66 @@
--- What a lookup's answer says of the word: for `At g` the word is g + 1, for `Nothing` it is 0; refusal 8 by what it answers.
-use Prim.Native.Nat.{ℕ, ◌+◌}
-use mathlib.Core.Path.{◌≡◌, refl}
+-- What a lookup's answer says of the word: for `Some g` the word is g + 1, for `None` it is 0; refusal 8 by what it answers.
+use Rattle.std.specs.Prelude.{Option, Some, None}
+use Prim.Native.Nat.{ℕ, zero, suc, ◌+◌, ◌≤◌, ◌-◌}
+use mathlib.Core.Path.{◌≡◌, refl, sym, ap, ◌∙◌}
 use mathlib.Core.List.{List}
 use native.Mathlib.Omega.{arith}
 use lib.ListN.{get_or}
 use borrow.Author.Tests.{ne_eqb}
+use Rattle.std.specs.Option.{SomeIff}
+use Rattle.std.proofs.lemmas.Option.{none-some, same_Some}
 use Rattle.scope.specs.declared.Global.{Global}
-use Rattle.scope.specs.Table.{Table}
+use Rattle.scope.specs.declared.Solver.{Solver}
+use Rattle.scope.specs.declared.User.{User}
+use Rattle.scope.specs.Table.{Table, word}
 use Rattle.scope.specs.Marks.{not_held, held_else}
-use Rattle.scope.proofs.WordLaws.{word_read}
-use Rattle.table.specs.declared.FoundUser.{FoundUser}
-use Rattle.table.specs.declared.FoundUser.TheVariants as U
-use Rattle.table.specs.declared.FoundGlobal.{FoundGlobal}
-use Rattle.table.specs.declared.FoundGlobal.TheVariants as G
-use Rattle.table.specs.declared.FoundSolver.{FoundSolver}
-use Rattle.table.specs.declared.FoundSolver.TheVariants as S
+use Rattle.scope.proofs.WordLaws.{word_read, found_none, found_some}
 use Rattle.table.specs.Found.{found_user, found_global, found_solver}
 
-abbrev pub user_word : FoundUser → ℕ
-user_word (U.At u) = u.0 + 1
-user_word U.Nothing = 0
+-- ---- an index, and the same in its sort
 
-abbrev pub global_word : FoundGlobal → ℕ
-global_word (G.At g) = g.0 + 1
-global_word G.Nothing = 0
+pub index_of_word : (o : Option ℕ) (v w : ℕ) → v ≡ w → SomeIff o (1 ≤ v) (v - 1) → o ≡ word None Some w
+index_of_word None v w e s = found_none None Some v w e (omega (arith, λ (h : 1 ≤ v). s h))
+index_of_word (Some i) v w e s = ap Some s.1 ∙ found_some None Some v w e (λ z. let l = s.0 in omega arith)
 
-abbrev pub solver_word : FoundSolver → ℕ
-solver_word (S.At s) = s.0 + 1
-solver_word S.Nothing = 0
+pub sorted_none : {B : Type 0} (f : ℕ → B) (o : Option ℕ) (r : Option B) (w : ℕ) → o ≡ word None Some w → o ≡ None → r ≡ None → r ≡ word None (λ i. Some (f i)) w
+unfolding word
+sorted_none f o r zero e n h = h
+sorted_none f o r (suc i) e n h = absurd (none-some i (sym n ∙ e))
 
-pub user_word_lem : (w : ℕ) (f : FoundUser) → f ≡ found_user w → w ≡ user_word f
+pub sorted_some : {B : Type 0} (f : ℕ → B) (o : Option ℕ) (w i : ℕ) → o ≡ word None Some w → o ≡ Some i → Some (f i) ≡ word None (λ k. Some (f k)) w
+unfolding word
+sorted_some f o zero i e n = absurd (none-some i (sym e ∙ n))
+sorted_some f o (suc k) i e n = ap (λ (j : ℕ). Some (f j)) (same_Some i k (sym n ∙ e))
+
+-- ---- the word of an answer
+
+abbrev pub user_word : Option User → ℕ
+user_word (Some u) = u.0 + 1
+user_word None = 0
+
+abbrev pub global_word : Option Global → ℕ
+global_word (Some g) = g.0 + 1
+global_word None = 0
+
+abbrev pub solver_word : Option Solver → ℕ
+solver_word (Some s) = s.0 + 1
+solver_word None = 0
+
+pub user_word_lem : (w : ℕ) (f : Option User) → f ≡ found_user w → w ≡ user_word f
 user_word_lem = word_read user_word _ _ refl (λ i. refl)
 
-pub global_word_lem : (w : ℕ) (f : FoundGlobal) → f ≡ found_global w → w ≡ global_word f
+pub global_word_lem : (w : ℕ) (f : Option Global) → f ≡ found_global w → w ≡ global_word f
 global_word_lem = word_read global_word _ _ refl (λ i. refl)
 
-pub solver_word_lem : (w : ℕ) (f : FoundSolver) → f ≡ found_solver w → w ≡ solver_word f
+pub solver_word_lem : (w : ℕ) (f : Option Solver) → f ≡ found_solver w → w ≡ solver_word f
 solver_word_lem = word_read solver_word _ _ refl (λ i. refl)
 
 -- ---- refusal 8
 
-pub unheld_8 : (t : Table) (gs : List ℕ) (s : ℕ) → t.global_from_solver ≡ gs → G.Nothing ≡ found_global (get_or gs s 0) → 8 ≡ held_else t s 0
+pub unheld_8 : (t : Table) (gs : List ℕ) (s : ℕ) → t.global_from_solver ≡ gs → None ≡ found_global (get_or gs s 0) → 8 ≡ held_else t s 0
 unfolding held_else not_held
-unheld_8 t gs s e q = rw (e, global_word_lem (get_or gs s 0) G.Nothing q)
+unheld_8 t gs s e q = rw (e, global_word_lem (get_or gs s 0) None q)
 
-pub held_0 : (t : Table) (gs : List ℕ) (s : ℕ) (g : Global) → t.global_from_solver ≡ gs → G.At g ≡ found_global (get_or gs s 0) → 0 ≡ held_else t s 0
+pub held_0 : (t : Table) (gs : List ℕ) (s : ℕ) (g : Global) → t.global_from_solver ≡ gs → Some g ≡ found_global (get_or gs s 0) → 0 ≡ held_else t s 0
 unfolding held_else not_held
-held_0 t gs s g e q = let w = global_word_lem (get_or gs s 0) (G.At g) q in rw (e, ne_eqb (get_or gs s 0) 0 (λ z. omega arith))
+held_0 t gs s g e q = let w = global_word_lem (get_or gs s 0) (Some g) q in rw (e, ne_eqb (get_or gs s 0) 0 (λ z. omega arith))

@@ -1,3 +1,4 @@
+pub mod Lists
 pub mod Found
 pub mod Noted
 pub mod Checks

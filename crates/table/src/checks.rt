@@ -4,11 +4,12 @@
 ghost use Rattle.std.specs.Prelude.{◌≡◌, true, ◌&&◌, not, ◌-◌, ◌≤◌, eqb, ltb, length};
 ghost use Rattle.base.specs.Bounded.{all_below, count};
 ghost use Rattle.base.specs.Choice.{pick};
-ghost use Rattle.scope.specs.Contract.{given};
 ghost use Rattle.scope.specs.Sound.{sizesb, marksb, at_mostb, tailb, backb, namedb, deletedb, tailsb};
 ghost use Rattle.scope.specs.Table.{least_free, is_undeleted};
 ghost use Rattle.table.specs.Checks.{is_filled, rowb};
+ghost use Rattle.table.specs.Lists.{seen};
 
+use crate::Lists;
 use scope::Counts;
 
 // Watermarks: neither users nor solver indices reach further than globals, nor these than the capacity.
@@ -24,10 +25,8 @@ fn tail_ok(mark: u32, blank: u32, xs: &[u32]) -> bool
     ensures { result ≡ tailb mark blank xs.now }
 {
     let mut ok = true;
-    let mut i = mark as usize;
-    while i < xs.len() {
+    for i in mark as usize..xs.len() {
         ok = ok & (xs[i] == blank);
-        i += 1;
     }
     ok
 }
@@ -39,10 +38,8 @@ fn two_tails_ok(mark: u32, xs: &[u32], ys: &[u32]) -> bool
     ensures { result ≡ (tailb mark 0 xs.now && tailb mark 0 ys.now) }
 {
     let mut ok = true;
-    let mut i = mark as usize;
-    while i < xs.len() {
+    for i in mark as usize..xs.len() {
         ok = ok & ((xs[i] == 0) & (ys[i] == 0));
-        i += 1;
     }
     ok
 }
@@ -53,12 +50,9 @@ pub fn at_most(m: u32, xs: &[u32], mark: u32) -> bool
     requires xs_value { tailb mark 0 xs.now ≡ true }
     ensures { result ≡ at_mostb m xs.now }
 {
-    let n = mark as usize;
     let mut ok = true;
-    let mut i = 0;
-    while i < n {
+    for i in 0..mark as usize {
         ok = ok & (xs[i] <= m);
-        i += 1;
     }
     ok
 }
@@ -82,11 +76,9 @@ fn back_ok(a: &[u32], b: &[u32], mark: u32) -> bool
         return false;
     }
     let mut ok = true;
-    let mut i: u32 = 0;
-    while i < mark {
+    for i in 0..mark {
         let x = a[i as usize];
         ok = ok & ((x == 0) | (b[place(x)] == i + 1));
-        i += 1;
     }
     ok
 }
@@ -104,12 +96,9 @@ fn filled(xs: &[u32], mark: u32) -> u32
     requires xs_value { tailb mark 0 xs.now ≡ true }
     ensures { result ≡ count (length xs.now) (is_filled xs.now) }
 {
-    let n = mark as usize;
     let mut k: u32 = 0;
-    let mut i = 0;
-    while i < n {
+    for i in 0..mark as usize {
         k += one_if(xs[i]);
-        i += 1;
     }
     k
 }
@@ -148,34 +137,24 @@ pub fn rows_ok(records: &[u32], ug: &[u32], sg: &[u32], mark: u32) -> bool
     requires sg_value { tailb mark 0 sg.now ≡ true }
     ensures { result ≡ (at_mostb 71 records.now && namedb records.now ug.now && deletedb records.now sg.now) }
 {
-    let n = mark as usize;
     let mut ok = true;
-    let mut i = 0;
-    while i < n {
+    for i in 0..mark as usize {
         ok = ok & row_ok(records[i], ug[i], sg[i]);
-        i += 1;
     }
     ok
 }
 
 // Above the watermarks: maps and assignment 0, records fresh.
-pub fn tails_ok(
-    c: Counts,
-    gu: &[u32],
-    ug: &[u32],
-    sg: &[u32],
-    gs: &[u32],
-    assignment: &[u32],
-    records: &[u32],
-) -> bool
-    requires records_value { sizesb (given c gu.now ug.now sg.now gs.now assignment.now records.now) ≡ true }
-    requires c_value { marksb c ≡ true }
-    ensures { result ≡ tailsb (given c gu.now ug.now sg.now gs.now assignment.now records.now) }
+pub fn tails_ok(t: &Lists) -> bool
+    requires sizes { sizesb (seen t.now) ≡ true }
+    requires marks { marksb t.now.counts ≡ true }
+    ensures { result ≡ tailsb (seen t.now) }
 {
-    tail_ok(c.user, 0, gu)
-        & two_tails_ok(c.global, ug, sg)
-        & two_tails_ok(c.solver, gs, assignment)
-        & tail_ok(c.global, 47, records)
+    let c = t.counts;
+    tail_ok(c.user, 0, t.gu)
+        & two_tails_ok(c.global, t.ug, t.sg)
+        & two_tails_ok(c.solver, t.gs, t.assignment)
+        & tail_ok(c.global, 47, t.records)
 }
 
 fn one_undeleted(w: u32) -> u32
@@ -191,12 +170,9 @@ fn undeleted(records: &[u32], mark: u32) -> u32
     requires records_value { tailb mark 47 records.now ≡ true }
     ensures { result ≡ count (length records.now) (is_undeleted records.now) }
 {
-    let n = mark as usize;
     let mut k: u32 = 0;
-    let mut i = 0;
-    while i < n {
+    for i in 0..mark as usize {
         k += one_undeleted(records[i]);
-        i += 1;
     }
     k
 }
@@ -206,12 +182,9 @@ fn all_filled(xs: &[u32], n: u32) -> bool
     requires { n ≤ length xs.now }
     ensures { result ≡ all_below n (is_filled xs.now) }
 {
-    let m = n as usize;
     let mut ok = true;
-    let mut i = 0;
-    while i < m {
+    for i in 0..n as usize {
         ok = ok & (xs[i] != 0);
-        i += 1;
     }
     ok
 }

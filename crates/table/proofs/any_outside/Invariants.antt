@@ -6,8 +6,5 @@ use Rattle.base.specs.Bounded.{any_of}
 use Rattle.scope.specs.Literals.{index_of}
 use Rattle.table.proofs.any_outside.Given as goal
 
-abbrev pub invariant-loop-i : goal.invariant-loop-i
-invariant-loop-i l = (l.i ≤ length l.lits) × (l.found ≡ any_of (λ c. leb l.capacity (index_of c)) (take l.i l.lits))
-
-abbrev pub decreases-loop-i : goal.decreases-loop-i
-decreases-loop-i l = length l.lits - l.i
+abbrev pub invariant-loop-lit : goal.invariant-loop-lit
+invariant-loop-lit l = l.found ≡ any_of (λ c. leb l.capacity (index_of c)) (take l.lit-index l.lits)

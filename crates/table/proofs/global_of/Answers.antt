@@ -1,8 +1,10 @@
-use Rattle.scope.proofs.WordLaws.{found_none, found_some}
+use Rattle.scope.specs.declared.Global.{Global}
+use Rattle.table.proofs.FoundLaws.{sorted_none, sorted_some}
 use Rattle.table.proofs.global_of.Goals as goal
 
-pub returns-then-w-eq0 : goal.returns-then-w-eq0
-returns-then-w-eq0 c = found_none _ _ _ _ c.word_at-w.ensures c.if-w-eq0.true
+pub returns-in_err-index_at : goal.returns-in_err-index_at
+returns-in_err-index_at c =
+    sorted_none (λ i. record { 0 = i }) _ _ _ c.index_at.ensures c.in_err-index_at.was c.from_residual.ensures
 
 pub returns : goal.returns
-returns c = found_some _ _ _ _ c.word_at-w.ensures c.if-w-eq0.false
+returns c = sorted_some (λ i. record { 0 = i }) _ _ _ c.index_at.ensures c.in_ok-index_at.was

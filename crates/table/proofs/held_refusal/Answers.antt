@@ -8,4 +8,4 @@ returns-in_default c =
 
 pub returns : goal.returns
 returns c =
-    λ t q. held_0 t _ _ _ q (sym c.in-At.is ∙ c.holder.ensures)
+    λ t q. held_0 t _ _ _ q (sym c.in-Some.is ∙ c.holder.ensures)

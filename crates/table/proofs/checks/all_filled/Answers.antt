@@ -5,7 +5,7 @@ use borrow.Author.Rules.{rules}
 use Rattle.table.proofs.checks.all_filled.Goals as goal
 
 pub loop-i-init : goal.loop-i-init
-loop-i-init c = (search rules, all_start _)
+loop-i-init c = all_start _
 
 pub loop-i-preserved : goal.loop-i-preserved
-loop-i-preserved c = (omega arith, all_step _ _ _ _ c.loop-i.invariant.1 refl)
+loop-i-preserved c = all_step _ _ _ _ c.loop-i.invariant refl

@@ -5,7 +5,4 @@ use Rattle.table.specs.Checks.{is_filled}
 use Rattle.table.proofs.checks.all_filled.Given as goal
 
 abbrev pub invariant-loop-i : goal.invariant-loop-i
-invariant-loop-i l = (l.i ≤ l.m) × (l.ok ≡ all_below l.i (is_filled l.xs))
-
-abbrev pub decreases-loop-i : goal.decreases-loop-i
-decreases-loop-i l = l.m - l.i
+invariant-loop-i l = l.ok ≡ all_below l.i (is_filled l.xs)

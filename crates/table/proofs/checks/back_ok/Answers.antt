@@ -10,7 +10,7 @@ pub returns-then-not-at_most : goal.returns-then-not-at_most
 returns-then-not-at_most c = back_past _ _ _ c.at_most.ensures c.if-not-at_most.true
 
 pub loop-i-init : goal.loop-i-init
-loop-i-init c = (search rules, all_start _)
+loop-i-init c = all_start _
 
 pub bounds-b-place : goal.bounds-b-place
 bounds-b-place c =
@@ -22,14 +22,9 @@ bounds-b-place c =
     omega arith
 
 pub loop-i-preserved : goal.loop-i-preserved
-loop-i-preserved c = (
-  omega arith,
-  back_step c.args.a.now
-      c.args.b.now _ _ _ _ c.loop-i.invariant.1 refl
-      c.place.ensures,
-)
+loop-i-preserved c = back_step c.args.a.now c.args.b.now _ _ _ _ c.loop-i.invariant refl c.place.ensures
 
 pub returns : goal.returns
 returns c =
     back_end _ _ _ _ _ c.requires.mark_in_bounds c.requires.a_value
-    c.loop-i.invariant.1 (omega arith)
+    c.loop-i.invariant (omega arith)

@@ -5,7 +5,4 @@ use Prim.Native.Nat.{◌-◌, ◌≤◌}
 use Rattle.table.proofs.checks.back_ok.Given as goal
 
 abbrev pub invariant-loop-i : goal.invariant-loop-i
-invariant-loop-i l = (l.i ≤ l.mark) × (l.ok ≡ all_below l.i (back_at l.a l.b))
-
-abbrev pub decreases-loop-i : goal.decreases-loop-i
-decreases-loop-i l = l.mark - l.i
+invariant-loop-i l = l.ok ≡ all_below l.i (back_at l.a l.b)

@@ -4,19 +4,13 @@ use borrow.Author.Rules.{rules}
 use Rattle.table.proofs.checks.rows_ok.Goals as goal
 
 pub loop-i-init : goal.loop-i-init
-loop-i-init c = (search rules, all_start _)
+loop-i-init c = all_start _
 
 pub loop-i-preserved : goal.loop-i-preserved
-loop-i-preserved c = (
-  omega arith,
-  row_step c.args.records.now
-      c.args.ug.now
-      c.args.sg.now _ _ _
-      (c.loop-i.invariant.1) c.row_ok-ok.ensures (omega arith),
-)
+loop-i-preserved c = row_step c.args.records.now c.args.ug.now c.args.sg.now _ _ _ c.loop-i.invariant c.row_ok-ok.ensures (omega arith)
 
 pub returns : goal.returns
 returns c =
     rows_end _ _ _ _ _ _ (c.requires.mark_in_bounds) (c.requires.records_value)
     (c.requires.ug_value) (c.requires.sg_value)
-    (c.loop-i.invariant.1) (omega arith)
+    c.loop-i.invariant (omega arith)

@@ -6,7 +6,4 @@ use Prim.Native.Nat.{◌-◌, ◌≤◌}
 use Rattle.table.proofs.checks.tail_ok.Given as goal
 
 abbrev pub invariant-loop-i : goal.invariant-loop-i
-invariant-loop-i l = (l.mark ≤ l.i) × (l.i ≤ length l.xs) × (l.ok ≡ all_below l.i (tail_at l.mark l.blank l.xs))
-
-abbrev pub decreases-loop-i : goal.decreases-loop-i
-decreases-loop-i l = length l.xs - l.i
+invariant-loop-i l = l.ok ≡ all_below l.i (tail_at l.mark l.blank l.xs)

@@ -6,11 +6,11 @@ use borrow.Author.Rules.{rules}
 use Rattle.table.proofs.checks.two_tails_ok.Goals as goal
 
 pub loop-i-init : goal.loop-i-init
-loop-i-init c = (search rules, search rules, ap₂ ◌&&◌ (tail_start _ _ _) (tail_start _ _ _))
+loop-i-init c = ap₂ ◌&&◌ (tail_start _ _ _) (tail_start _ _ _)
 
 pub loop-i-preserved : goal.loop-i-preserved
 loop-i-preserved c =
-    (omega arith, omega arith, two_step _ _ _ _ _ c.loop-i.invariant.0 c.loop-i-test.true c.requires.ys_len c.loop-i.invariant.2)
+    two_step _ _ _ _ _ (omega arith) c.loop-i-test.true c.requires.ys_len c.loop-i.invariant
 
 pub returns : goal.returns
-returns c = two_end _ _ _ _ _ c.loop-i.invariant.2 (omega arith) c.requires.ys_len
+returns c = two_end _ _ _ _ _ c.loop-i.invariant (omega arith) c.requires.ys_len

@@ -6,16 +6,12 @@ use borrow.Author.Rules.{rules}
 use Rattle.table.proofs.checks.undeleted.Goals as goal
 
 pub loop-i-init : goal.loop-i-init
-loop-i-init c = (search rules, search rules, sym (count_none _))
+loop-i-init c = (omega arith, sym (count_none _))
 
 pub loop-i-preserved : goal.loop-i-preserved
 loop-i-preserved c =
-    let m = c.one_undeleted-k.ensures.upper_bound in (
-      omega arith,
-      omega arith,
-      undeleted_step c.args.records.now _ _ _ (omega arith)
-          c.loop-i.invariant.2 c.one_undeleted-k.ensures.value,
-    )
+    let m = c.one_undeleted-k.ensures.upper_bound in
+    (omega arith, undeleted_step c.args.records.now _ _ _ (omega arith) c.loop-i.invariant.1 c.one_undeleted-k.ensures.value)
 
 pub returns : goal.returns
-returns c = undeleted_end _ _ _ _ c.requires.mark_in_bounds c.requires.records_value c.loop-i.invariant.2 (omega arith)
+returns c = undeleted_end _ _ _ _ c.requires.mark_in_bounds c.requires.records_value c.loop-i.invariant.1 (omega arith)

@@ -5,7 +5,4 @@ use Rattle.scope.specs.Table.{is_undeleted}
 use Rattle.table.proofs.checks.undeleted.Given as goal
 
 abbrev pub invariant-loop-i : goal.invariant-loop-i
-invariant-loop-i l = (l.i ≤ l.n) × (l.k ≤ l.i) × (l.k ≡ count l.i (is_undeleted l.records))
-
-abbrev pub decreases-loop-i : goal.decreases-loop-i
-decreases-loop-i l = l.n - l.i
+invariant-loop-i l = (l.k ≤ l.i) × (l.k ≡ count l.i (is_undeleted l.records))

@@ -1,7 +1,7 @@
 use Rattle.scope.proofs.SoundLaws.{sizes_of}
 use Rattle.table.proofs.CheckLaws.{yes_of, no_sizes, no_marks, no_tails, no_pairs, pairs_is, tails_is, sound_is}
 use native.Mathlib.Omega.{arith}
-use Rattle.table.proofs.is_sound.Goals as goal
+use Rattle.table.proofs.Lists.is_sound.Goals as goal
 
 pub returns-then-not-sizes_ok : goal.returns-then-not-sizes_ok
 returns-then-not-sizes_ok c = no_sizes _ _ c.sizes_ok.ensures c.if-not-sizes_ok.true
