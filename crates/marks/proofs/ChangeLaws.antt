@@ -1,4 +1,5 @@
 -- Laws by which marks and Assign are what crates/scope/specs/Marks.antt says.
+use Rattle.std.specs.Prelude.{Result, Ok, Err}
 use Prim.Native.Nat.{ℕ, zero, suc, ◌+◌, ◌≤◌, ◌<◌}
 use mathlib.Core.Path.{◌≡◌, refl, sym, ap, ◌∙◌, subst}
 use mathlib.Core.Bool.{true, false}
@@ -21,8 +22,8 @@ use Rattle.scope.specs.Marks.{not_held, held_else, holder_of, marked, mark, mark
 use Rattle.scope.proofs.SoundLaws.{sound_of}
 use Rattle.scope.proofs.PairLaws.{below_mark, pair_flip}
 use Rattle.scope.proofs.MarkLaws.{held_else_lem, held_refuses}
-use Rattle.marks.specs.declared.Changed.{Changed}
-use Rattle.marks.specs.declared.Changed.TheVariants.{Done, Refused}
+use Rattle.scope.specs.declared.Refusal.{Refusal}
+use Rattle.scope.specs.declared.Refusal.TheVariants.{NotHeld, HasValue}
 use Rattle.marks.specs.Answers.{changed, with_records, with_values}
 
 -- ---- a call that changes only the table
@@ -59,10 +60,10 @@ same_word : {xs ys : List ℕ} (i w : ℕ) → xs ≡ ys → get_or ys i 0 ≡ w
 same_word i w e h = ap (λ (l : List ℕ). get_or l i 0) e ∙ h
 
 -- the counts that come back are those given
-pub in_left : (o : Outcome) (r : Changed) (c : Counts) (gu ug sg gs a rs : List ℕ) → Does o (changed r c) (table_of c gu ug sg gs a rs) [] []
+pub in_left : (o : Outcome) (r : Result (Unit {0}) Refusal) (c : Counts) (gu ug sg gs a rs : List ℕ) → Does o (changed r c) (table_of c gu ug sg gs a rs) [] []
     → Does o (changed r c) (table_of (changed r c).counts gu ug sg gs a rs) [] []
-in_left o Done c gu ug sg gs a rs h = h
-in_left o (Refused n) c gu ug sg gs a rs h = h
+in_left o (Ok _) c gu ug sg gs a rs h = h
+in_left o (Err r) c gu ug sg gs a rs h = h
 
 -- ---- marks
 
@@ -72,14 +73,12 @@ module _ (t : Table) (m : Mark) (s : ℕ) where
   mark_1 c k = refusing 1 t (mark m s t) c _ (λ z. omega arith) (rw k)
 
   module _ (k : soundb t ≡ true) where
-    mark_unheld : (n : ℕ) → get_or t.global_from_solver s 0 ≡ 0 → n ≡ held_else t s 0 → Does (mark_of t m s) (changed (Refused n) t.counts) t [] []
-    unfolding mark_of mark_refusal not_held
-    mark_unheld n h q =
-        let r = held_refuses t s 0 (eq-eqb (get_or t.global_from_solver s 0) 0 h) in
-        refusing n t (mark m s t) _ _ (λ z. r.0 (sym q ∙ z)) (rw k (sym q))
+    mark_unheld : get_or t.global_from_solver s 0 ≡ 0 → Does (mark_of t m s) (changed (Err NotHeld) t.counts) t [] []
+    unfolding mark_of mark_refusal held_else not_held
+    mark_unheld h = refusing 8 t (mark m s t) _ _ (λ z. omega arith) (rw (k, eq-eqb (get_or t.global_from_solver s 0) 0 h))
 
     mark_done : (g : ℕ) → get_or t.global_from_solver s 0 ≡ g + 1
-        → Does (mark_of t m s) (changed Done t.counts) (with_records t (set t.records g (marked m (get_or t.records g 0)))) [] []
+        → Does (mark_of t m s) (changed (Ok tt) t.counts) (with_records t (set t.records g (marked m (get_or t.records g 0)))) [] []
     unfolding mark_of mark_refusal not_held mark put_record
     mark_done g h =
         let d : holder_of t s ≡ g = omega arith in
@@ -103,19 +102,19 @@ module _ (s g : ℕ) (gs rs : List ℕ) (h : get_or gs s 0 ≡ g + 1) (t : Table
 
 -- in the lists gs and rs, of every sound table that has them
 module _ (m : Mark) (s : ℕ) (gs rs : List ℕ) where
-  abbrev MarkIn : Changed → List ℕ → Type 0
+  abbrev MarkIn : Result (Unit {0}) Refusal → List ℕ → Type 0
   MarkIn r rs2 =
       (t : Table) → soundb t ≡ true → t.global_from_solver ≡ gs → t.records ≡ rs
       → Does (mark_of t m s) (changed r t.counts) (with_records t rs2) [] []
 
-  pub mark_in_unheld : (n : ℕ) → get_or gs s 0 ≡ 0 → ((t : Table) → t.global_from_solver ≡ gs → n ≡ held_else t s 0) → MarkIn (Refused n) rs
-  mark_in_unheld n h u t k p q =
-      subst (λ (l : List ℕ). Does (mark_of t m s) (changed (Refused n) t.counts) (with_records t l) [] []) q
-      (mark_unheld t m s k n (same_word s 0 p h) (u t p))
+  pub mark_in_unheld : get_or gs s 0 ≡ 0 → MarkIn (Err NotHeld) rs
+  mark_in_unheld h t k p q =
+      subst (λ (l : List ℕ). Does (mark_of t m s) (changed (Err NotHeld) t.counts) (with_records t l) [] []) q
+      (mark_unheld t m s k (same_word s 0 p h))
 
-  pub mark_in_done : (g v : ℕ) → get_or gs s 0 ≡ g + 1 → v ≡ marked m (get_or rs g 0) → MarkIn Done (set rs g v)
+  pub mark_in_done : (g v : ℕ) → get_or gs s 0 ≡ g + 1 → v ≡ marked m (get_or rs g 0) → MarkIn (Ok tt) (set rs g v)
   mark_in_done g v h e t k p q =
-      subst (λ (l : List ℕ). Does (mark_of t m s) (changed Done t.counts) (with_records t l) [] [])
+      subst (λ (l : List ℕ). Does (mark_of t m s) (changed (Ok tt) t.counts) (with_records t l) [] [])
       (ap (λ (l : List ℕ). set l g (marked m (get_or l g 0))) q ∙ ap (λ (w : ℕ). set rs g w) (sym e))
       (mark_done t m s k g (same_word s (g + 1) p h))
 
@@ -127,22 +126,19 @@ module _ (t : Table) (lit : ℕ) where
   assign_1 c k = refusing 1 t _ c _ (λ z. omega arith) (rw k)
 
   module _ (k : soundb t ≡ true) where
-    assign_unheld : (n : ℕ) → get_or t.global_from_solver (index_of lit) 0 ≡ 0 → n ≡ held_else t (index_of lit) 0
-        → Does (assign_of t lit) (changed (Refused n) t.counts) t [] []
-    unfolding assign_of assign_refusal not_held
-    assign_unheld n h q =
-        let r = held_refuses t (index_of lit) _ (eq-eqb (get_or t.global_from_solver (index_of lit) 0) 0 h) in
-        refusing n t _ _ _ (λ z. r.0 (sym q ∙ z)) (rw k (sym (q ∙ r.1)))
+    assign_unheld : get_or t.global_from_solver (index_of lit) 0 ≡ 0 → Does (assign_of t lit) (changed (Err NotHeld) t.counts) t [] []
+    unfolding assign_of assign_refusal held_else not_held
+    assign_unheld h = refusing 8 t _ _ _ (λ z. omega arith) (rw (k, eq-eqb (get_or t.global_from_solver (index_of lit) 0) 0 h))
 
     assign_9 : (g : ℕ) → get_or t.global_from_solver (index_of lit) 0 ≡ g + 1 → get_or t.assignment (index_of lit) 0 ≢ 0
-        → Does (assign_of t lit) (changed (Refused 9) t.counts) t [] []
+        → Does (assign_of t lit) (changed (Err HasValue) t.counts) t [] []
     unfolding assign_of assign_refusal not_held
     assign_9 g h n =
         let w = held_else_lem t (index_of lit) _ (ne_eqb (get_or t.global_from_solver (index_of lit) 0) 0 (λ z. omega arith)) in
         refusing 9 t _ _ _ (λ z. omega arith) (rw k (w ∙ rw (ne_eqb (get_or t.assignment (index_of lit) 0) 0 n)))
 
     assign_done : (g : ℕ) → get_or t.global_from_solver (index_of lit) 0 ≡ g + 1 → get_or t.assignment (index_of lit) 0 ≡ 0
-        → Does (assign_of t lit) (changed Done t.counts) (with_values t (set t.assignment (index_of lit) (true_value lit))) [] []
+        → Does (assign_of t lit) (changed (Ok tt) t.counts) (with_values t (set t.assignment (index_of lit) (true_value lit))) [] []
     unfolding assign_of assign_refusal not_held put_value
     assign_done g h z =
         let w = held_else_lem t (index_of lit) _ (ne_eqb (get_or t.global_from_solver (index_of lit) 0) 0 (λ q. omega arith)) in
@@ -150,16 +146,15 @@ module _ (t : Table) (lit : ℕ) where
 
 -- in the lists gs and vs, of every sound table that has them
 module _ (lit : ℕ) (gs vs : List ℕ) where
-  abbrev AssignIn : Changed → List ℕ → Type 0
+  abbrev AssignIn : Result (Unit {0}) Refusal → List ℕ → Type 0
   AssignIn r vs2 =
       (t : Table) → soundb t ≡ true → t.global_from_solver ≡ gs → t.assignment ≡ vs
       → Does (assign_of t lit) (changed r t.counts) (with_values t vs2) [] []
 
-  pub assign_in_unheld : (n : ℕ) → get_or gs (index_of lit) 0 ≡ 0 → ((t : Table) → t.global_from_solver ≡ gs → n ≡ held_else t (index_of lit) 0)
-      → AssignIn (Refused n) vs
-  assign_in_unheld n h u t k p q =
-      subst (λ (l : List ℕ). Does (assign_of t lit) (changed (Refused n) t.counts) (with_values t l) [] []) q
-      (assign_unheld t lit k n (same_word (index_of lit) 0 p h) (u t p))
+  pub assign_in_unheld : get_or gs (index_of lit) 0 ≡ 0 → AssignIn (Err NotHeld) vs
+  assign_in_unheld h t k p q =
+      subst (λ (l : List ℕ). Does (assign_of t lit) (changed (Err NotHeld) t.counts) (with_values t l) [] []) q
+      (assign_unheld t lit k (same_word (index_of lit) 0 p h))
 
   module _ (g : ℕ) (h : get_or gs (index_of lit) 0 ≡ g + 1) where
     -- a held index has an assignment word
@@ -169,13 +164,13 @@ module _ (lit : ℕ) (gs vs : List ℕ) where
         let e = ap length q in
         omega arith
 
-    pub assign_in_9 : get_or vs (index_of lit) 0 ≢ 0 → AssignIn (Refused 9) vs
+    pub assign_in_9 : get_or vs (index_of lit) 0 ≢ 0 → AssignIn (Err HasValue) vs
     assign_in_9 n t k p q =
-        subst (λ (l : List ℕ). Does (assign_of t lit) (changed (Refused 9) t.counts) (with_values t l) [] []) q
+        subst (λ (l : List ℕ). Does (assign_of t lit) (changed (Err HasValue) t.counts) (with_values t l) [] []) q
         (assign_9 t lit k g (same_word (index_of lit) (g + 1) p h) (λ z. n (same_word (index_of lit) 0 (sym q) z)))
 
-    pub assign_in_done : (v : ℕ) → get_or vs (index_of lit) 0 ≡ 0 → v ≡ true_value lit → AssignIn Done (set vs (index_of lit) v)
+    pub assign_in_done : (v : ℕ) → get_or vs (index_of lit) 0 ≡ 0 → v ≡ true_value lit → AssignIn (Ok tt) (set vs (index_of lit) v)
     assign_in_done v z e t k p q =
-        subst (λ (l : List ℕ). Does (assign_of t lit) (changed Done t.counts) (with_values t l) [] [])
+        subst (λ (l : List ℕ). Does (assign_of t lit) (changed (Ok tt) t.counts) (with_values t l) [] [])
         (ap (λ (l : List ℕ). set l (index_of lit) (true_value lit)) q ∙ ap (λ (w : ℕ). set vs (index_of lit) w) (sym e))
         (assign_done t lit k g (same_word (index_of lit) (g + 1) p h) (same_word (index_of lit) 0 q z))

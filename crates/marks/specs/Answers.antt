@@ -1,15 +1,15 @@
 -- The number and the values of each answer, and the counts that come back.
-use Rattle.std.specs.Prelude.{ℕ, List, []}
+use Rattle.std.specs.Prelude.{ℕ, List, [], Result, Ok, Err}
 use Rattle.base.specs.Answer.{accepted, refused}
 use Rattle.scope.specs.declared.Counts.{Counts}
 use Rattle.scope.specs.Table.{Table, table_of}
 use Rattle.scope.specs.Contract.{Said}
-use Rattle.marks.specs.declared.Changed.{Changed}
-use Rattle.marks.specs.declared.Changed.TheVariants.{Done, Refused}
+use Rattle.scope.specs.declared.Refusal.{Refusal}
+use Rattle.scope.specs.Refusals.{number}
 
-abbrev pub changed : Changed → Counts → Said
-changed Done c = record { answer = accepted []; counts = c }
-changed (Refused n) c = record { answer = refused n []; counts = c }
+abbrev pub changed : Result (Unit {0}) Refusal → Counts → Said
+changed (Ok _) c = record { answer = accepted []; counts = c }
+changed (Err r) c = record { answer = refused (number r) []; counts = c }
 
 -- a table with other records, and with other assignment words
 abbrev pub with_records : Table → List ℕ → Table

@@ -9,15 +9,8 @@ ghost use Rattle.scope.specs.Contract.{quiet, Does, Meets};
 ghost use Rattle.scope.specs.Marks.{marked, mark_of, assign_of};
 ghost use Rattle.marks.specs.Answers.{changed, with_records, with_values};
 
-use scope::{Counts, Mark, Solver};
-use table::{FoundGlobal, held_refusal, holder, is_sound};
-
-// A change of the table alone is made, or refused.
-#[derive(Clone, Copy)]
-pub enum Changed {
-    Done,
-    Refused(u32),
-}
+use scope::{Counts, Mark, Refusal, Solver};
+use table::{Lists, holder};
 
 // The record with the mark: used clears isolated; assumed is set or cleared.
 fn marked_record(mark: Mark, w: u32) -> u32
@@ -43,36 +36,43 @@ pub fn mark(
     records: &mut [u32],
     mark: Mark,
     solver: Solver,
-) -> Changed
+) -> Result<(), Refusal>
     ensures { Meets (λ t room. mark_of t mark solver.0) (changed result c)
         (quiet c (constant gu.now) (constant ug.now) (constant sg.now) (constant gs.now)
         (constant assignment.now) (change records.old records.new)) }
 {
-    if !is_sound(c, gu, ug, sg, gs, assignment, records) {
-        return Changed::Refused(1);
-    }
+    let t = Lists {
+        counts: c,
+        gu,
+        ug,
+        sg,
+        gs,
+        assignment,
+        records,
+    };
+    t.check_sound()?;
     mark_in(gs, records, mark, solver)
 }
 
 // Marks in the two lists that they touch, of a table known to be sound, which is not tested: any words may be lent.
 // The same definition and answer, of every sound table that has these lists.
-pub fn mark_in(gs: &[u32], records: &mut [u32], mark: Mark, solver: Solver) -> Changed
+pub fn mark_in(gs: &[u32], records: &mut [u32], mark: Mark, solver: Solver) -> Result<(), Refusal>
     ensures { (t : Table) → soundb t ≡ true → t.global_from_solver ≡ gs.now → t.records ≡ records.old
         → Does (mark_of t mark solver.0) (changed result t.counts) (with_records t records.new) [] [] }
 {
-    let FoundGlobal::At(global) = holder(gs, solver) else {
-        return Changed::Refused(held_refusal(gs, solver));
+    let Some(global) = holder(gs, solver) else {
+        return Err(Refusal::NotHeld);
     };
     let g = global.0 as usize;
     if records.len() <= g {
-        return Changed::Refused(1);
+        return Err(Refusal::Unsound);
     }
     let w = records[g];
     if 71 < w {
-        return Changed::Refused(1);
+        return Err(Refusal::Unsound);
     }
     records[g] = marked_record(mark, w);
-    Changed::Done
+    Ok(())
 }
 
 // Assign (01, "Marks", `assign_lit`; refusals 1, 8, 9): the solver literal becomes true.
@@ -86,33 +86,40 @@ pub fn assign_lit(
     assignment: &mut [u32],
     records: &[u32],
     lit: u32,
-) -> Changed
+) -> Result<(), Refusal>
     ensures { Meets (λ t room. assign_of t lit) (changed result c)
         (quiet c (constant gu.now) (constant ug.now) (constant sg.now) (constant gs.now)
         (change assignment.old assignment.new) (constant records.now)) }
 {
-    if !is_sound(c, gu, ug, sg, gs, assignment, records) {
-        return Changed::Refused(1);
-    }
+    let t = Lists {
+        counts: c,
+        gu,
+        ug,
+        sg,
+        gs,
+        assignment,
+        records,
+    };
+    t.check_sound()?;
     assign_in(gs, assignment, lit)
 }
 
 // Assign in the two lists that it touches, of a table known to be sound, which is not tested: any words may be lent.
 // The same definition and answer, of every sound table that has these lists.
-pub fn assign_in(gs: &[u32], assignment: &mut [u32], lit: u32) -> Changed
+pub fn assign_in(gs: &[u32], assignment: &mut [u32], lit: u32) -> Result<(), Refusal>
     ensures { (t : Table) → soundb t ≡ true → t.global_from_solver ≡ gs.now → t.assignment ≡ assignment.old
         → Does (assign_of t lit) (changed result t.counts) (with_values t assignment.new) [] [] }
 {
-    let FoundGlobal::At(_) = holder(gs, Solver(lit / 2)) else {
-        return Changed::Refused(held_refusal(gs, Solver(lit / 2)));
+    let Some(_) = holder(gs, Solver(lit / 2)) else {
+        return Err(Refusal::NotHeld);
     };
     let s = (lit / 2) as usize;
     if assignment.len() <= s {
-        return Changed::Refused(1);
+        return Err(Refusal::Unsound);
     }
     if assignment[s] != 0 {
-        return Changed::Refused(9);
+        return Err(Refusal::HasValue);
     }
     assignment[s] = 2 - lit % 2;
-    Changed::Done
+    Ok(())
 }

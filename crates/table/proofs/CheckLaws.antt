@@ -1,5 +1,6 @@
 -- Laws by which the loops of src/ are the tests of crates/scope/specs/Sound.antt. A loop gathers `all_below i p`; where the tails
 -- are as they should be, p holds at or above the mark, so that the loop can stop there.
+use Rattle.std.specs.Prelude.{Result, Ok, Err}
 use Prim.Native.Nat.{ℕ, zero, suc, ◌+◌, ◌-◌, ◌≤◌, ◌<◌}
 use mathlib.Core.Path.{◌≡◌, refl, sym, ap, ap₂, ◌∙◌}
 use mathlib.Core.Bool.{Bool, true, false, ◌&&◌, ◌||◌, not, true≢false}
@@ -24,7 +25,11 @@ use Rattle.scope.specs.Cursor.{AllMapped}
 use Rattle.scope.proofs.SoundLaws.{tail_of}
 use Rattle.scope.proofs.PairLaws.{free_most, free_before, free_word}
 use Rattle.scope.proofs.CursorLaws.{free_found, free_end}
+use Rattle.scope.specs.declared.Refusal.{Refusal}
+use Rattle.scope.specs.declared.Refusal.TheVariants.{Unsound}
+use Rattle.scope.proofs.RefusedLaws.{ok_err, same_err}
 use Rattle.table.specs.Checks.{is_filled, rowb}
+use Rattle.table.specs.Lists.{tested}
 use Rattle.table.proofs.PairCounts.{back_has, back_low, pair_counts}
 
 -- a test that a branch found true, or not
@@ -350,3 +355,24 @@ unfolding soundb listsb storedb undeleted next_solver
 sound_is t a b d s m h p e q k l =
     rw (e, q, k, l, s, m, h, p)
     (ap (λ (x : Bool). x && storedb t) (reorder (at_mostb 71 t.records) (at_mostb 2 t.assignment) _ _))
+
+-- what refusal 1 says
+tested_no : (t : Table) → soundb t ≡ false → tested t ≡ Err Unsound
+tested_no t k = ap (λ (b : Bool). pick b (Ok tt) (Err Unsound)) k
+
+tested_yes : (t : Table) → soundb t ≡ true → tested t ≡ Ok tt
+tested_yes t k = ap (λ (b : Bool). pick b (Ok tt) (Err Unsound)) k
+
+pub refuses_1 : (t : Table) (r : Result (Unit {0}) Refusal) (e : Refusal) → r ≡ tested t → r ≡ Err e → (soundb t ≡ false) × (e ≡ Unsound)
+refuses_1 t r e q h = go (soundb t) refl
+  where
+    go : (b : Bool) → soundb t ≡ b → (soundb t ≡ false) × (e ≡ Unsound)
+    go true k = absurd (ok_err tt e (sym (q ∙ tested_yes t k) ∙ h))
+    go false k = (k, same_err e Unsound (sym h ∙ q ∙ tested_no t k))
+
+pub passes_1 : (t : Table) (r : Result (Unit {0}) Refusal) (u : Unit {0}) → r ≡ tested t → r ≡ Ok u → soundb t ≡ true
+passes_1 t r u q h = go (soundb t) refl
+  where
+    go : (b : Bool) → soundb t ≡ b → soundb t ≡ true
+    go true k = k
+    go false k = absurd (ok_err u Unsound (sym h ∙ q ∙ tested_no t k))

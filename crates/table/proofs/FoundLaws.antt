@@ -5,7 +5,6 @@ use mathlib.Core.Path.{◌≡◌, refl, sym, ap, ◌∙◌}
 use mathlib.Core.List.{List}
 use native.Mathlib.Omega.{arith}
 use lib.ListN.{get_or}
-use borrow.Author.Tests.{ne_eqb}
 use Rattle.std.specs.Option.{SomeIff}
 use Rattle.std.proofs.lemmas.Option.{none-some, same_Some}
 use Rattle.scope.specs.declared.Global.{Global}
@@ -60,7 +59,3 @@ solver_word_lem = word_read solver_word _ _ refl (λ i. refl)
 pub unheld_8 : (t : Table) (gs : List ℕ) (s : ℕ) → t.global_from_solver ≡ gs → None ≡ found_global (get_or gs s 0) → 8 ≡ held_else t s 0
 unfolding held_else not_held
 unheld_8 t gs s e q = rw (e, global_word_lem (get_or gs s 0) None q)
-
-pub held_0 : (t : Table) (gs : List ℕ) (s : ℕ) (g : Global) → t.global_from_solver ≡ gs → Some g ≡ found_global (get_or gs s 0) → 0 ≡ held_else t s 0
-unfolding held_else not_held
-held_0 t gs s g e q = let w = global_word_lem (get_or gs s 0) (Some g) q in rw (e, ne_eqb (get_or gs s 0) 0 (λ z. omega arith))

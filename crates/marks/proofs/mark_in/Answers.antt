@@ -8,23 +8,23 @@ pub returns-in_default : goal.returns-in_default
 returns-in_default c =
     let found = c.holder.ensures in
     let none = global_word_lem _ _ (sym c.in_default.is ∙ found) in
-    mark_in_unheld _ _ _ _ _ none c.held_refusal.ensures
+    mark_in_unheld _ _ _ _ none
 
 pub returns-then-records-g : goal.returns-then-records-g
 returns-then-records-g c =
     let found = c.holder.ensures in
-    let held = global_word_lem _ _ (sym c.in-At.is ∙ found) in
+    let held = global_word_lem _ _ (sym c.in-Some.is ∙ found) in
     λ t k p q. absurd (mark_in_place _ _ _ _ held t k p q c.if-records-g.true)
 
 pub returns-then-w-gt71 : goal.returns-then-w-gt71
 returns-then-w-gt71 c =
     let found = c.holder.ensures in
-    let held = global_word_lem _ _ (sym c.in-At.is ∙ found) in
+    let held = global_word_lem _ _ (sym c.in-Some.is ∙ found) in
     let large = c.if-w-gt71.true in
     λ t k p q. absurd (mark_in_small _ _ _ _ held t k p q (omega arith))
 
 pub returns : goal.returns
 returns c =
     let found = c.holder.ensures in
-    let held = global_word_lem _ _ (sym c.in-At.is ∙ found) in
+    let held = global_word_lem _ _ (sym c.in-Some.is ∙ found) in
     mark_in_done _ _ _ _ _ _ held c.marked_record.ensures
