@@ -1,4 +1,5 @@
 -- Rename, Write, Simplify and Simplify binary with a format and a step by number.
+use Rattle.std.specs.Prelude.{Some, None}
 use Prim.Native.Nat.{ℕ, zero, suc}
 use mathlib.Core.Path.{◌≡◌, refl, ap, sym, ◌∙◌}
 use mathlib.Core.Bool.{Bool}
@@ -13,52 +14,52 @@ use Rattle.scope.specs.Write.{rename_of, write_of}
 use Rattle.scope.specs.Simplify.{simplify_of}
 use Rattle.scope.specs.Binary.{binary_of}
 use Rattle.numbers.specs.declared.HzStep.{HzStep}
-use Rattle.numbers.specs.Numbers.{known, unknown, format_for}
+use Rattle.numbers.specs.Numbers.{format_for}
 use Rattle.numbers.specs.Surface.{stepped, Given}
 use Rattle.numbers.specs.Flat.{stepless}
 use Rattle.numbers.specs.Lines.{step_given, rename_at, write_at, simplify_at, binary_at}
 use Rattle.numbers.proofs.NumberLaws.{known_is, unknown_is}
 
 module _ (format : ℕ) (step : HzStep) (t : Table) (solver_vars : Bool) (lits hashes : List ℕ) (room : ℕ) where
-  pub write_is : {f : Format} {s : ProofStep} → format_for format ≡ known f → step_given step ≡ known s
+  pub write_is : {f : Format} {s : ProofStep} → format_for format ≡ Some f → step_given step ≡ Some s
       → write_at format step t solver_vars lits hashes room ≡ write_of f t s solver_vars lits hashes room
   unfolding write_at
   write_is e g = known_is _ _ e ∙ known_is _ _ g
 
-  pub no_write_format : format_for format ≡ unknown → write_at format step t solver_vars lits hashes room ≡ refusal 4294967295 t
+  pub no_write_format : format_for format ≡ None → write_at format step t solver_vars lits hashes room ≡ refusal 4294967295 t
   unfolding write_at
   no_write_format e = unknown_is _ _ e
 
-  pub no_write_step : {f : Format} → format_for format ≡ known f → step_given step ≡ unknown
+  pub no_write_step : {f : Format} → format_for format ≡ Some f → step_given step ≡ None
       → write_at format step t solver_vars lits hashes room ≡ refusal 4294967295 t
   unfolding write_at
   no_write_step e g = known_is _ _ e ∙ unknown_is _ _ g
 
 module _ (step : HzStep) (t : Table) (solver_vars : Bool) (lits hashes : List ℕ) (outs hash_outs : ℕ) where
-  pub rename_is : {s : ProofStep} → step_given step ≡ known s
+  pub rename_is : {s : ProofStep} → step_given step ≡ Some s
       → rename_at step t solver_vars lits hashes outs hash_outs ≡ rename_of t s solver_vars lits hashes outs hash_outs
   unfolding rename_at
   rename_is e = known_is _ _ e
 
-  pub no_rename_step : step_given step ≡ unknown → rename_at step t solver_vars lits hashes outs hash_outs ≡ refusal 4294967295 t
+  pub no_rename_step : step_given step ≡ None → rename_at step t solver_vars lits hashes outs hash_outs ≡ refusal 4294967295 t
   unfolding rename_at
   no_rename_step e = unknown_is _ _ e
 
 module _ (format : ℕ) (t : Table) (lits : List ℕ) (redundant : Bool) (outs room : ℕ) where
-  pub simplify_is : {f : Format} → format_for format ≡ known f → simplify_at format t lits redundant outs room ≡ simplify_of f t lits redundant outs room
+  pub simplify_is : {f : Format} → format_for format ≡ Some f → simplify_at format t lits redundant outs room ≡ simplify_of f t lits redundant outs room
   unfolding simplify_at
   simplify_is e = known_is _ _ e
 
-  pub no_simplify_format : format_for format ≡ unknown → simplify_at format t lits redundant outs room ≡ refusal 4294967295 t
+  pub no_simplify_format : format_for format ≡ None → simplify_at format t lits redundant outs room ≡ refusal 4294967295 t
   unfolding simplify_at
   no_simplify_format e = unknown_is _ _ e
 
 module _ (format : ℕ) (t : Table) (lists : List ℕ) (outs room : ℕ) where
-  pub binary_is : {f : Format} → format_for format ≡ known f → binary_at format t lists outs room ≡ binary_of f t lists outs room
+  pub binary_is : {f : Format} → format_for format ≡ Some f → binary_at format t lists outs room ≡ binary_of f t lists outs room
   unfolding binary_at
   binary_is e = known_is _ _ e
 
-  pub no_binary_format : format_for format ≡ unknown → binary_at format t lists outs room ≡ refusal 4294967295 t
+  pub no_binary_format : format_for format ≡ None → binary_at format t lists outs room ≡ refusal 4294967295 t
   unfolding binary_at
   no_binary_format e = unknown_is _ _ e
 

@@ -1,26 +1,27 @@
 -- What numbers stand for, and calls with it.
+use Rattle.std.specs.Prelude.{Option, Some, None}
 use Prim.Native.Nat.{ℕ, ◌<◌}
 use mathlib.Core.Path.{◌≡◌, refl, ap}
 use native.Mathlib.Omega.{arith}
 use borrow.Author.Tests.{ne_eqb}
 use Rattle.scope.specs.Steps.{solver_name_word, user_name_word}
 use Rattle.scope.proofs.WordLaws.{word_read}
-use Rattle.numbers.specs.Numbers.{Meaning, known, unknown, when_known, of_two, of_three, solver_name_for, user_name_for, step_for}
+use Rattle.numbers.specs.Numbers.{when_known, of_two, of_three, solver_name_for, user_name_for, step_for}
 
 -- ---- beyond the last there is nothing
 
-pub two_beyond : {A : Type 0} (x y : A) (n : ℕ) → 1 < n → of_two x y n ≡ unknown
+pub two_beyond : {A : Type 0} (x y : A) (n : ℕ) → 1 < n → of_two x y n ≡ None
 unfolding of_two
 two_beyond x y n h = rw (ne_eqb n 0 (λ e. omega arith), ne_eqb n 1 (λ e. omega arith))
 
-pub three_beyond : {A : Type 0} (x y z : A) (n : ℕ) → 2 < n → of_three x y z n ≡ unknown
+pub three_beyond : {A : Type 0} (x y z : A) (n : ℕ) → 2 < n → of_three x y z n ≡ None
 unfolding of_three
 three_beyond x y z n h = rw (ne_eqb n 0 (λ e. omega arith), ne_eqb n 1 (λ e. omega arith), ne_eqb n 2 (λ e. omega arith))
 
 -- as the last arm of a `match` has it
 pub no_step : (k a b : ℕ)
     → ((((((((((((Unit {0} × (k ≡ 0 → ⊥)) × (k ≡ 1 → ⊥)) × (k ≡ 2 → ⊥)) × (k ≡ 3 → ⊥)) × (k ≡ 4 → ⊥)) × (k ≡ 5 → ⊥)) × (k ≡ 6 → ⊥)) × (k ≡ 7 → ⊥))
-    × (k ≡ 8 → ⊥)) × (k ≡ 9 → ⊥)) × (k ≡ 10 → ⊥)) × (k ≡ 11 → ⊥)) × (k ≡ 12 → ⊥) → step_for k a b ≡ unknown
+    × (k ≡ 8 → ⊥)) × (k ≡ 9 → ⊥)) × (k ≡ 10 → ⊥)) × (k ≡ 11 → ⊥)) × (k ≡ 12 → ⊥) → step_for k a b ≡ None
 unfolding step_for
 no_step k a b h =
     rw (
@@ -49,10 +50,10 @@ user_name_back n = word_read user_name_word _ _ refl (λ i. refl) n _ refl
 
 -- ---- calls
 
-pub known_is : {A B : Type 0} {k : Meaning A} {a : A} (none : B) (f : A → B) → k ≡ known a → when_known k none f ≡ f a
+pub known_is : {A B : Type 0} {k : Option A} {a : A} (none : B) (f : A → B) → k ≡ Some a → when_known k none f ≡ f a
 unfolding when_known
-known_is none f e = ap (λ (n : Meaning _). when_known n none f) e
+known_is none f e = ap (λ (n : Option _). when_known n none f) e
 
-pub unknown_is : {A B : Type 0} {k : Meaning A} (none : B) (f : A → B) → k ≡ unknown → when_known k none f ≡ none
+pub unknown_is : {A B : Type 0} {k : Option A} (none : B) (f : A → B) → k ≡ None → when_known k none f ≡ none
 unfolding when_known
-unknown_is none f e = ap (λ (n : Meaning _). when_known n none f) e
+unknown_is none f e = ap (λ (n : Option _). when_known n none f) e

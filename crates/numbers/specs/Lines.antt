@@ -1,5 +1,5 @@
 -- Rename, Write, Simplify and Simplify binary with a format and a step by number.
-use Rattle.std.specs.Prelude.{ℕ, Bool, List, []}
+use Rattle.std.specs.Prelude.{ℕ, Bool, List, [], Option, Some, None}
 use Rattle.scope.specs.declared.ProofStep.{ProofStep}
 use Rattle.scope.specs.Table.{Table}
 use Rattle.scope.specs.Steps.{step_words}
@@ -8,15 +8,15 @@ use Rattle.scope.specs.Write.{rename_of, write_of}
 use Rattle.scope.specs.Simplify.{simplify_of}
 use Rattle.scope.specs.Binary.{binary_of}
 use Rattle.numbers.specs.declared.HzStep.{HzStep}
-use Rattle.numbers.specs.Numbers.{Meaning, known, unknown, for_known, format_for, step_for}
+use Rattle.numbers.specs.Numbers.{for_known, format_for, step_for}
 
-abbrev pub step_given : HzStep → Meaning ProofStep
+abbrev pub step_given : HzStep → Option ProofStep
 step_given step = step_for step.kind step.a step.b
 
 -- a step in words, by what it stands for
-abbrev pub words_at : Meaning ProofStep → List ℕ
-words_at (known s) = step_words s
-words_at unknown = []
+abbrev pub words_at : Option ProofStep → List ℕ
+words_at (Some s) = step_words s
+words_at None = []
 
 unfoldable pub rename_at : HzStep → Table → Bool → List ℕ → List ℕ → ℕ → ℕ → Outcome
 rename_at step t solver_vars lits hashes outs hash_outs =

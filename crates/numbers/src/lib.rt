@@ -2,49 +2,12 @@
 #![tactic(auto)]
 
 ghost use Rattle.std.specs.Prelude.{◌≡◌};
-ghost use Rattle.numbers.specs.Meant.{meant_mode, meant_mark, meant_format, meant_kind, meant_cause, meant_step};
 ghost use Rattle.numbers.specs.Numbers.{mode_for, mark_for, format_for, kind_for, cause_for, solver_name_for, user_name_for, step_for};
 
 use drat::{Format, Kind};
-use scope::{
-    DeleteClauseProof, Global, Mark, ProofStep, SamplingMode, Solver, SolverName, User, UserName,
-};
+use scope::{DeleteClauseProof, Global, Mark, ProofStep, SamplingMode, Solver, User};
 
-#[derive(Clone, Copy)]
-pub enum ModeNumber {
-    Known(SamplingMode),
-    Unknown,
-}
-
-#[derive(Clone, Copy)]
-pub enum MarkNumber {
-    Known(Mark),
-    Unknown,
-}
-
-#[derive(Clone, Copy)]
-pub enum FormatNumber {
-    Known(Format),
-    Unknown,
-}
-
-#[derive(Clone, Copy)]
-pub enum KindNumber {
-    Known(Kind),
-    Unknown,
-}
-
-#[derive(Clone, Copy)]
-pub enum CauseNumber {
-    Known(DeleteClauseProof),
-    Unknown,
-}
-
-#[derive(Clone, Copy)]
-pub enum StepNumber {
-    Known(ProofStep),
-    Unknown,
-}
+// A number that stands for nothing is `None`. `TryFrom` would have to stand in the crate of each type, with an error that says no more.
 
 // A step's kind, and what it carries of its own: in a naming step `b` is index + 1, or 0 where the name is withdrawn.
 #[repr(C)]
@@ -55,106 +18,97 @@ pub struct HzStep {
     pub b: u32,
 }
 
-pub fn mode_in(n: u32) -> ModeNumber
-    ensures { meant_mode result ≡ mode_for n }
+pub fn mode_in(n: u32) -> Option<SamplingMode>
+    ensures { result ≡ mode_for n }
 {
     match n {
-        0 => ModeNumber::Known(SamplingMode::Sample),
-        1 => ModeNumber::Known(SamplingMode::Witness),
-        2 => ModeNumber::Known(SamplingMode::Hide),
-        _ => ModeNumber::Unknown,
+        0 => Some(SamplingMode::Sample),
+        1 => Some(SamplingMode::Witness),
+        2 => Some(SamplingMode::Hide),
+        _ => None,
     }
 }
 
-pub fn mark_in(n: u32) -> MarkNumber
-    ensures { meant_mark result ≡ mark_for n }
+pub fn mark_in(n: u32) -> Option<Mark>
+    ensures { result ≡ mark_for n }
 {
     match n {
-        0 => MarkNumber::Known(Mark::Used),
-        1 => MarkNumber::Known(Mark::Assumed),
-        2 => MarkNumber::Known(Mark::Released),
-        _ => MarkNumber::Unknown,
+        0 => Some(Mark::Used),
+        1 => Some(Mark::Assumed),
+        2 => Some(Mark::Released),
+        _ => None,
     }
 }
 
-pub fn format_in(n: u32) -> FormatNumber
-    ensures { meant_format result ≡ format_for n }
+pub fn format_in(n: u32) -> Option<Format>
+    ensures { result ≡ format_for n }
 {
     match n {
-        0 => FormatNumber::Known(Format::Text),
-        1 => FormatNumber::Known(Format::Binary),
-        _ => FormatNumber::Unknown,
+        0 => Some(Format::Text),
+        1 => Some(Format::Binary),
+        _ => None,
     }
 }
 
-pub fn kind_in(n: u32) -> KindNumber
-    ensures { meant_kind result ≡ kind_for n }
+pub fn kind_in(n: u32) -> Option<Kind>
+    ensures { result ≡ kind_for n }
 {
     match n {
-        0 => KindNumber::Known(Kind::Add),
-        1 => KindNumber::Known(Kind::Delete),
-        _ => KindNumber::Unknown,
+        0 => Some(Kind::Add),
+        1 => Some(Kind::Delete),
+        _ => None,
     }
 }
 
-pub fn cause_in(n: u32) -> CauseNumber
-    ensures { meant_cause result ≡ cause_for n }
+pub fn cause_in(n: u32) -> Option<DeleteClauseProof>
+    ensures { result ≡ cause_for n }
 {
     match n {
-        0 => CauseNumber::Known(DeleteClauseProof::Redundant),
-        1 => CauseNumber::Known(DeleteClauseProof::Satisfied),
-        2 => CauseNumber::Known(DeleteClauseProof::Simplified),
-        _ => CauseNumber::Unknown,
+        0 => Some(DeleteClauseProof::Redundant),
+        1 => Some(DeleteClauseProof::Satisfied),
+        2 => Some(DeleteClauseProof::Simplified),
+        _ => None,
     }
 }
 
-fn solver_name_in(n: u32) -> SolverName
+fn solver_name_in(n: u32) -> Option<Solver>
     ensures { result ≡ solver_name_for n }
 {
-    if n == 0 {
-        return SolverName::Withdrawn;
-    }
-    SolverName::Granted(Solver(n - 1))
+    Some(Solver(n.checked_sub(1)?))
 }
 
-fn user_name_in(n: u32) -> UserName
+fn user_name_in(n: u32) -> Option<User>
     ensures { result ≡ user_name_for n }
 {
-    if n == 0 {
-        return UserName::Withdrawn;
-    }
-    UserName::Granted(User(n - 1))
+    Some(User(n.checked_sub(1)?))
 }
 
-fn delete_in(a: u32) -> StepNumber
-    ensures { meant_step result ≡ step_for 3 a 0 }
+fn delete_in(a: u32) -> Option<ProofStep>
+    ensures { result ≡ step_for 3 a 0 }
 {
-    let CauseNumber::Known(cause) = cause_in(a) else {
-        return StepNumber::Unknown;
-    };
-    StepNumber::Known(ProofStep::DeleteClause(cause))
+    Some(ProofStep::DeleteClause(cause_in(a)?))
 }
 
-pub fn step_in(step: HzStep) -> StepNumber
-    ensures { meant_step result ≡ step_for step.kind step.a step.b }
+pub fn step_in(step: HzStep) -> Option<ProofStep>
+    ensures { result ≡ step_for step.kind step.a step.b }
 {
     let a = step.a;
     let b = step.b;
     let n = step.kind;
     match n {
-        0 => StepNumber::Known(ProofStep::AddClause),
-        1 => StepNumber::Known(ProofStep::AtClause(a != 0)),
-        2 => StepNumber::Known(ProofStep::UnitClauses),
+        0 => Some(ProofStep::AddClause),
+        1 => Some(ProofStep::AtClause(a != 0)),
+        2 => Some(ProofStep::UnitClauses),
         3 => delete_in(a),
-        4 => StepNumber::Known(ProofStep::Model),
-        5 => StepNumber::Known(ProofStep::Assumptions),
-        6 => StepNumber::Known(ProofStep::FailedAssumptions),
-        7 => StepNumber::Known(ProofStep::SolverVarName(Global(a), solver_name_in(b))),
-        8 => StepNumber::Known(ProofStep::UserVarName(Global(a), user_name_in(b))),
-        9 => StepNumber::Known(ProofStep::DeleteVar(Global(a))),
-        10 => StepNumber::Known(ProofStep::ChangeSamplingMode(Global(a), b != 0)),
-        11 => StepNumber::Known(ProofStep::ChangeHashBits(a)),
-        12 => StepNumber::Known(ProofStep::End),
-        _ => StepNumber::Unknown,
+        4 => Some(ProofStep::Model),
+        5 => Some(ProofStep::Assumptions),
+        6 => Some(ProofStep::FailedAssumptions),
+        7 => Some(ProofStep::SolverVarName(Global(a), solver_name_in(b))),
+        8 => Some(ProofStep::UserVarName(Global(a), user_name_in(b))),
+        9 => Some(ProofStep::DeleteVar(Global(a))),
+        10 => Some(ProofStep::ChangeSamplingMode(Global(a), b != 0)),
+        11 => Some(ProofStep::ChangeHashBits(a)),
+        12 => Some(ProofStep::End),
+        _ => None, // no kind of step
     }
 }

@@ -5,31 +5,13 @@ use mathlib.Core.Path.{◌≡◌, refl, sym, ap, ◌∙◌}
 use mathlib.Core.List.{List}
 use native.Mathlib.Omega.{arith}
 use lib.ListN.{get_or}
-use Rattle.std.specs.Option.{SomeIff}
-use Rattle.std.proofs.lemmas.Option.{none-some, same_Some}
 use Rattle.scope.specs.declared.Global.{Global}
 use Rattle.scope.specs.declared.Solver.{Solver}
 use Rattle.scope.specs.declared.User.{User}
 use Rattle.scope.specs.Table.{Table, word}
 use Rattle.scope.specs.Marks.{not_held, held_else}
-use Rattle.scope.proofs.WordLaws.{word_read, found_none, found_some}
+use Rattle.scope.proofs.WordLaws.{word_read}
 use Rattle.table.specs.Found.{found_user, found_global, found_solver}
-
--- ---- an index, and the same in its sort
-
-pub index_of_word : (o : Option ℕ) (v w : ℕ) → v ≡ w → SomeIff o (1 ≤ v) (v - 1) → o ≡ word None Some w
-index_of_word None v w e s = found_none None Some v w e (omega (arith, λ (h : 1 ≤ v). s h))
-index_of_word (Some i) v w e s = ap Some s.1 ∙ found_some None Some v w e (λ z. let l = s.0 in omega arith)
-
-pub sorted_none : {B : Type 0} (f : ℕ → B) (o : Option ℕ) (r : Option B) (w : ℕ) → o ≡ word None Some w → o ≡ None → r ≡ None → r ≡ word None (λ i. Some (f i)) w
-unfolding word
-sorted_none f o r zero e n h = h
-sorted_none f o r (suc i) e n h = absurd (none-some i (sym n ∙ e))
-
-pub sorted_some : {B : Type 0} (f : ℕ → B) (o : Option ℕ) (w i : ℕ) → o ≡ word None Some w → o ≡ Some i → Some (f i) ≡ word None (λ k. Some (f k)) w
-unfolding word
-sorted_some f o zero i e n = absurd (none-some i (sym e ∙ n))
-sorted_some f o (suc k) i e n = ap (λ (j : ℕ). Some (f j)) (same_Some i k (sym n ∙ e))
 
 -- ---- the word of an answer
 

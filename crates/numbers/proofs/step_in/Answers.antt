@@ -1,10 +1,10 @@
-use Rattle.std.specs.Prelude.{Option}
+use Rattle.std.specs.Prelude.{Option, Some}
 use Prim.Native.Nat.{ℕ}
 use mathlib.Core.Path.{sym, ap, ◌∙◌}
 use Rattle.scope.specs.declared.Solver.{Solver}
 use Rattle.scope.specs.declared.User.{User}
 use Rattle.scope.specs.declared.ProofStep.TheVariants.{SolverVarName, UserVarName}
-use Rattle.numbers.specs.Numbers.{known, global_at, step_for}
+use Rattle.numbers.specs.Numbers.{global_at, step_for}
 use Rattle.numbers.proofs.NumberLaws.{no_step}
 use Rattle.numbers.proofs.step_in.Goals as goal
 
@@ -41,14 +41,14 @@ pub returns-in-7 : goal.returns-in-7
 unfolding step_for
 returns-in-7 c =
     let a = c.args.step in
-    ap (λ (n : Option Solver). known (SolverVarName (global_at a.a) n)) c.solver_name_in.ensures
+    ap (λ (n : Option Solver). Some (SolverVarName (global_at a.a) n)) c.solver_name_in.ensures
     ∙ sym (ap (λ (n : ℕ). step_for n a.a a.b) c.in-7.is)
 
 pub returns-in-8 : goal.returns-in-8
 unfolding step_for
 returns-in-8 c =
     let a = c.args.step in
-    ap (λ (n : Option User). known (UserVarName (global_at a.a) n)) c.user_name_in.ensures
+    ap (λ (n : Option User). Some (UserVarName (global_at a.a) n)) c.user_name_in.ensures
     ∙ sym (ap (λ (n : ℕ). step_for n a.a a.b) c.in-8.is)
 
 pub returns-in-9 : goal.returns-in-9

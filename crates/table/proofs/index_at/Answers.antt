@@ -1,4 +1,4 @@
-use Rattle.table.proofs.FoundLaws.{index_of_word}
+use Rattle.scope.proofs.WordLaws.{index_of_word}
 use Rattle.table.proofs.index_at.Goals as goal
 
 pub returns : goal.returns

@@ -1,5 +1,5 @@
 use Rattle.scope.specs.declared.User.{User}
-use Rattle.table.proofs.FoundLaws.{sorted_none, sorted_some}
+use Rattle.scope.proofs.WordLaws.{sorted_none, sorted_some}
 use Rattle.table.proofs.user_of.Goals as goal
 
 pub returns-in_err-index_at : goal.returns-in_err-index_at

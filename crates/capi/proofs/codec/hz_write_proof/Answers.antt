@@ -4,21 +4,20 @@ use Rattle.drat.specs.Writing.{Writing}
 use Rattle.numbers.specs.Surface.{plain}
 use Rattle.numbers.proofs.SurfaceLaws.{filled_same}
 use Rattle.capi.proofs.CodecLaws.{write_proof_is, no_proof_format, same_numbers}
-use Rattle.numbers.specs.Meant.{meant_format}
 use Rattle.capi.proofs.codec.hz_write_proof.Goals as goal
 
 pub returns-in_default-clause-value : goal.returns-in_default-clause-value
 returns-in_default-clause-value c =
     let a = c.args in
     let e = no_proof_format a.format a.codes.now a.ends.now a.kinds.now (length a.out.now)
-    (sym c.format_in.ensures ∙ ap meant_format c.in_default.is) in
+    (sym c.format_in.ensures ∙ c.in_default.is) in
     same_numbers (plain 1) (ap (λ (w : Writing). w.answer) e) refl
 
 pub returns-in_default-clause-out : goal.returns-in_default-clause-out
 returns-in_default-clause-out c =
     let a = c.args in
     let e = no_proof_format a.format a.codes.now a.ends.now a.kinds.now (length a.out.now)
-    (sym c.format_in.ensures ∙ ap meant_format c.in_default.is) in
+    (sym c.format_in.ensures ∙ c.in_default.is) in
     filled_same a.out.now 0 (ap (λ (w : Writing). w.bytes) e) refl
 
 pub returns-clause-value : goal.returns-clause-value
@@ -26,7 +25,7 @@ returns-clause-value c =
     let a = c.args in
     let e = write_proof_is a.format a.codes.now a.ends.now a.kinds.now (length a.out.now)
     (sym c.format_in.ensures
-    ∙ ap meant_format c.in-Known.is) in
+    ∙ c.in-Some.is) in
     same_numbers (plain 1) (ap (λ (w' : Writing). w'.answer) e ∙ sym c.write_proof-r.ensures.result_value) c.wrote_out.ensures
 
 pub returns-clause-out : goal.returns-clause-out
@@ -34,6 +33,6 @@ returns-clause-out c =
     let a = c.args in
     let e = write_proof_is a.format a.codes.now a.ends.now a.kinds.now (length a.out.now)
     (sym c.format_in.ensures
-    ∙ ap meant_format c.in-Known.is) in
+    ∙ c.in-Some.is) in
     filled_same a.out.now 0
     (ap (λ (w' : Writing). w'.bytes) e) c.write_proof-r.ensures.fills

@@ -2,7 +2,6 @@ use mathlib.Core.Path.{refl, sym, ap, ◌∙◌}
 use lib.ListN.{length}
 use Rattle.scope.specs.Table.{Table, table_of}
 use Rattle.scope.specs.Outcome.{Outcome}
-use Rattle.numbers.specs.Meant.{meant_format}
 use Rattle.numbers.proofs.SurfaceLaws.{same_given, quiet_refused, numbered_given, filled_same}
 use Rattle.numbers.proofs.LineLaws.{binary_is, no_binary_format}
 use Rattle.known.proofs.clauses.hz_known_simplify_binary.Goals as goal
@@ -12,7 +11,7 @@ returns-in_default-clause-gives c =
     let a = c.args in
     let t : Table = table_of a.c a.gu.now a.ug.now a.sg.now a.gs.now a.assignment.now a.records.now in
     let e = no_binary_format a.format t a.lists.now (length a.out.now) (length a.bytes.now)
-    (sym c.format_in.ensures ∙ ap meant_format c.in_default.is) in
+    (sym c.format_in.ensures ∙ c.in_default.is) in
     quiet_refused e refl
 
 pub returns-in_default-clause-out : goal.returns-in_default-clause-out
@@ -20,7 +19,7 @@ returns-in_default-clause-out c =
     let a = c.args in
     let t : Table = table_of a.c a.gu.now a.ug.now a.sg.now a.gs.now a.assignment.now a.records.now in
     let e = no_binary_format a.format t a.lists.now (length a.out.now) (length a.bytes.now)
-    (sym c.format_in.ensures ∙ ap meant_format c.in_default.is) in
+    (sym c.format_in.ensures ∙ c.in_default.is) in
     filled_same a.out.now 0 (ap (λ (o : Outcome). o.words) e) refl
 
 pub returns-in_default-clause-bytes : goal.returns-in_default-clause-bytes
@@ -28,7 +27,7 @@ returns-in_default-clause-bytes c =
     let a = c.args in
     let t : Table = table_of a.c a.gu.now a.ug.now a.sg.now a.gs.now a.assignment.now a.records.now in
     let e = no_binary_format a.format t a.lists.now (length a.out.now) (length a.bytes.now)
-    (sym c.format_in.ensures ∙ ap meant_format c.in_default.is) in
+    (sym c.format_in.ensures ∙ c.in_default.is) in
     filled_same a.bytes.now 0
     (ap (λ (o : Outcome). o.bytes) e) refl
 
@@ -37,7 +36,7 @@ returns-clause-gives c =
     let a = c.args in
     let t : Table = table_of a.c a.gu.now a.ug.now a.sg.now a.gs.now a.assignment.now a.records.now in
     let e = binary_is a.format t a.lists.now (length a.out.now) (length a.bytes.now)
-    (sym c.format_in.ensures ∙ ap meant_format c.in-Known.is) in
+    (sym c.format_in.ensures ∙ c.in-Some.is) in
     same_given e (numbered_given c.known_simplify_binary-r.ensures.meets (c.thinned_out.ensures _))
 
 pub returns-clause-out : goal.returns-clause-out
@@ -45,7 +44,7 @@ returns-clause-out c =
     let a = c.args in
     let t : Table = table_of a.c a.gu.now a.ug.now a.sg.now a.gs.now a.assignment.now a.records.now in
     let e = binary_is a.format t a.lists.now (length a.out.now) (length a.bytes.now)
-    (sym c.format_in.ensures ∙ ap meant_format c.in-Known.is) in
+    (sym c.format_in.ensures ∙ c.in-Some.is) in
     filled_same a.out.now 0 (ap (λ (o : Outcome). o.words) e) c.known_simplify_binary-r.ensures.out
 
 pub returns-clause-bytes : goal.returns-clause-bytes
@@ -53,5 +52,5 @@ returns-clause-bytes c =
     let a = c.args in
     let t : Table = table_of a.c a.gu.now a.ug.now a.sg.now a.gs.now a.assignment.now a.records.now in
     let e = binary_is a.format t a.lists.now (length a.out.now) (length a.bytes.now)
-    (sym c.format_in.ensures ∙ ap meant_format c.in-Known.is) in
+    (sym c.format_in.ensures ∙ c.in-Some.is) in
     filled_same a.bytes.now 0 (ap (λ (o : Outcome). o.bytes) e) c.known_simplify_binary-r.ensures.bytes
