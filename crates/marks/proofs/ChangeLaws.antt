@@ -21,7 +21,7 @@ use Rattle.scope.specs.Contract.{Does}
 use Rattle.scope.specs.Marks.{not_held, held_else, holder_of, marked, mark, mark_refusal, mark_of, true_value, assign_refusal, assign_of}
 use Rattle.scope.proofs.SoundLaws.{sound_of}
 use Rattle.scope.proofs.PairLaws.{below_mark, pair_flip}
-use Rattle.scope.proofs.MarkLaws.{held_else_lem, held_refuses}
+use Rattle.scope.proofs.MarkLaws.{held_else_lem}
 use Rattle.scope.specs.declared.Refusal.{Refusal}
 use Rattle.scope.specs.declared.Refusal.TheVariants.{NotHeld, HasValue}
 use Rattle.marks.specs.Answers.{changed, with_records, with_values}

@@ -1,14 +1,13 @@
 -- What a lookup's answer says of the word: for `Some g` the word is g + 1, for `None` it is 0; refusal 8 by what it answers.
 use Rattle.std.specs.Prelude.{Option, Some, None}
-use Prim.Native.Nat.{ℕ, zero, suc, ◌+◌, ◌≤◌, ◌-◌}
-use mathlib.Core.Path.{◌≡◌, refl, sym, ap, ◌∙◌}
+use Prim.Native.Nat.{ℕ, ◌+◌}
+use mathlib.Core.Path.{◌≡◌, refl}
 use mathlib.Core.List.{List}
-use native.Mathlib.Omega.{arith}
 use lib.ListN.{get_or}
 use Rattle.scope.specs.declared.Global.{Global}
 use Rattle.scope.specs.declared.Solver.{Solver}
 use Rattle.scope.specs.declared.User.{User}
-use Rattle.scope.specs.Table.{Table, word}
+use Rattle.scope.specs.Table.{Table}
 use Rattle.scope.specs.Marks.{not_held, held_else}
 use Rattle.scope.proofs.WordLaws.{word_read}
 use Rattle.table.specs.Found.{found_user, found_global, found_solver}

@@ -148,7 +148,9 @@ impl Lists<'_> {
         if !tails_ok(self) {
             return false;
         }
-        if !(pair_ok(self.gu, self.ug, c.user, c.global) & pair_ok(self.gs, self.sg, c.solver, c.global)) {
+        if !(pair_ok(self.gu, self.ug, c.user, c.global)
+            & pair_ok(self.gs, self.sg, c.solver, c.global))
+        {
             return false;
         }
         at_most(2, self.assignment, c.solver)

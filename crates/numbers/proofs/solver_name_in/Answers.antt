@@ -1,5 +1,4 @@
 use mathlib.Core.Path.{refl}
-use Rattle.scope.specs.declared.Solver.{Solver}
 use Rattle.scope.proofs.WordLaws.{index_of_word, sorted_none, sorted_some}
 use Rattle.numbers.proofs.solver_name_in.Goals as goal
 

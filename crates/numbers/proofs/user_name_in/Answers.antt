@@ -1,5 +1,4 @@
 use mathlib.Core.Path.{refl}
-use Rattle.scope.specs.declared.User.{User}
 use Rattle.scope.proofs.WordLaws.{index_of_word, sorted_none, sorted_some}
 use Rattle.numbers.proofs.user_name_in.Goals as goal
 

@@ -1,5 +1,4 @@
 use mathlib.Core.Path.{sym}
-use native.Mathlib.Omega.{arith}
 use lib.Dec.{leb}
 use Rattle.base.proofs.MemberLaws.{any_start}
 use Rattle.scope.specs.Literals.{index_of}

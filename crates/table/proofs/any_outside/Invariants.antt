@@ -1,7 +1,6 @@
-use Prim.Native.Nat.{◌-◌, ◌≤◌}
 use mathlib.Core.Path.{◌≡◌}
 use lib.Dec.{leb}
-use lib.ListN.{length, take}
+use lib.ListN.{take}
 use Rattle.base.specs.Bounded.{any_of}
 use Rattle.scope.specs.Literals.{index_of}
 use Rattle.table.proofs.any_outside.Given as goal

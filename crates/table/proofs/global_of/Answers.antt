@@ -1,4 +1,3 @@
-use Rattle.scope.specs.declared.Global.{Global}
 use Rattle.scope.proofs.WordLaws.{sorted_none, sorted_some}
 use Rattle.table.proofs.global_of.Goals as goal
 

@@ -1,4 +1,3 @@
-use Rattle.scope.specs.declared.Solver.{Solver}
 use Rattle.scope.proofs.WordLaws.{sorted_none, sorted_some}
 use Rattle.table.proofs.solver_of.Goals as goal
 

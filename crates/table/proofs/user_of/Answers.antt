@@ -1,4 +1,3 @@
-use Rattle.scope.specs.declared.User.{User}
 use Rattle.scope.proofs.WordLaws.{sorted_none, sorted_some}
 use Rattle.table.proofs.user_of.Goals as goal
 

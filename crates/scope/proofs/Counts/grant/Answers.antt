@@ -1,5 +1,4 @@
 use mathlib.Core.Path.{◌∙◌, ap, sym, refl}
-use Rattle.std.specs.Prelude.{Ok}
 use Rattle.scope.specs.Refusals.{or_counts}
 use Rattle.scope.specs.declared.Name.TheVariants.{Solver}
 use Rattle.scope.proofs.BiMapLaws.{accepted, insert_done}

@@ -1,7 +1,6 @@
 use lib.ListN.{get_or}
 use Prim.Native.Nat.{ℕ, ◌+◌}
 use mathlib.Core.Path.{◌∙◌, ap, sym, refl}
-use Rattle.std.specs.Prelude.{Ok}
 use Rattle.scope.specs.Refusals.{or_counts}
 use Rattle.base.specs.Choice.{pick}
 use Rattle.base.proofs.MemberLaws.{get_d_default}

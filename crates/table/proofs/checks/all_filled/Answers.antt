@@ -1,7 +1,5 @@
 use mathlib.Core.Path.{refl}
-use native.Mathlib.Omega.{arith}
 use Rattle.table.proofs.CheckLaws.{all_start, all_step}
-use borrow.Author.Rules.{rules}
 use Rattle.table.proofs.checks.all_filled.Goals as goal
 
 pub loop-i-init : goal.loop-i-init

@@ -1,4 +1,3 @@
-use Prim.Native.Nat.{◌-◌, ◌≤◌}
 use mathlib.Core.Path.{◌≡◌}
 use Rattle.base.specs.Bounded.{all_below}
 use Rattle.table.specs.Checks.{is_filled}

@@ -1,7 +1,6 @@
 use Rattle.table.proofs.CheckLaws.{all_start, all_step, most_end}
 use native.Mathlib.Omega.{arith}
 use mathlib.Core.Path.{refl}
-use borrow.Author.Rules.{rules}
 use Rattle.table.proofs.checks.at_most.Goals as goal
 
 pub loop-i-init : goal.loop-i-init

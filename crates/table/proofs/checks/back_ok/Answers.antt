@@ -3,7 +3,6 @@ use native.Mathlib.Omega.{arith}
 use lib.ListN.{length}
 use mathlib.Core.Path.{refl}
 use Prim.Native.Nat.{◌<◌}
-use borrow.Author.Rules.{rules}
 use Rattle.table.proofs.checks.back_ok.Goals as goal
 
 pub returns-then-not-at_most : goal.returns-then-not-at_most

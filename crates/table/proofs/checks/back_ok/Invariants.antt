@@ -1,7 +1,6 @@
 use Rattle.table.proofs.CheckLaws.{back_at}
 use Rattle.base.specs.Bounded.{all_below}
 use mathlib.Core.Path.{◌≡◌}
-use Prim.Native.Nat.{◌-◌, ◌≤◌}
 use Rattle.table.proofs.checks.back_ok.Given as goal
 
 abbrev pub invariant-loop-i : goal.invariant-loop-i

@@ -2,7 +2,6 @@ use Rattle.table.proofs.CheckLaws.{tally_step, filled_end}
 use Rattle.base.proofs.CountLaws.{count_none}
 use native.Mathlib.Omega.{arith}
 use mathlib.Core.Path.{sym}
-use borrow.Author.Rules.{rules}
 use Rattle.table.proofs.checks.filled.Goals as goal
 
 pub loop-i-init : goal.loop-i-init

@@ -1,7 +1,7 @@
 use Rattle.table.specs.Checks.{is_filled}
 use Rattle.base.specs.Bounded.{count}
 use mathlib.Core.Path.{◌≡◌}
-use Prim.Native.Nat.{◌-◌, ◌≤◌}
+use Prim.Native.Nat.{◌≤◌}
 use Rattle.table.proofs.checks.filled.Given as goal
 
 abbrev pub invariant-loop-i : goal.invariant-loop-i

@@ -1,6 +1,5 @@
 use Rattle.table.proofs.CheckLaws.{all_start, row_step, rows_end}
 use native.Mathlib.Omega.{arith}
-use borrow.Author.Rules.{rules}
 use Rattle.table.proofs.checks.rows_ok.Goals as goal
 
 pub loop-i-init : goal.loop-i-init

@@ -1,6 +1,5 @@
 use Rattle.table.proofs.CheckLaws.{tail_start, tail_step, tail_end}
 use native.Mathlib.Omega.{arith}
-use borrow.Author.Rules.{rules}
 use Rattle.table.proofs.checks.tail_ok.Goals as goal
 
 pub loop-i-init : goal.loop-i-init

@@ -2,7 +2,6 @@ use Rattle.table.proofs.CheckLaws.{tail_start, two_step, two_end}
 use native.Mathlib.Omega.{arith}
 use mathlib.Core.Bool.{◌&&◌}
 use mathlib.Core.Path.{ap₂}
-use borrow.Author.Rules.{rules}
 use Rattle.table.proofs.checks.two_tails_ok.Goals as goal
 
 pub loop-i-init : goal.loop-i-init

@@ -1,9 +1,7 @@
 use Rattle.table.proofs.CheckLaws.{tail_at}
 use Rattle.base.specs.Bounded.{all_below}
-use lib.ListN.{length}
 use mathlib.Core.Bool.{◌&&◌}
 use mathlib.Core.Path.{◌≡◌}
-use Prim.Native.Nat.{◌-◌, ◌≤◌}
 use Rattle.table.proofs.checks.two_tails_ok.Given as goal
 
 abbrev pub invariant-loop-i : goal.invariant-loop-i

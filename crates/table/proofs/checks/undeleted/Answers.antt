@@ -2,7 +2,6 @@ use mathlib.Core.Path.{sym}
 use native.Mathlib.Omega.{arith}
 use Rattle.base.proofs.CountLaws.{count_none}
 use Rattle.table.proofs.CheckLaws.{undeleted_step, undeleted_end}
-use borrow.Author.Rules.{rules}
 use Rattle.table.proofs.checks.undeleted.Goals as goal
 
 pub loop-i-init : goal.loop-i-init
