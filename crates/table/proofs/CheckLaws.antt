@@ -1,6 +1,6 @@
 -- Laws by which the loops of src/ are the tests of crates/scope/specs/Sound.antt. A loop gathers `all_below i p`; where the tails
 -- are as they should be, p holds at or above the mark, so that the loop can stop there.
-use Rattle.std.specs.Prelude.{Result, Ok, Err}
+use Rattle.std.specs.Prelude.{Result, Ok, Err, count_by}
 use Prim.Native.Nat.{ℕ, zero, suc, ◌+◌, ◌-◌, ◌≤◌, ◌<◌}
 use mathlib.Core.Path.{◌≡◌, refl, sym, ap, ap₂, ◌∙◌}
 use mathlib.Core.Bool.{Bool, true, false, ◌&&◌, ◌||◌, not, true≢false}
@@ -15,7 +15,7 @@ use lib.Seq.{take_all}
 use borrow.Author.Tests.{lt-ltb, le-ltb, le-leb, leb-true, eq-eqb, ne_eqb, not-true}
 use Rattle.base.specs.Choice.{pick}
 use Rattle.base.specs.Bounded.{all_below, count, any_of}
-use Rattle.base.proofs.CountLaws.{count_past}
+use Rattle.base.proofs.CountLaws.{count_past, count_words}
 use Rattle.base.proofs.BelowLaws.{all_at, all_intro, and_true}
 use Rattle.base.proofs.Truth.{and_iff}
 use Rattle.base.proofs.MemberLaws.{get_d_default, any_more}
@@ -200,29 +200,16 @@ pair_is a b ok x y e n p q =
 
 -- ---- how many words are not 0, and how many globals undeleted
 
-pub tally_step : (p : ℕ → Bool) (i k x : ℕ) → k ≡ count i p → x ≡ pick (p i) 1 0 → k + x ≡ count (i + 1) p
-unfolding count
-tally_step p i k x e h = rw (add-one, e, h) (go (p i) (count i p))
-  where
-    go : (b : Bool) (n : ℕ) → n + pick b 1 0 ≡ pick b (suc n) n
-    go true n = add-one n
-    go false n = add-zero n
-
-pub filled_end : (xs : List ℕ) (mark i k : ℕ) → mark ≤ length xs → tailb mark 0 xs ≡ true → k ≡ count i (is_filled xs) → i ≡ mark
+pub filled_all : (xs : List ℕ) (mark k : ℕ) → mark ≤ length xs → tailb mark 0 xs ≡ true → k ≡ count_by (λ w. not (eqb w 0)) (take mark xs)
     → k ≡ count (length xs) (is_filled xs)
-filled_end xs mark i k l h e q =
-    e ∙ ap (λ (n : ℕ). count n (is_filled xs)) q
+filled_all xs mark k l h e =
+    e ∙ count_words (λ w. not (eqb w 0)) xs 0 mark l
     ∙ sym (count_past (is_filled xs) mark (length xs) l (λ j m. rw (tail_of mark 0 xs h j m) refl))
 
-pub undeleted_step : (records : List ℕ) (i k x : ℕ) → i < length records → k ≡ count i (is_undeleted records) → x ≡ pick (ltb (get_or records i 0) 36) 1 0
-    → k + x ≡ count (i + 1) (is_undeleted records)
-undeleted_step records i k x l e p =
-    tally_step (is_undeleted records) i k x e (p ∙ ap (λ (w : ℕ). pick (ltb w 36) 1 0) (get_d_default records i 0 47 l))
-
-pub undeleted_end : (records : List ℕ) (mark i k : ℕ) → mark ≤ length records → tailb mark 47 records ≡ true → k ≡ count i (is_undeleted records) → i ≡ mark
+pub undeleted_all : (records : List ℕ) (mark k : ℕ) → mark ≤ length records → tailb mark 47 records ≡ true → k ≡ count_by (λ w. ltb w 36) (take mark records)
     → k ≡ count (length records) (is_undeleted records)
-undeleted_end records mark i k l h e q =
-    e ∙ ap (λ (n : ℕ). count n (is_undeleted records)) q
+undeleted_all records mark k l h e =
+    e ∙ count_words (λ w. ltb w 36) records 47 mark l
     ∙ sym (count_past (is_undeleted records) mark (length records) l (λ j m. rw (tail_of mark 47 records h j m) refl))
 
 -- ---- the least free index, tested

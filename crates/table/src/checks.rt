@@ -1,7 +1,7 @@
 // The tests of one list, or of two, of which soundness is made. Tails are tested first: at or above a watermark the other tests then hold.
 // No loop stops at a fault, so that most of them are done several words at a time. The time does depend on what the table holds: a test that
 // fails leaves out those after it, and the second map of a pair is read where the words of the first point.
-ghost use Rattle.std.specs.Prelude.{◌≡◌, true, ◌&&◌, not, ◌-◌, ◌≤◌, eqb, ltb, length};
+ghost use Rattle.std.specs.Prelude.{◌≡◌, true, ◌&&◌, not, ◌-◌, ◌≤◌, eqb, ltb, length, count_by, take};
 ghost use Rattle.base.specs.Bounded.{all_below, count};
 ghost use Rattle.base.specs.Choice.{pick};
 ghost use Rattle.scope.specs.Sound.{sizesb, marksb, at_mostb, tailb, backb, namedb, deletedb, tailsb};
@@ -83,24 +83,12 @@ fn back_ok(a: &[u32], b: &[u32], mark: u32) -> bool
     ok
 }
 
-fn one_if(x: u32) -> u32
-    ensures value { result ≡ pick (not (eqb x 0)) 1 0 }
-    ensures upper_bound { result ≤ 1 }
-{
-    if x == 0 { 0 } else { 1 }
-}
-
 // How many words are not 0.
-fn filled(xs: &[u32], mark: u32) -> u32
+fn filled(xs: &[u32], mark: u32) -> usize
     requires mark_in_bounds { mark ≤ length xs.now }
-    requires xs_value { tailb mark 0 xs.now ≡ true }
-    ensures { result ≡ count (length xs.now) (is_filled xs.now) }
+    ensures { result ≡ count_by (λ w. not (eqb w 0)) (take mark xs.now) }
 {
-    let mut k: u32 = 0;
-    for i in 0..mark as usize {
-        k += one_if(xs[i]);
-    }
-    k
+    xs[..mark as usize].iter().filter(|w| **w != 0).count()
 }
 
 // Two maps are mutually inverse: what the first takes i to the second takes back, and no word of the second is left over.
@@ -157,24 +145,12 @@ pub fn tails_ok(t: &Lists) -> bool
         & tail_ok(c.global, 47, t.records)
 }
 
-fn one_undeleted(w: u32) -> u32
-    ensures value { result ≡ pick (ltb w 36) 1 0 }
-    ensures upper_bound { result ≤ 1 }
-{
-    if w < 36 { 1 } else { 0 }
-}
-
 // How many globals are undeleted.
-fn undeleted(records: &[u32], mark: u32) -> u32
+fn undeleted(records: &[u32], mark: u32) -> usize
     requires mark_in_bounds { mark ≤ length records.now }
-    requires records_value { tailb mark 47 records.now ≡ true }
-    ensures { result ≡ count (length records.now) (is_undeleted records.now) }
+    ensures { result ≡ count_by (λ w. ltb w 36) (take mark records.now) }
 {
-    let mut k: u32 = 0;
-    for i in 0..mark as usize {
-        k += one_undeleted(records[i]);
-    }
-    k
+    records[..mark as usize].iter().filter(|w| **w < 36).count()
 }
 
 // Every word below n is filled.
@@ -213,5 +189,5 @@ pub fn stored_ok(c: Counts, gs: &[u32], records: &[u32]) -> bool
     requires records_value { tailb c.global 47 records.now ≡ true }
     ensures { result ≡ (eqb c.used (count (length records.now) (is_undeleted records.now)) && eqb c.next (least_free gs.now c.solver)) }
 {
-    (c.used == undeleted(records, c.global)) & next_ok(gs, c.solver, c.next)
+    (c.used as usize == undeleted(records, c.global)) & next_ok(gs, c.solver, c.next)
 }
