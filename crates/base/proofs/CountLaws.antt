@@ -1,10 +1,6 @@
 -- Laws of `count`.
 use Prim.Native.Nat.{ℕ, zero, suc, ◌+◌, ◌<◌, ◌≤◌, zero-le}
-use Rattle.std.specs.Prelude.{count_by}
-use Rattle.std.proofs.lemmas.List.Sums.{count_by_more_yes, count_by_more_no}
-use mathlib.Core.Path.{◌≡◌, refl, sym, ap, subst, ◌∙◌}
-use mathlib.Core.List.{List}
-use lib.ListN.{length, get_or, take}
+use mathlib.Core.Path.{◌≡◌, refl}
 use mathlib.Core.Bool.{Bool, true, false}
 use mathlib.Core.Logic.{⊎_elim}
 use native.Mathlib.Nat.{not-suc-le-zero, eq-or-lt_of_le}
@@ -91,16 +87,3 @@ count_past p n (suc m) l h = ⊎_elim
     (λ (e : n ≡ suc m). rw e refl)
     (λ (k : n < suc m). rw (h m (omega arith)) (count_past p n m (omega arith) h))
     (eq-or-lt_of_le l)
-
--- the words of a list that pass, counted by their places
-count_word : (p : ℕ → Bool) (xs : List ℕ) (d n : ℕ) → n < length xs → count_by p (take n xs) ≡ count n (λ i. p (get_or xs i d))
-    → (b : Bool) → p (get_or xs n d) ≡ b → count_by p (take (n + 1) xs) ≡ count (n + 1) (λ i. p (get_or xs i d))
-count_word p xs d n l h true e = count_by_more_yes p xs n d l e ∙ ap (λ (k : ℕ). k + 1) h ∙ sym (count_yes n (λ i. p (get_or xs i d)) e)
-count_word p xs d n l h false e = count_by_more_no p xs n d l e ∙ h ∙ sym (count_no n (λ i. p (get_or xs i d)) e)
-
-pub count_words : (p : ℕ → Bool) (xs : List ℕ) (d n : ℕ) → n ≤ length xs → count_by p (take n xs) ≡ count n (λ i. p (get_or xs i d))
-unfolding count
-count_words p xs d zero l = refl
-count_words p xs d (suc n) l =
-    subst (λ (m : ℕ). count_by p (take m xs) ≡ count m (λ i. p (get_or xs i d))) (add-one n)
-    (count_word p xs d n (omega arith) (count_words p xs d n (omega arith)) (p (get_or xs n d)) refl)

@@ -1,6 +1,6 @@
 -- Laws by which the loops of src/ are the tests of crates/scope/specs/Sound.antt. A loop gathers `all_below i p`; where the tails
 -- are as they should be, p holds at or above the mark, so that the loop can stop there.
-use Rattle.std.specs.Prelude.{Result, Ok, Err, count_by}
+use Rattle.std.specs.Prelude.{Result, Ok, Err}
 use Prim.Native.Nat.{ℕ, zero, suc, ◌+◌, ◌-◌, ◌≤◌, ◌<◌}
 use mathlib.Core.Path.{◌≡◌, refl, sym, ap, ap₂, ◌∙◌}
 use mathlib.Core.Bool.{Bool, true, false, ◌&&◌, ◌||◌, not, true≢false}
@@ -9,13 +9,14 @@ use mathlib.Core.List.{List}
 use native.Mathlib.Nat.{eq-or-lt_of_le, add-zero}
 use native.Mathlib.Numerals.{add-one}
 use native.Mathlib.Omega.{arith}
+use mir.Val.{bool_byte}
 use lib.Dec.{eqb, ltb, leb}
 use lib.ListN.{length, get_or, take}
 use lib.Seq.{take_all}
 use borrow.Author.Tests.{lt-ltb, le-ltb, le-leb, leb-true, eq-eqb, ne_eqb, not-true}
 use Rattle.base.specs.Choice.{pick}
 use Rattle.base.specs.Bounded.{all_below, count, any_of}
-use Rattle.base.proofs.CountLaws.{count_past, count_words}
+use Rattle.base.proofs.CountLaws.{count_past, count_same}
 use Rattle.base.proofs.BelowLaws.{all_at, all_intro, and_true}
 use Rattle.base.proofs.Truth.{and_iff}
 use Rattle.base.proofs.MemberLaws.{get_d_default, any_more}
@@ -200,16 +201,31 @@ pair_is a b ok x y e n p q =
 
 -- ---- how many words are not 0, and how many globals undeleted
 
-pub filled_all : (xs : List ℕ) (mark k : ℕ) → mark ≤ length xs → tailb mark 0 xs ≡ true → k ≡ count_by (λ w. not (eqb w 0)) (take mark xs)
-    → k ≡ count (length xs) (is_filled xs)
-filled_all xs mark k l h e =
-    e ∙ count_words (λ w. not (eqb w 0)) xs 0 mark l
-    ∙ sym (count_past (is_filled xs) mark (length xs) l (λ j m. rw (tail_of mark 0 xs h j m) refl))
+-- a truth value as a number
+pub byte_most : (x : ℕ) (b : Bool) → x ≡ bool_byte b → x ≤ 1
+byte_most x true e = rw e (omega arith)
+byte_most x false e = rw e (omega arith)
 
-pub undeleted_all : (records : List ℕ) (mark k : ℕ) → mark ≤ length records → tailb mark 47 records ≡ true → k ≡ count_by (λ w. ltb w 36) (take mark records)
-    → k ≡ count (length records) (is_undeleted records)
+pub byte_pick : (x : ℕ) (b : Bool) → x ≡ bool_byte b → (q : Bool) → b ≡ q → x ≡ pick q 1 0
+byte_pick x true e q h = e ∙ ap (λ (b : Bool). pick b 1 0) h
+byte_pick x false e q h = e ∙ ap (λ (b : Bool). pick b 1 0) h
+
+pub tally_step : (p : ℕ → Bool) (i k x : ℕ) → k ≡ count i p → x ≡ pick (p i) 1 0 → k + x ≡ count (i + 1) p
+unfolding count
+tally_step p i k x e h = rw (add-one, e, h) (go (p i) (count i p))
+  where
+    go : (b : Bool) (n : ℕ) → n + pick b 1 0 ≡ pick b (suc n) n
+    go true n = add-one n
+    go false n = add-zero n
+
+pub filled_all : (xs : List ℕ) (mark k : ℕ) → mark ≤ length xs → tailb mark 0 xs ≡ true → k ≡ count mark (is_filled xs) → k ≡ count (length xs) (is_filled xs)
+filled_all xs mark k l h e = e ∙ sym (count_past (is_filled xs) mark (length xs) l (λ j m. rw (tail_of mark 0 xs h j m) refl))
+
+pub undeleted_all : (records : List ℕ) (mark k : ℕ) → mark ≤ length records → tailb mark 47 records ≡ true
+    → k ≡ count mark (λ i. ltb (get_or records i 0) 36) → k ≡ count (length records) (is_undeleted records)
 undeleted_all records mark k l h e =
-    e ∙ count_words (λ w. ltb w 36) records 47 mark l
+    e ∙ count_same mark (λ i. ltb (get_or records i 0) 36) (is_undeleted records)
+    (λ i m. ap (λ (w : ℕ). ltb w 36) (get_d_default records i 0 47 (omega arith)))
     ∙ sym (count_past (is_undeleted records) mark (length records) l (λ j m. rw (tail_of mark 47 records h j m) refl))
 
 -- ---- the least free index, tested

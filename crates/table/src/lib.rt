@@ -14,6 +14,7 @@ ghost use Rattle.table.specs.Found.{found_user, found_global, found_solver};
 ghost use Rattle.table.specs.Lists.{seen, tested};
 ghost use Rattle.table.specs.Noted.{note_of, last_of};
 
+pub use checks::count_words;
 use checks::{at_most, marks_ok, pair_ok, rows_ok, stored_ok, tails_ok};
 use scope::{Counts, Global, Note, Refusal, Solver, User};
 
