@@ -2,11 +2,12 @@ use mathlib.Core.Path.{sym, ap₂, ◌∙◌, subst}
 use native.Mathlib.Omega.{arith}
 use Rattle.drat.proofs.Ends.{answer_fault}
 use Rattle.drat.proofs.Sound.{Bytes}
-use Rattle.drat.specs.declared.Scanned.TheVariants.{Whole}
 use Rattle.drat_judge.proofs.CountsLaws.{counts_are}
 use Rattle.drat_read.specs.Known.{Found}
 use Rattle.drat_read.proofs.FillLaws.{ample_fits, whole_found}
 use Rattle.drat_read.proofs.find.Goals as goal
+use Rattle.std.specs.Prelude.{Ok}
+use Rattle.drat.specs.Filled.{size}
 
 pub returns-then-is_ample : goal.returns-then-is_ample
 returns-then-is_ample c =
@@ -20,7 +21,7 @@ returns-then-is_known c =
     let a = c.args in
     let hb : Bytes a.bytes.now = λ i. omega (arith, c.type_inv.bytes i) in
     let w = c.counts_of-w in
-    let e = ap₂ Whole w.ensures.0 w.ensures.1 ∙ counts_are a.f a.bytes.now hb (c.is_known.ensures c.if-is_known.true) in
+    let e = ap₂ (λ (x y : ℕ). Ok (size x y)) w.ensures.0 w.ensures.1 ∙ counts_are a.f a.bytes.now hb (c.is_known.ensures c.if-is_known.true) in
     subst (Found a.f a.bytes.now a.a a.b a.c) (sym c.room_for.ensures)
     (whole_found a.f a.bytes.now w.result.lits w.result.steps a.a a.b a.c e)
 

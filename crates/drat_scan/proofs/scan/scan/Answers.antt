@@ -3,10 +3,11 @@ use mathlib.Core.Path.{sym, ap, ◌∙◌, subst}
 use native.Mathlib.Omega.{arith}
 use Rattle.drat.proofs.Places.{opens_at, lit_at, stop_at, token_le}
 use Rattle.drat.proofs.Sound.{Bytes}
-use Rattle.drat.specs.declared.Scanned.TheVariants.{Whole, Fault}
 use Rattle.drat_scan.proofs.ScanLaws.{Between, between_start, inside_start, inside_more, between_more, between_wrong, between_bad, between_end}
 use Rattle.drat_scan.proofs.scan.scan.Goals as goal
 use Rattle.drat_scan.proofs.scan.scan.Goals.{then-s-at, else-s-at+in_default, else-s-at+in-Opens+in-Bad}
+use Rattle.std.specs.Prelude.{Ok, Err}
+use Rattle.drat.specs.Filled.{size}
 
 pub steps-init : goal.steps-init
 steps-init c =
@@ -94,9 +95,9 @@ returns-then-place-s c =
     elim c.if-s-at.branch [
       | then-s-at w ↦ absurd (omega arith)
       | else-s-at+in_default w ↦
-          ap Fault w.place-is ∙ between_wrong a.f s o.at o.n o.m hb o.invariant w.if-s-at.false (sym w.opening_at.ensures ∙ w.in_default.is)
+          ap Err w.place-is ∙ between_wrong a.f s o.at o.n o.m hb o.invariant w.if-s-at.false (sym w.opening_at.ensures ∙ w.in_default.is)
       | else-s-at+in-Opens+in-Bad w ↦
-          ap Fault w.place-is ∙ between_bad a.f s o.at o.n o.m hb o.invariant w.if-s-at.false w.in-Opens.field-0 w.in-Opens.first w.loop-next.at
+          ap Err w.place-is ∙ between_bad a.f s o.at o.n o.m hb o.invariant w.if-s-at.false w.in-Opens.field-0 w.in-Opens.first w.loop-next.at
           w.loop-next.n (sym w.opening_at.ensures ∙ w.in-Opens.is) w.loop-next.invariant (sym w.token_at.ensures ∙ w.in-Bad.is)
     ]
 
@@ -107,7 +108,7 @@ returns-else-place-s c =
     let hb : Bytes s = λ i. omega (arith, c.type_inv.s i) in
     let o = c.steps in
     elim c.if-s-at.branch [
-      | then-s-at w ↦ ap (λ (x : ℕ). Whole x o.m) w.n-is ∙ between_end a.f s o.at o.n o.m hb o.invariant w.if-s-at.true
+      | then-s-at w ↦ ap (λ (x : ℕ). Ok (size x o.m)) w.n-is ∙ between_end a.f s o.at o.n o.m hb o.invariant w.if-s-at.true
       | else-s-at+in_default w ↦ absurd (omega arith)
       | else-s-at+in-Opens+in-Bad w ↦ absurd (omega arith)
     ]
