@@ -3,6 +3,7 @@ use Prim.Native.Nat.{ℕ, suc, ◌+◌, ◌-◌, ◌≤◌, ◌<◌}
 use mathlib.Core.Bool.{Bool, true, false, ◌&&◌}
 use mathlib.Core.List.{List, [], ◌∷◌, ◌++◌}
 use mathlib.Core.Path.{◌≡◌, refl, sym, ap, ap₂, ◌∙◌}
+use mir.Val.{bool_byte}
 use lib.Dec.{ltb, leb-suc-suc}
 use lib.ListN.{length, get_or, drop, drop_of_length-le}
 use native.Mathlib.Numerals.{add-one}
@@ -87,6 +88,15 @@ part_holds false x y h e = let z : ◌≡◌ {A = ℕ} 0 1 = cc in absurd (omega
 pub part_fails : (r x y : Bool) → r ≡ false → r && x ≡ y → false ≡ y
 part_fails true x y h e = let z : ◌≡◌ {A = ℕ} 0 1 = cc in absurd (omega arith)
 part_fails false x y h e = e
+
+-- a test as a number
+pub as_byte : (t : Bool) → bool_byte t ≡ pick t 1 0
+as_byte true = refl
+as_byte false = refl
+
+pub as_byte_le : (t : Bool) → bool_byte t ≤ 1
+as_byte_le true = omega arith
+as_byte_le false = omega arith
 
 pub tally_next : (lo hi : ℕ) (s : List ℕ) (i : ℕ) → i < length s → tally lo hi (drop i s) ≡ pick (in_range lo hi (get_or s i 0)) 1 0 + tally lo hi (drop (i + 1) s)
 unfolding tally

@@ -29,12 +29,6 @@ pub fn is_near(x: u8) -> bool
     in_range(x, 48, 127)
 }
 
-pub fn one(t: bool) -> u8
-    ensures { (result ≡ pick t 1 0) × (result ≤ 1) }
-{
-    if t { 1 } else { 0 }
-}
-
 // Whether p is a closing 0.
 pub fn is_closing(c: u8, p: u8) -> bool
     ensures { result ≡ closing c p }
@@ -62,7 +56,7 @@ fn is_small(a: u8, b: u8, c: u8, p: u8, x: u8) -> bool
 {
     let above = in_range(c, 49, 127) | ((p == 57) & in_range(x, 55, 127));
     let few = !is_near(b) | (!is_near(c) | !is_near(p));
-    few | (!is_near(a) & (b <= 52 - one(above)))
+    few | (!is_near(a) & (b <= 52 - above as u8))
 }
 
 // Whether x may stand after a b c p.
@@ -206,7 +200,7 @@ fn block(s: &[u8], lo: u8, hi: u8) -> u8
 {
     let mut k = 0;
     for x in s {
-        k += one(in_range(*x, lo, hi));
+        k += in_range(*x, lo, hi) as u8;
     }
     k
 }
@@ -228,9 +222,9 @@ fn starts_block(p: u8, s: &[u8], lo: u8, hi: u8) -> u8
     requires few { length s.now ≤ 192 }
     ensures { (result ≡ starts lo hi p s.now) × (result ≤ length s.now) }
 {
-    let mut k = one((p < 45) & in_range(s[0], lo, hi));
+    let mut k = ((p < 45) & in_range(s[0], lo, hi)) as u8;
     for i in 1..s.len() {
-        k += one((s[i - 1] < 45) & in_range(s[i], lo, hi));
+        k += ((s[i - 1] < 45) & in_range(s[i], lo, hi)) as u8;
     }
     k
 }
