@@ -20,11 +20,10 @@ use Rattle.drat.specs.Grammar.{Step}
 use Rattle.drat.specs.Reading.{token, opening, whole, One, got, fault, one_step, Proof, steps, fault_at, read_proof}
 use Rattle.drat.specs.declared.Format.{Format}
 use Rattle.drat.specs.declared.Kind.{Kind}
-use Rattle.drat.specs.declared.ReadError.TheVariants.{NotWhole, Room}
+use Rattle.drat.specs.declared.ReadError.TheVariants.{Room}
 use Rattle.drat.specs.declared.Token.TheVariants.{Lit, Stop}
 use Rattle.drat_judge.proofs.CountsLaws.{judged_size}
 use Rattle.drat_judge.specs.Local.{judged}
-use Rattle.drat_read.specs.declared.Room.TheVariants.{Fits, Short}
 use Rattle.drat_read.specs.Known.{StepsFit, Found, room_for, BodyFits, BodyFilled, IsStep}
 use Rattle.drat_read.proofs.BodyLaws.{body_is, NextToken, stops, goes, next_token}
 use Rattle.std.specs.Prelude.{Some, Ok, Err}
@@ -133,13 +132,13 @@ module _ (f : Format) (s codes₀ ends₀ kinds₀ codes ends kinds : List ℕ) 
     fill_end h = outer_end f s codes₀ ends₀ kinds₀ codes ends kinds at n m hb o h
 
 -- the numbers of literals and of steps say whether slices hold them
-pub whole_found : (f : Format) (s : List ℕ) (n m a b c : ℕ) → Ok (size n m) ≡ counted (read_proof f s) → Found f s a b c (room_for n m a b c)
+pub whole_found : (f : Format) (s : List ℕ) (n m a b c : ℕ) → Ok (size n m) ≡ counted (read_proof f s) → Found f s a b c (room_for (size n m) a b c)
 whole_found f s n m a b c e = go (ltb a n || ltb b m || ltb c m) refl
   where
     w : (ss : List Step) × (read_proof f s ≡ steps ss) × (n ≡ length (codes_of ss)) × (m ≡ length ss)
     w = scan_whole (read_proof f s) n m e
 
-    go : (t : Bool) → ltb a n || ltb b m || ltb c m ≡ t → Found f s a b c (pick t Err Room Fits)
+    go : (t : Bool) → ltb a n || ltb b m || ltb c m ≡ t → Found f s a b c (pick t (Err Room) (Ok tt))
     go true h = answer_steps f s a b c w.0 w.1
         ∙ ap₂ (λ (x y : ℕ). pick (ltb a x || ltb b y || ltb c y) (refusing 2 []) (filling w.0)) (sym w.2) (sym w.3)
         ∙ ap (λ (t : Bool). pick t (refusing 2 []) (filling w.0)) h

@@ -10,9 +10,10 @@ use Rattle.drat.specs.declared.Format.TheVariants.{Text, Binary}
 use Rattle.drat.specs.declared.Kind.{Kind}
 use Rattle.drat.specs.declared.Token.{Token}
 use Rattle.drat.specs.declared.Token.TheVariants.{Lit}
-use Rattle.drat_read.specs.declared.Room.{Room}
-use Rattle.drat_read.specs.declared.Room.TheVariants.{Fits, Short, Broken}
-use Rattle.std.specs.Prelude.{Option, Some}
+use Rattle.drat.specs.declared.ReadError.{ReadError}
+use Rattle.drat.specs.declared.ReadError.TheVariants.{NotWhole, Room}
+use Rattle.drat.specs.declared.Size.{Size}
+use Rattle.std.specs.Prelude.{Option, Some, Result, Ok, Err}
 use Rattle.drat.specs.Reading.{opens}
 
 -- All steps are whole, and slices of a, b and c words hold them.
@@ -24,14 +25,14 @@ pub record StepsFit (f : Format) (s : List ℕ) (a b c : ℕ) : Type 0 where
   pub kinds_fit : length ss ≤ c
 
 -- What is found before anything is filled: that all steps are whole and held, or the refusal.
-abbrev pub Found : Format → List ℕ → ℕ → ℕ → ℕ → Room → Type 0
-Found f s a b c Fits = StepsFit f s a b c
-Found f s a b c Short = read_of f s a b c ≡ refusing 2 []
-Found f s a b c (Broken p) = read_of f s a b c ≡ refusing 13 (p ∷ [])
+abbrev pub Found : Format → List ℕ → ℕ → ℕ → ℕ → Result (Unit {0}) ReadError → Type 0
+Found f s a b c (Ok _) = StepsFit f s a b c
+Found f s a b c (Err Room) = read_of f s a b c ≡ refusing 2 []
+Found f s a b c (Err (NotWhole p)) = read_of f s a b c ≡ refusing 13 (p ∷ [])
 
--- Whether n literals and m steps are held.
-abbrev pub room_for : ℕ → ℕ → ℕ → ℕ → ℕ → Room
-room_for n m a b c = pick (ltb a n || ltb b m || ltb c m) Short Fits
+-- Whether so many literals and steps are held.
+abbrev pub room_for : Size → ℕ → ℕ → ℕ → Result (Unit {0}) ReadError
+room_for w a b c = pick (ltb a w.lits || ltb b w.steps || ltb c w.steps) (Err Room) (Ok tt)
 
 -- The literals and the end of a step from place i on.
 abbrev pub body_from : Format → List ℕ → ℕ → Part
