@@ -66,15 +66,19 @@ cnf_by (file v cls) a b = pick (ltb a (length (all_codes cls)) || ltb b (length 
 abbrev pub read_cnf_of : List ℕ → ℕ → ℕ → CnfFilling
 read_cnf_of s a b = cnf_by (read_file s) a b
 
--- The answer's enum: the header's V and the numbers of literals and of clauses; 17 and the place; 2.
+-- A header's V, and the numbers of literals and of clauses.
+abbrev pub cnf_size : ℕ → ℕ → ℕ → CnfSize
+cnf_size v n m = record { variables = v; lits = n; clauses = m }
+
+-- What the call returns: these three; 17 and the place; 2.
 abbrev pub cnf_read : Result CnfSize CnfError → Answer
-cnf_read (Ok (cnf_size v n m)) = accepted (v ∷ n ∷ m ∷ [])
+cnf_read (Ok w) = accepted (w.variables ∷ w.lits ∷ w.clauses ∷ [])
 cnf_read (Err (Line p)) = refused 17 (p ∷ [])
-cnf_read Err Room = refused 2 []
+cnf_read (Err Room) = refused 2 []
 
 -- ---- one scan of the lines, which stores where there is room
 
--- The number of literals and of clauses, or the start of the first wrong line.
+-- The number of literals and of clauses, each a step that adds it, or the start of the first wrong line.
 unfoldable pub tallied : Clauses → Result Size ℕ
 tallied (clauses cls) = Ok (size (length (all_codes cls)) (length cls))
 tallied (wrong_line i) = Err i

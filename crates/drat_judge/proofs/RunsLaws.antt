@@ -141,12 +141,7 @@ unfolding starts
 starts_none lo hi p [] h = refl
 starts_none lo hi p (x ∷ s) h = absurd (omega arith)
 
--- the counts of a part and of what is behind it
-pub tally_append : (lo hi : ℕ) (s t : List ℕ) → tally lo hi (s ++ t) ≡ tally lo hi s + tally lo hi t
-unfolding tally
-tally_append lo hi [] t = omega arith
-tally_append lo hi (x ∷ s) t = omega (arith, tally_append lo hi s t)
-
+-- the count of a part and of what is behind it
 pub starts_append : (lo hi p : ℕ) (s t : List ℕ) → 0 < length s → starts lo hi p (s ++ t) ≡ starts lo hi p s + starts lo hi (get_or s (length s - 1) 0) t
 unfolding starts
 starts_append lo hi p [] t h = absurd (omega arith)

@@ -5,7 +5,8 @@ use lib.ListN.{length, length-append}
 use native.Mathlib.Omega.{arith}
 use Rattle.std.specs.Slice.Iter.{chunks_rest}
 use Rattle.drat_judge.specs.Local.{tally}
-use Rattle.drat_judge.proofs.RunsLaws.{tally_append, tally_none}
+use Rattle.drat_judge.proofs.RunsLaws.{tally_none}
+use Rattle.drat_judge.proofs.TallyLaws.{tally_append}
 use Rattle.drat_judge.proofs.tally_of.Goals as goal
 
 pub loop-part-preserved : goal.loop-part-preserved
