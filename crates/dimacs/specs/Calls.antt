@@ -11,7 +11,7 @@ use Rattle.drat.specs.declared.Kind.TheVariants.{Add}
 use Rattle.dimacs.specs.Cnf.{largest, written}
 use Rattle.dimacs.specs.Reading.{Clauses, clauses, wrong_line, clauses_at, File, file, wrong_at, read_file}
 use Rattle.dimacs.specs.declared.CnfError.{CnfError}
-use Rattle.dimacs.specs.declared.CnfError.TheVariants.{Line, Room}
+use Rattle.dimacs.specs.declared.CnfError.TheVariants.{WrongLine, Room}
 use Rattle.std.specs.Prelude.{Result, Ok, Err}
 use Rattle.drat.specs.declared.Size.{Size}
 use Rattle.drat.specs.Filled.{size}
@@ -73,7 +73,7 @@ cnf_size v n m = record { variables = v; lits = n; clauses = m }
 -- What the call returns: these three; 17 and the place; 2.
 abbrev pub cnf_read : Result CnfSize CnfError → Answer
 cnf_read (Ok w) = accepted (w.variables ∷ w.lits ∷ w.clauses ∷ [])
-cnf_read (Err (Line p)) = refused 17 (p ∷ [])
+cnf_read (Err (WrongLine p)) = refused 17 (p ∷ [])
 cnf_read (Err Room) = refused 2 []
 
 -- ---- one scan of the lines, which stores where there is room

@@ -14,14 +14,14 @@ pub struct CnfSize {
 // Read CNF: the start of the first wrong line; or an output slice is too short.
 #[derive(Clone, Copy, Debug, PartialEq, Eq)]
 pub enum CnfError {
-    Line(usize),
+    WrongLine(usize),
     Room,
 }
 
 impl fmt::Display for CnfError {
     fn fmt<W: fmt::Write>(&self, f: &mut fmt::Formatter<W>) -> fmt::Result {
         match self {
-            CnfError::Line(place) => write!(f, "the line at byte {place} is wrong"),
+            CnfError::WrongLine(place) => write!(f, "the line at byte {place} is wrong"),
             CnfError::Room => write!(f, "an output slice is too short"),
         }
     }
