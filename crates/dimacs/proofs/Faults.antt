@@ -10,7 +10,7 @@ use borrow.Author.Tests.{eqb-false}
 use Rattle.base.specs.Choice.{pick}
 use Rattle.drat.specs.Grammar.{Signed}
 use Rattle.drat.specs.declared.Token.{Token}
-use Rattle.drat.specs.declared.Token.TheVariants.{Lit, Stop, Bad}
+use Rattle.drat.specs.declared.Token.TheVariants.{Lit, Stop}
 use Rattle.drat.proofs.Sound.{lit_bad, stop_bad, lit_stop, lit_parts, rest_is}
 use Rattle.dimacs.specs.Cnf.{magnitude, Line, closed, lit, Lines, none, line}
 use Rattle.dimacs.specs.Reading.{line_from, within, clauses, wrong_line, clauses_from}
@@ -18,6 +18,7 @@ use Rattle.dimacs.proofs.LineTokens.{line_number, line_end, line_sound, line_sto
 use Rattle.dimacs.proofs.LineLaws.{within_lit, within_stop, within_was, within_stops, from_lit, from_stop, from_bad, from_none}
 use Rattle.dimacs.proofs.LineLaws.{wrong_clauses, wrong_part}
 use Rattle.dimacs.proofs.LineLaws.{cons_wrong}
+use Rattle.std.specs.Prelude.{Option, Some, None}
 
 -- l begins with no line; the rest of a line counts as one
 abbrev pub NoLine : ℕ → List ℕ → Type 0
@@ -30,7 +31,7 @@ pub data Amiss (v start i : ℕ) (l : List ℕ) (p : ℕ) : Type 0 where
       → (rest ≡ [] → ⊥) → NoLine v rest → Amiss v start i l p
 
 -- the line's rest goes on as the token says
-line_token : {v : ℕ} {bs cs : List ℕ} → Line v bs cs → (i : ℕ) (r : List ℕ) → within v (line_from i (bs ++ r)) ≡ Bad → ⊥
+line_token : {v : ℕ} {bs cs : List ℕ} → Line v bs cs → (i : ℕ) (r : List ℕ) → within v (line_from i (bs ++ r)) ≡ None → ⊥
 line_token {v} closed i r e = stop_bad (i + 2) (sym (ap (within v) (line_end i r) ∙ within_stop v (i + 2)) ∙ e)
 line_token {v} (lit {bs = bs} {rest = rest} {c = c} s g t) i r e =
     let j = i + length bs + 1 in
@@ -38,13 +39,13 @@ line_token {v} (lit {bs = bs} {rest = rest} {c = c} s g t) i r e =
     ∙ within_lit v c j g) ∙ e)
 
 -- after a number that was read there is no line, so before it there was none
-no_line_lit : (v i : ℕ) (l : List ℕ) (c j : ℕ) (m : List ℕ) → within v (line_from i l) ≡ Lit c j → drop (j - i) l ≡ m → NoLine v m → NoLine v l
+no_line_lit : (v i : ℕ) (l : List ℕ) (c j : ℕ) (m : List ℕ) → within v (line_from i l) ≡ Some (Lit c j) → drop (j - i) l ≡ m → NoLine v m → NoLine v l
 no_line_lit v i l c j m t d h bs r cs closed e =
     lit_stop c j (i + 2) (sym t ∙ ap (λ (x : List ℕ). within v (line_from i x)) e ∙ ap (within v) (line_end i r) ∙ within_stop v (i + 2))
 no_line_lit v i l c j m t d h bs r cs (lit {bs = sb} {rest = rest} {cs = ds} {c = x} s g u) e =
     let e' : l ≡ sb ++ 32 ∷ (rest ++ r) = e ∙ append_assoc sb (32 ∷ rest) r in
     let k = i + length sb + 1 in
-    let q : Lit x k ≡ Lit c j =
+    let q : Some (Lit x k) ≡ Some (Lit c j) =
     sym (ap (λ (y : List ℕ). within v (line_from i y)) e' ∙ ap (within v) (line_number s i (rest ++ r)) ∙ within_lit v x k g) ∙ t in
     let w = lit_parts x k c j q in
     let a : l ≡ (sb ++ 32 ∷ []) ++ (rest ++ r) = e' ∙ sym (append_assoc sb (32 ∷ []) (rest ++ r)) in
@@ -85,10 +86,10 @@ clauses_amiss v zero start cs i (b ∷ l) p h k e = absurd (omega arith)
 clauses_amiss v (suc n) start cs i [] p h k e = amiss_none v (suc n) start cs i p e
 clauses_amiss v (suc n) start cs i (b ∷ l) p h k e = go (within v (line_from i (b ∷ l))) refl (λ start' cs' j m. clauses_amiss v n start' cs' j m p)
   where
-    go : (t : Token) → within v (line_from i (b ∷ l)) ≡ t
+    go : (t : Option Token) → within v (line_from i (b ∷ l)) ≡ t
         → ((start' : ℕ) (cs' : List ℕ) (j : ℕ) (m : List ℕ) → start' ≤ j → length m ≤ n → clauses_from v n start' cs' j m ≡ wrong_line p → Amiss v start' j m p)
         → Amiss v start i (b ∷ l) p
-    go (Lit c j) t ih =
+    go (Some (Lit c j)) t ih =
         let w = within_was v (line_from i (b ∷ l)) c j t in
         let r = line_sound i (b ∷ l) c j w.0 in
         let sb = r.0 in
@@ -97,14 +98,14 @@ clauses_amiss v (suc n) start cs i (b ∷ l) p h k e = go (within v (line_from i
         let q = ap (clauses_from v n start (cs ++ c ∷ []) j) (sym d) ∙ sym (from_lit v n start cs i b l c j t) ∙ e in
         amiss_lit v start i j (b ∷ l) m sb c p r.2 w.1 r.3 r.4 h (no_line_lit v i (b ∷ l) c j m t d)
         (ih start (cs ++ c ∷ []) j m (omega (arith, r.4)) (omega (arith, ap length r.3 ∙ length-append sb (32 ∷ m))) q)
-    go (Stop j) t ih =
+    go (Some (Stop j)) t ih =
         let r = line_stop i (b ∷ l) j (within_stops v (line_from i (b ∷ l)) j t) in
         let m = r.rest in
         let d = rest_is i j (b ∷ l) (48 ∷ 10 ∷ []) m r.split r.place in
         let q = cons_wrong cs (clauses_from v n j [] j (drop (j - i) (b ∷ l))) p (sym (from_stop v n start cs i b l j t) ∙ e) in
         amiss_stop v start i j (b ∷ l) m p r.split r.place
         (ih j [] j m (omega arith) (omega (arith, ap length r.split)) (ap (clauses_from v n j [] j) (sym d) ∙ q))
-    go Bad t ih =
+    go None t ih =
         here (sym (wrong_part start p (sym (from_bad v n start cs i b l t) ∙ e)))
         (λ bs r cs' u s. line_token u i r (ap (λ (x : List ℕ). within v (line_from i x)) (sym s) ∙ t))
         (λ x y. let z : ◌≡◌ {A = ℕ} 0 1 = cc in omega arith)

@@ -10,66 +10,67 @@ use borrow.Author.Tests.{eqb-true, eq-eqb, leb-true, le-leb, lt-leb}
 use Rattle.base.specs.Choice.{pick}
 use Rattle.drat.specs.Grammar.{Signed}
 use Rattle.drat.specs.declared.Token.{Token}
-use Rattle.drat.specs.declared.Token.TheVariants.{Lit, Stop, Bad}
+use Rattle.drat.specs.declared.Token.TheVariants.{Lit, Stop}
 use Rattle.drat.proofs.Complete.{signed_first, skip}
 use Rattle.drat.proofs.Sound.{lit_bad, stop_bad, lit_stop, rest_is}
 use Rattle.dimacs.specs.Cnf.{magnitude, Line, closed, lit, Lines, none, line}
 use Rattle.dimacs.specs.Reading.{line_from, within, Clauses, clauses, wrong_line, cons_clause, clauses_from}
 use Rattle.dimacs.proofs.LineTokens.{line_number, line_end, line_sound, line_stop}
+use Rattle.std.specs.Prelude.{Option, Some, None}
 
 -- ---- one token
 
-pub within_lit : (v c j : ℕ) → magnitude c ≤ v → within v (Lit c j) ≡ Lit c j
+pub within_lit : (v c j : ℕ) → magnitude c ≤ v → within v (Some (Lit c j)) ≡ Some (Lit c j)
 unfolding within
 within_lit v c j h = rw (le-leb (magnitude c) v h)
 
-pub within_stop : (v j : ℕ) → within v (Stop j) ≡ Stop j
+pub within_stop : (v j : ℕ) → within v (Some (Stop j)) ≡ Some (Stop j)
 unfolding within
 within_stop v j = refl
 
-pub within_past : (v c j : ℕ) → v < magnitude c → within v (Lit c j) ≡ Bad
+pub within_past : (v c j : ℕ) → v < magnitude c → within v (Some (Lit c j)) ≡ None
 unfolding within
 within_past v c j h = rw (lt-leb (magnitude c) v h)
 
-pub within_bad : (v : ℕ) → within v Bad ≡ Bad
+pub within_bad : (v : ℕ) → within v None ≡ None
 unfolding within
 within_bad v = refl
 
 -- what was read within v is that token, and small enough
-pub within_was : (v : ℕ) (t : Token) (c j : ℕ) → within v t ≡ Lit c j → (t ≡ Lit c j) × (magnitude c ≤ v)
+pub within_was : (v : ℕ) (t : Option Token) (c j : ℕ) → within v t ≡ Some (Lit c j) → (t ≡ Some (Lit c j)) × (magnitude c ≤ v)
 unfolding within
-within_was v (Lit d k) c j e = go (leb (magnitude d) v) refl e
+within_was v (Some (Lit d k)) c j e = go (leb (magnitude d) v) refl e
   where
-    go : (u : Bool) → leb (magnitude d) v ≡ u → pick u (Lit d k) Bad ≡ Lit c j → (Lit d k ≡ Lit c j) × (magnitude c ≤ v)
+    go : (u : Bool) → leb (magnitude d) v ≡ u → pick u (Some (Lit d k)) None ≡ Some (Lit c j) → (Some (Lit d k) ≡ Some (Lit c j)) × (magnitude c ≤ v)
     go true u e = let q : d ≡ c = cc in (e, subst (λ (x : ℕ). magnitude x ≤ v) q (leb-true (magnitude d) v u))
     go false u e = absurd (lit_bad c j (sym e))
-within_was v (Stop k) c j e = absurd (lit_stop c j k (sym e))
-within_was v Bad c j e = absurd (lit_bad c j (sym e))
+within_was v (Some (Stop k)) c j e = absurd (lit_stop c j k (sym e))
+within_was v None c j e = absurd (lit_bad c j (sym e))
 
-pub within_stops : (v : ℕ) (t : Token) (j : ℕ) → within v t ≡ Stop j → t ≡ Stop j
+pub within_stops : (v : ℕ) (t : Option Token) (j : ℕ) → within v t ≡ Some (Stop j) → t ≡ Some (Stop j)
 unfolding within
-within_stops v (Lit d k) j e = go (leb (magnitude d) v) e
+within_stops v (Some (Lit d k)) j e = go (leb (magnitude d) v) e
   where
-    go : (u : Bool) → pick u (Lit d k) Bad ≡ Stop j → Lit d k ≡ Stop j
+    go : (u : Bool) → pick u (Some (Lit d k)) None ≡ Some (Stop j) → Some (Lit d k) ≡ Some (Stop j)
     go true e = e
     go false e = absurd (stop_bad j (sym e))
-within_stops v (Stop k) j e = e
-within_stops v Bad j e = absurd (stop_bad j (sym e))
+within_stops v (Some (Stop k)) j e = e
+within_stops v None j e = absurd (stop_bad j (sym e))
 
 -- ---- the reader's equations, case by case
 
 module _ (v n start : ℕ) (cs : List ℕ) (i b : ℕ) (l : List ℕ) where
-  pub from_lit : (c j : ℕ) → within v (line_from i (b ∷ l)) ≡ Lit c j
+  pub from_lit : (c j : ℕ) → within v (line_from i (b ∷ l)) ≡ Some (Lit c j)
       → clauses_from v (suc n) start cs i (b ∷ l) ≡ clauses_from v n start (cs ++ c ∷ []) j (drop (j - i) (b ∷ l))
   unfolding clauses_from
   from_lit c j e = rw (e, clauses_from)
 
-  pub from_stop : (j : ℕ) → within v (line_from i (b ∷ l)) ≡ Stop j
+  pub from_stop : (j : ℕ) → within v (line_from i (b ∷ l)) ≡ Some (Stop j)
       → clauses_from v (suc n) start cs i (b ∷ l) ≡ cons_clause cs (clauses_from v n j [] j (drop (j - i) (b ∷ l)))
   unfolding clauses_from
   from_stop j e = rw (e, clauses_from)
 
-  pub from_bad : within v (line_from i (b ∷ l)) ≡ Bad → clauses_from v (suc n) start cs i (b ∷ l) ≡ wrong_line start
+  pub from_bad : within v (line_from i (b ∷ l)) ≡ None → clauses_from v (suc n) start cs i (b ∷ l) ≡ wrong_line start
   unfolding clauses_from
   from_bad e = rw (e, clauses_from)
 
@@ -101,7 +102,7 @@ line_read {v} (lit {bs = bs} {rest = rest} {cs = ds} {c = c} s g t) (suc n) star
     let j = i + length bs + 1 in
     let k = i + length (bs ++ 32 ∷ []) in
     let jk : j ≡ k = omega (arith, length-append bs (32 ∷ [])) in
-    let tk : within v (line_from i (f.0 ∷ (f.1 ++ 32 ∷ (rest ++ r)))) ≡ Lit c j =
+    let tk : within v (line_from i (f.0 ∷ (f.1 ++ 32 ∷ (rest ++ r)))) ≡ Some (Lit c j) =
     ap (λ (x : List ℕ). within v (line_from i x)) (sym e₃ ∙ e₂) ∙ ap (within v) (line_number s i (rest ++ r)) ∙ within_lit v c j g in
     let d : drop (j - i) (f.0 ∷ (f.1 ++ 32 ∷ (rest ++ r))) ≡ rest ++ r =
     ap₂ (λ (x : ℕ) (y : List ℕ). drop (x - i) y) jk (sym e₃ ∙ e₁) ∙ skip i (bs ++ 32 ∷ []) (rest ++ r) in
@@ -182,11 +183,11 @@ clauses_sound v zero start cs i (b ∷ l) cls h e = absurd (wrong_clauses start 
 clauses_sound v (suc n) start cs i [] cls h e = ahead_none v (suc n) start cs i cls e
 clauses_sound v (suc n) start cs i (b ∷ l) cls h e = go (within v (line_from i (b ∷ l))) refl (λ start' cs' j m. clauses_sound v n start' cs' j m)
   where
-    go : (t : Token) → within v (line_from i (b ∷ l)) ≡ t
+    go : (t : Option Token) → within v (line_from i (b ∷ l)) ≡ t
         → ((start' : ℕ) (cs' : List ℕ) (j : ℕ) (m : List ℕ) (cls : List (List ℕ)) → start' ≤ j → clauses_from v n start' cs' j m ≡ clauses cls
         → Ahead v start' j cs' m cls)
         → Ahead v start i cs (b ∷ l) cls
-    go (Lit c j) t ih =
+    go (Some (Lit c j)) t ih =
         let w = within_was v (line_from i (b ∷ l)) c j t in
         let r = line_sound i (b ∷ l) c j w.0 in
         let sb = r.0 in
@@ -194,14 +195,14 @@ clauses_sound v (suc n) start cs i (b ∷ l) cls h e = go (within v (line_from i
         let d = rest_is i j (b ∷ l) (sb ++ 32 ∷ []) m (r.3 ∙ sym (append_assoc sb (32 ∷ []) m)) (omega (arith, r.4, length-append sb (32 ∷ []))) in
         let q = ap (clauses_from v n start (cs ++ c ∷ []) j) (sym d) ∙ sym (from_lit v n start cs i b l c j t) ∙ e in
         ahead_lit v start i j cs (b ∷ l) m sb c r.2 w.1 r.3 (omega (arith, r.4)) cls (ih start (cs ++ c ∷ []) j m cls (omega (arith, r.4)) q)
-    go (Stop j) t ih =
+    go (Some (Stop j)) t ih =
         let r = line_stop i (b ∷ l) j (within_stops v (line_from i (b ∷ l)) j t) in
         let m = r.rest in
         let d = rest_is i j (b ∷ l) (48 ∷ 10 ∷ []) m r.split r.place in
         let q = cons_clauses cs (clauses_from v n j [] j (drop (j - i) (b ∷ l))) cls (sym (from_stop v n start cs i b l j t) ∙ e) in
         ahead_stop v start i j cs (b ∷ l) m cls q.0 r.split q.2
         (ih j [] j m q.0 (omega arith) (ap (clauses_from v n j [] j) (sym d) ∙ q.1))
-    go Bad t ih = absurd (wrong_clauses start cls (sym (from_bad v n start cs i b l t) ∙ e))
+    go None t ih = absurd (wrong_clauses start cls (sym (from_bad v n start cs i b l t) ∙ e))
 
 pub lines_sound : (v n i : ℕ) (l : List ℕ) (cls : List (List ℕ)) → clauses_from v n i [] i l ≡ clauses cls → Lines v l cls
 lines_sound v n i l cls e = go (clauses_sound v n i [] i l cls (omega arith) e)

@@ -12,14 +12,15 @@ use Rattle.base.proofs.SetsLaws.{store_next}
 use Rattle.drat.specs.Grammar.{step_of}
 use Rattle.drat.specs.Filled.{codes_of, ends_from}
 use Rattle.drat.specs.declared.Kind.TheVariants.{Add}
-use Rattle.drat.specs.declared.Scanned.TheVariants.{Whole, Fault}
-use Rattle.drat.specs.declared.Token.TheVariants.{Lit, Stop, Bad}
+use Rattle.drat.specs.declared.Token.TheVariants.{Lit, Stop}
 use Rattle.drat.proofs.Steps.{next}
 use Rattle.drat.proofs.Scanning.{codes_snoc, ends_snoc, ends_length}
 use Rattle.dimacs.specs.Reading.{line_from, within, Clauses, clauses, wrong_line, cons_clause, clauses_from, clauses_at}
 use Rattle.dimacs.specs.Calls.{adds, all_codes, all_ends, tallied, LineScan}
 use Rattle.dimacs.proofs.LineTokens.{line_sound, line_stop}
 use Rattle.dimacs.proofs.LineLaws.{within_was, within_stops, from_lit, from_stop, from_bad, from_none, wrong_clauses, clauses_part}
+use Rattle.std.specs.Prelude.{Some, None, Ok, Err}
+use Rattle.drat.specs.Filled.{size}
 
 -- ---- clauses as the steps that add them
 
@@ -108,17 +109,17 @@ module _ (s : List ℕ) (v from : ℕ) (codes₀ ends₀ codes ends : List ℕ) 
       let e : at + (j - at) ≡ j = omega arith in
       ap (drop (j - at)) (sym (next s at l)) ∙ drop-drop (j - at) at s ∙ ap (λ (k : ℕ). drop k s) e
 
-  pub lit_moves : (c j : ℕ) → within v (line_from at (drop at s)) ≡ Lit c j → (at < j) × (j ≤ length s)
+  pub lit_moves : (c j : ℕ) → within v (line_from at (drop at s)) ≡ Some (Lit c j) → (at < j) × (j ≤ length s)
   lit_moves c j e =
       let r = line_sound at (drop at s) c j (within_was v (line_from at (drop at s)) c j e).0 in
       (omega (arith, r.4), omega (arith, r.4, ap length r.3 ∙ length-append r.0 (32 ∷ r.1), length-drop at s, t.within_s))
 
-  pub stop_moves : (j : ℕ) → within v (line_from at (drop at s)) ≡ Stop j → (at + 1 < j) × (j ≤ length s)
+  pub stop_moves : (j : ℕ) → within v (line_from at (drop at s)) ≡ Some (Stop j) → (at + 1 < j) × (j ≤ length s)
   stop_moves j e =
       let r = line_stop at (drop at s) j (within_stops v (line_from at (drop at s)) j e) in
       (omega (arith, r.place), omega (arith, r.place, ap length r.split, length-drop at s, t.within_s))
 
-  pub turn_lit : at < length s → (c j : ℕ) → within v (line_from at (drop at s)) ≡ Lit c j
+  pub turn_lit : at < length s → (c j : ℕ) → within v (line_from at (drop at s)) ≡ Some (Lit c j)
       → Turn s v from codes₀ ends₀ (set codes n c) ends start j (n + 1) m
   turn_lit h c j e =
       let d = deeper h t.depth refl in
@@ -142,7 +143,7 @@ module _ (s : List ℕ) (v from : ℕ) (codes₀ ends₀ codes ends : List ℕ) 
         ends_held = t.ends_held;
       }
 
-  pub turn_stop : at < length s → (j : ℕ) → within v (line_from at (drop at s)) ≡ Stop j → Turn s v from codes₀ ends₀ codes (set ends m n) j j n (m + 1)
+  pub turn_stop : at < length s → (j : ℕ) → within v (line_from at (drop at s)) ≡ Some (Stop j) → Turn s v from codes₀ ends₀ codes (set ends m n) j j n (m + 1)
   turn_stop h j e =
       let d = deeper h t.depth refl in
       let mv = stop_moves j e in
@@ -174,11 +175,11 @@ module _ (s : List ℕ) (v from : ℕ) (codes₀ ends₀ codes ends : List ℕ) 
       }
 
   -- a wrong line
-  stopped : clauses_at s v from ≡ wrong_line start → (codes' ends' : List ℕ) → LineScan s v from codes₀ ends₀ codes' ends' (Fault start)
+  stopped : clauses_at s v from ≡ wrong_line start → (codes' ends' : List ℕ) → LineScan s v from codes₀ ends₀ codes' ends' (Err start)
   unfolding tallied
   stopped e codes' ends' = record { answer = sym (ap tallied e); filled = λ cls q. absurd (wrong_clauses start cls (sym e ∙ q)) }
 
-  pub turn_bad : at < length s → within v (line_from at (drop at s)) ≡ Bad → (codes' ends' : List ℕ) → LineScan s v from codes₀ ends₀ codes' ends' (Fault start)
+  pub turn_bad : at < length s → within v (line_from at (drop at s)) ≡ None → (codes' ends' : List ℕ) → LineScan s v from codes₀ ends₀ codes' ends' (Err start)
   unfolding prepend
   turn_bad h e =
       let d = deeper h t.depth refl in
@@ -190,19 +191,19 @@ module _ (s : List ℕ) (v from : ℕ) (codes₀ ends₀ codes ends : List ℕ) 
   none_left h = t.read ∙ ap (prepend t.done) (ap (clauses_from v t.depth start t.now at) (drop_of_length-le s h) ∙ from_none v t.depth start
       t.now at)
 
-  pub turn_cut : length s ≤ at → (start ≡ at → ⊥) → (codes' ends' : List ℕ) → LineScan s v from codes₀ ends₀ codes' ends' (Fault start)
+  pub turn_cut : length s ≤ at → (start ≡ at → ⊥) → (codes' ends' : List ℕ) → LineScan s v from codes₀ ends₀ codes' ends' (Err start)
   unfolding prepend
   turn_cut h g = stopped (none_left h ∙ rw (ne_eqb at start (λ q. g (sym q))))
 
   -- where a line would start
-  pub turn_end : length s ≤ at → start ≡ at → LineScan s v from codes₀ ends₀ codes ends (Whole n m)
+  pub turn_end : length s ≤ at → start ≡ at → LineScan s v from codes₀ ends₀ codes ends (Ok (size n m))
   unfolding prepend tallied
   turn_end h g =
       let z = t.fresh g in
       let p : clauses_at s v from ≡ clauses t.done = none_left h ∙ rw (eq-eqb at start (sym g)) (ap clauses (append-nil t.done)) in
       let w : n ≡ length (all_codes t.done) = omega (arith, t.count, ap length z) in
       record {
-        answer = ap₂ Whole w t.count.1 ∙ sym (ap tallied p);
+        answer = ap₂ (λ (x y : ℕ). Ok (size x y)) w t.count.1 ∙ sym (ap tallied p);
         filled = λ cls q.
             let e = clauses_part t.done cls (sym p ∙ q) in (
               t.codes_held ∙ ap (λ (x : List ℕ). sets codes₀ 0 (all_codes t.done ++ x)) z

@@ -4,7 +4,9 @@ use Rattle.std.specs.Prelude.{ℕ, ◌≡◌, List, [], ◌∷◌}
 use Rattle.base.specs.Answer.{Answer, accepted, refused}
 use Rattle.drat.specs.Writing.{Writing}
 use Rattle.dimacs.specs.Calls.{CnfFilling, write_cnf_of, read_cnf_of, cnf_read}
-use Rattle.dimacs.specs.declared.CnfRead.TheVariants.{Filled, Wrong, Short}
+use Rattle.dimacs.specs.declared.CnfError.TheVariants.{WrongLine, Room}
+use Rattle.std.specs.Prelude.{Ok, Err}
+use Rattle.dimacs.specs.Calls.{cnf_size}
 
 -- What is looked at: an answer, what Read CNF fills, what Write CNF fills.
 pub data CnfSeen : Type 0 where
@@ -255,7 +257,7 @@ places =
 -- The numbers of Read CNF's answers.
 abbrev pub answer_rows : List CnfRow
 answer_rows =
-    answer (cnf_read (Filled 7 5 2)) is answer (accepted (7 ∷ 5 ∷ 2 ∷ []))
-    ∷ answer (cnf_read (Wrong 4)) is answer (refused 17 (4 ∷ []))
-    ∷ answer (cnf_read Short) is answer (refused 2 [])
+    answer (cnf_read (Ok (cnf_size 7 5 2))) is answer (accepted (7 ∷ 5 ∷ 2 ∷ []))
+    ∷ answer (cnf_read (Err (WrongLine 4))) is answer (refused 17 (4 ∷ []))
+    ∷ answer (cnf_read (Err Room)) is answer (refused 2 [])
     ∷ []

@@ -10,10 +10,12 @@ use Rattle.drat.specs.Listed.{rises_to}
 use Rattle.drat.specs.declared.Kind.TheVariants.{Add}
 use Rattle.dimacs.specs.Cnf.{largest, written}
 use Rattle.dimacs.specs.Reading.{Clauses, clauses, wrong_line, clauses_at, File, file, wrong_at, read_file}
-use Rattle.drat.specs.declared.Scanned.{Scanned}
-use Rattle.drat.specs.declared.Scanned.TheVariants.{Whole, Fault}
-use Rattle.dimacs.specs.declared.CnfRead.{CnfRead}
-use Rattle.dimacs.specs.declared.CnfRead.TheVariants.{Filled, Wrong, Short}
+use Rattle.dimacs.specs.declared.CnfError.{CnfError}
+use Rattle.dimacs.specs.declared.CnfError.TheVariants.{WrongLine, Room}
+use Rattle.std.specs.Prelude.{Result, Ok, Err}
+use Rattle.drat.specs.declared.Size.{Size}
+use Rattle.drat.specs.Filled.{size}
+use Rattle.dimacs.specs.declared.CnfSize.{CnfSize}
 
 -- ---- Write CNF
 
@@ -64,20 +66,24 @@ cnf_by (file v cls) a b = pick (ltb a (length (all_codes cls)) || ltb b (length 
 abbrev pub read_cnf_of : List ℕ → ℕ → ℕ → CnfFilling
 read_cnf_of s a b = cnf_by (read_file s) a b
 
--- The answer's enum: the header's V and the numbers of literals and of clauses; 17 and the place; 2.
-abbrev pub cnf_read : CnfRead → Answer
-cnf_read (Filled v n m) = accepted (v ∷ n ∷ m ∷ [])
-cnf_read (Wrong p) = refused 17 (p ∷ [])
-cnf_read Short = refused 2 []
+-- A header's V, and the numbers of literals and of clauses.
+abbrev pub cnf_size : ℕ → ℕ → ℕ → CnfSize
+cnf_size v n m = record { variables = v; lits = n; clauses = m }
+
+-- What the call returns: these three; 17 and the place; 2.
+abbrev pub cnf_read : Result CnfSize CnfError → Answer
+cnf_read (Ok w) = accepted (w.variables ∷ w.lits ∷ w.clauses ∷ [])
+cnf_read (Err (WrongLine p)) = refused 17 (p ∷ [])
+cnf_read (Err Room) = refused 2 []
 
 -- ---- one scan of the lines, which stores where there is room
 
--- The number of literals and of clauses, or the start of the first wrong line.
-unfoldable pub tallied : Clauses → Scanned
-tallied (clauses cls) = Whole (length (all_codes cls)) (length cls)
-tallied (wrong_line i) = Fault i
+-- The number of literals and of clauses, each a step that adds it, or the start of the first wrong line.
+unfoldable pub tallied : Clauses → Result Size ℕ
+tallied (clauses cls) = Ok (size (length (all_codes cls)) (length cls))
+tallied (wrong_line i) = Err i
 
 -- Its answer, and, where every line is right, what the two slices hold.
-pub record LineScan (s : List ℕ) (v from : ℕ) (codes₀ ends₀ codes ends : List ℕ) (r : Scanned) : Type 0 where
+pub record LineScan (s : List ℕ) (v from : ℕ) (codes₀ ends₀ codes ends : List ℕ) (r : Result Size ℕ) : Type 0 where
   pub answer : r ≡ tallied (clauses_at s v from)
   pub filled : (cls : List (List ℕ)) → clauses_at s v from ≡ clauses cls → (codes ≡ sets codes₀ 0 (all_codes cls)) × (ends ≡ sets ends₀ 0 (all_ends cls))

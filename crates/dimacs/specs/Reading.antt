@@ -4,8 +4,9 @@ use Rattle.base.specs.Choice.{pick}
 use Rattle.drat.specs.Numeral.{digit}
 use Rattle.drat.specs.Reading.{with_digit, signed_from}
 use Rattle.drat.specs.declared.Token.{Token}
-use Rattle.drat.specs.declared.Token.TheVariants.{Lit, Stop, Bad}
+use Rattle.drat.specs.declared.Token.TheVariants.{Lit, Stop}
 use Rattle.dimacs.specs.Cnf.{magnitude, header_start}
+use Rattle.std.specs.Prelude.{Option, Some, None}
 
 -- The place of the first line that does not start with `c`, or the file's end. Place i is inside such a line if `inside`, else at the start of a line.
 unfoldable pub header_place : Bool → ℕ → List ℕ → ℕ
@@ -54,26 +55,26 @@ head_from i l = head_by i l (digits_of (drop 6 l)) (digits_of (drop (7 + length 
 -- ---- the lines
 
 -- The blank after a number.
-unfoldable pub then_blank : ℕ → List ℕ → Token → Token
-then_blank i l (Lit c j) = pick (eqb (get_or l (j - i) 0) 32) (Lit c (j + 1)) Bad
-then_blank i l (Stop j) = Bad
-then_blank i l Bad = Bad
+unfoldable pub then_blank : ℕ → List ℕ → Option Token → Option Token
+then_blank i l (Some (Lit c j)) = pick (eqb (get_or l (j - i) 0) 32) (Some (Lit c (j + 1))) None
+then_blank i l (Some (Stop j)) = None
+then_blank i l None = None
 
 -- The line feed that ends a line.
-unfoldable pub end_from : ℕ → List ℕ → Token
-end_from i [] = Bad
-end_from i (b ∷ l) = pick (eqb b 10) (Stop (i + 1)) Bad
+unfoldable pub end_from : ℕ → List ℕ → Option Token
+end_from i [] = None
+end_from i (b ∷ l) = pick (eqb b 10) (Some (Stop (i + 1))) None
 
 -- What stands at place i of a line: a number and the blank after it, or `0` and the line feed.
-unfoldable pub line_from : ℕ → List ℕ → Token
-line_from i [] = Bad
+unfoldable pub line_from : ℕ → List ℕ → Option Token
+line_from i [] = None
 line_from i (b ∷ l) = pick (eqb b 48) (end_from (i + 1) l) (then_blank i (b ∷ l) (signed_from i (b ∷ l)))
 
 -- A token of a line: a literal whose magnitude is above v is a fault.
-unfoldable pub within : ℕ → Token → Token
-within v (Lit c j) = pick (leb (magnitude c) v) (Lit c j) Bad
-within v (Stop j) = Stop j
-within v Bad = Bad
+unfoldable pub within : ℕ → Option Token → Option Token
+within v (Some (Lit c j)) = pick (leb (magnitude c) v) (Some (Lit c j)) None
+within v (Some (Stop j)) = Some (Stop j)
+within v None = None
 
 -- The clauses, or the start of the first wrong line.
 pub data Clauses : Type 0 where
@@ -90,9 +91,9 @@ clauses_from v zero start cs i [] = pick (eqb i start) (clauses []) (wrong_line 
 clauses_from v zero start cs i (b ∷ l) = wrong_line start
 clauses_from v (suc n) start cs i [] = pick (eqb i start) (clauses []) (wrong_line start)
 clauses_from v (suc n) start cs i (b ∷ l) = elim (within v (line_from i (b ∷ l))) [
-  | Lit c j ↦ clauses_from v n start (cs ++ c ∷ []) j (drop (j - i) (b ∷ l))
-  | Stop j ↦ cons_clause cs (clauses_from v n j [] j (drop (j - i) (b ∷ l)))
-  | Bad ↦ wrong_line start
+  | Some (Lit c j) ↦ clauses_from v n start (cs ++ c ∷ []) j (drop (j - i) (b ∷ l))
+  | Some (Stop j) ↦ cons_clause cs (clauses_from v n j [] j (drop (j - i) (b ∷ l)))
+  | None ↦ wrong_line start
 ]
 
 -- The clauses of the lines from place j of s on.

@@ -10,14 +10,16 @@ use Rattle.drat.proofs.Numerals.{is_in_range, below_range}
 use Rattle.drat.specs.Numeral.{digit}
 use Rattle.dimacs_judge.specs.declared.limit.Limit.{Limit}
 use Rattle.drat_judge.specs.Local.{near}
+use mir.Val.{bool_byte}
+use Rattle.drat_judge.proofs.RunsLaws.{as_byte}
 use Rattle.dimacs_judge.specs.Limits.{LimitOf, raised, fits_digits, fits, above}
 
 -- ---- the number that ends with x
 raised_low : (y : ℕ) → y < 48 → raised y ≡ 48
-raised_low y h = ap (λ (u : Bool). pick u 48 y) (lt-ltb y 48 h)
+raised_low y h = omega arith
 
 raised_high : (y : ℕ) → 48 ≤ y → raised y ≡ y
-raised_high y h = ap (λ (u : Bool). pick u 48 y) (le-ltb y 48 h)
+raised_high y h = omega arith
 
 -- the limit, digit by digit
 limit_digits : (v : ℕ) → v ≤ 4096 → v ≡ 1000 * (v / 1000) + 100 * (v / 100 % 10) + 10 * (v / 10 % 10) + v % 10
@@ -146,3 +148,11 @@ module _ (v : ℕ) (t : Limit) (hv : v ≤ 4096) (lim : LimitOf v t) (a b c p x 
         pub no_fifth : 48 ≤ a → a ≤ 57 → ⊥
         no_fifth q r = true≢false (sym (ap₂ (λ (u w : Bool). u && (w && (near c && near p))) (is_in_range 48 127 a q (omega arith))
             (is_in_range 48 127 b m (omega arith)) ∙ ap₂ (λ (u w : Bool). u && w) nc np) ∙ (above_not t a b c p x h (is_in_range 48 57 x y z)).0)
+
+-- tests as numbers
+pub fits_bytes : (t : Limit) (b c p x : ℕ)
+    → leb b (t.thousands + bool_byte (leb c (t.hundreds + bool_byte (leb p (t.tens + bool_byte (leb x t.ones)))))) ≡ fits_digits t b c p x
+fits_bytes t b c p x =
+    ap (λ (n : ℕ). leb b (t.thousands + bool_byte (leb c (t.hundreds + bool_byte (leb p (t.tens + n)))))) (as_byte (leb x t.ones))
+    ∙ ap (λ (n : ℕ). leb b (t.thousands + bool_byte (leb c (t.hundreds + n)))) (as_byte _)
+    ∙ ap (λ (n : ℕ). leb b (t.thousands + n)) (as_byte _)

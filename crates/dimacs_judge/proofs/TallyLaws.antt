@@ -7,7 +7,6 @@ use mathlib.Core.Path.{◌≡◌, refl, sym, ap, ap₂, ◌∙◌, subst}
 use lib.ListN.{length, get_or, drop, length-append, length-drop}
 use native.Mathlib.Omega.{arith}
 use Rattle.drat.specs.Filled.{codes_of}
-use Rattle.drat.specs.declared.Scanned.TheVariants.{Whole}
 use Rattle.dimacs.specs.Cnf.{Line, closed, lit, Lines, none, line}
 use Rattle.dimacs.specs.Reading.{clauses_at}
 use Rattle.dimacs.specs.Calls.{adds, all_codes, tallied}
@@ -16,9 +15,10 @@ use Rattle.dimacs_judge.specs.declared.limit.Limit.{Limit}
 use Rattle.drat_judge.specs.Local.{tally}
 use Rattle.dimacs_judge.specs.Limits.{LimitOf}
 use Rattle.drat_judge.proofs.TallyLaws.{tally_append, signed_none}
-use Rattle.dimacs_judge.specs.declared.Judged.TheVariants.{Counts, Unsure}
 use Rattle.dimacs_judge.specs.Local.{runs, runs_at}
 use Rattle.dimacs_judge.proofs.JudgedLaws.{judged_lines}
+use Rattle.std.specs.Prelude.{Ok}
+use Rattle.drat.specs.Filled.{size}
 
 line_counts : {v : ℕ} {bs cs : List ℕ} → Line v bs cs → (tally 32 32 bs ≡ length cs) × (tally 10 10 bs ≡ 1)
 unfolding tally
@@ -41,20 +41,16 @@ lines_count (line {bs = bs} {rest = rest} {cs = cs} {cls = cls} p t) =
 
 -- so the counts are what is read
 pub lines_tallied : (s : List ℕ) (v j : ℕ) (cls : List (List ℕ)) → Lines v (drop j s) cls
-    → tallied (clauses_at s v j) ≡ Whole (tally 32 32 (drop j s)) (tally 10 10 (drop j s))
+    → tallied (clauses_at s v j) ≡ Ok (size (tally 32 32 (drop j s)) (tally 10 10 (drop j s)))
 unfolding tallied
 lines_tallied s v j cls h =
     let k = lines_count h in
-    ap tallied (lines_read h (length s) j (omega (arith, length-drop j s))) ∙ sym (ap₂ Whole k.0 k.1)
-
-pub unsure : (n m : ℕ) → Unsure ≡ Counts n m → ⊥
-unsure n m e = let z : ◌≡◌ {A = ℕ} 0 1 = cc in omega arith
+    ap tallied (lines_read h (length s) j (omega (arith, length-drop j s))) ∙ sym (ap₂ (λ (x y : ℕ). Ok (size x y)) k.0 k.1)
 
 module _ (s : List ℕ) (v j : ℕ) (t : Limit) where
-  pub judged_counts : v ≤ 4096 → LimitOf v t → get_or s (j - 1) 0 ≡ 10 → runs_at t s j ≡ true → (x y n m : ℕ) → x ≡ tally 32 32 (drop j s)
-      → y ≡ tally 10 10 (drop j s) → Counts x y ≡ Counts n m → tallied (clauses_at s v j) ≡ Whole n m
-  judged_counts hv lim h e x y n m ex ey q =
+  pub judged_counts : v ≤ 4096 → LimitOf v t → get_or s (j - 1) 0 ≡ 10 → runs_at t s j ≡ true → (n m : ℕ) → n ≡ tally 32 32 (drop j s)
+      → m ≡ tally 10 10 (drop j s) → tallied (clauses_at s v j) ≡ Ok (size n m)
+  judged_counts hv lim h e n m en em =
       let k = judged_lines v t hv lim (get_or s (j - 4) 0) (get_or s (j - 3) 0) (get_or s (j - 2) 0) (drop j s)
       (subst (λ (p : ℕ). runs t (get_or s (j - 4) 0) (get_or s (j - 3) 0) (get_or s (j - 2) 0) p (drop j s) ≡ true) h e) in
-      let w : (x ≡ n) × (y ≡ m) = (cc, cc) in
-      lines_tallied s v j k.cls k.spelled ∙ ap₂ Whole (sym ex ∙ w.0) (sym ey ∙ w.1)
+      lines_tallied s v j k.cls k.spelled ∙ ap₂ (λ (x y : ℕ). Ok (size x y)) (sym en) (sym em)

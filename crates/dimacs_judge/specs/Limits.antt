@@ -1,5 +1,5 @@
 -- Whether the number that ends with a digit is within a limit. x is the byte in question and a b c p are the four before it.
-use Rattle.std.specs.Prelude.{ℕ, ◌+◌, ◌/◌, ◌%◌, Bool, ◌&&◌, ◌||◌, not, ◌≡◌, leb, ltb}
+use Rattle.std.specs.Prelude.{ℕ, ◌+◌, ◌/◌, ◌%◌, Bool, ◌&&◌, ◌||◌, not, ◌≡◌, leb, max}
 use Rattle.base.specs.Choice.{pick}
 use Rattle.drat.specs.Numeral.{digit}
 use Rattle.drat_judge.specs.Local.{near}
@@ -14,7 +14,7 @@ pub record LimitOf (v : ℕ) (t : Limit) : Type 0 where
 
 -- What is below the digits counts as the digit 0.
 abbrev pub raised : ℕ → ℕ
-raised b = pick (ltb b 48) 48 b
+raised b = max b 48
 
 -- The number of the digits b c p x is within the limit: from the last digit on, each is at most the limit's, and less where those after it are more.
 abbrev pub fits_digits : Limit → ℕ → ℕ → ℕ → ℕ → Bool

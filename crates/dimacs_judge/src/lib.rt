@@ -2,24 +2,16 @@
 // No state goes from byte to byte, so that the loops take many bytes at once.
 #![tactic(auto)]
 
-ghost use Rattle.std.specs.Prelude.{◌≡◌, ◌&&◌, ℕ, ◌≤◌, length};
-ghost use Rattle.drat.specs.declared.Scanned.TheVariants.{Whole};
+ghost use Rattle.std.specs.Prelude.{◌≡◌, ◌&&◌, ◌≤◌, length, IfSome};
 ghost use Rattle.dimacs.specs.Reading.{clauses_at};
 ghost use Rattle.dimacs.specs.Calls.{tallied};
 ghost use Rattle.dimacs_judge.specs.Local.{line_next, may_follow, runs_at};
-ghost use Rattle.dimacs_judge.specs.declared.Judged.TheVariants.{Counts};
 
+use drat::Size;
 use drat_judge::{choose, in_range, is_closing, is_near, tally_of};
 use limit::{Limit, is_above, limit_of};
 
 mod limit;
-
-// Judged clause lines, with the numbers of literals and of clauses; or not.
-#[derive(Clone, Copy)]
-pub enum Judged {
-    Counts(usize, usize),
-    Unsure,
-}
 
 // Whether x may stand after c p, whatever the numbers are.
 fn line_next(c: u8, p: u8, x: u8) -> bool
@@ -49,10 +41,8 @@ fn part_runs(t: Limit, s: &[u8], from: usize, to: usize) -> bool
     ensures { result && runs_at t s.now to ≡ runs_at t s.now from }
 {
     let mut ok = true;
-    let mut i = from;
-    while i < to {
-        ok = ok & next(t, s[i - 4], s[i - 3], s[i - 2], s[i - 1], s[i]);
-        i += 1;
+    for i in from..to {
+        ok &= next(t, s[i - 4], s[i - 3], s[i - 2], s[i - 1], s[i]);
     }
     ok
 }
@@ -64,35 +54,29 @@ fn lines_run(t: Limit, s: &[u8], from: usize) -> bool
     requires from_in_bounds { from ≤ length s.now }
     ensures { result ≡ runs_at t s.now from }
 {
-    let mut i = from;
-    while 4096 < s.len() - i {
-        if !part_runs(t, s, i, i + 4096) {
+    let n = s.len();
+    for i in (from..n).step_by(4096) {
+        if !part_runs(t, s, i, n.min(i + 4096)) {
             return false;
         }
-        i += 4096;
     }
-    let n = s.len();
-    part_runs(t, s, i, n) & (s[n - 1] == 10)
+    s[n - 1] == 10
 }
 
-// What is judged so is read so: each blank is a literal's, each line feed a clause's. Where it is unsure nothing is said of the lines.
-pub fn judge(s: &[u8], from: usize, v: u32) -> Judged
+// The numbers of literals and of clauses, where all lines are judged right; what is judged so is read so. Of other lines nothing is said.
+pub fn judge(s: &[u8], from: usize, v: u32) -> Option<Size>
     requires { from ≤ length s.now }
-    ensures { (n m : ℕ) → result ≡ Counts n m → tallied (clauses_at s.now v from) ≡ Whole n m }
+    ensures { IfSome result (λ w. tallied (clauses_at s.now v from) ≡ Ok w) }
 {
-    if from < 4 {
-        return Judged::Unsure;
-    }
-    if 4096 < v {
-        return Judged::Unsure;
-    }
-    if s[from - 1] != 10 {
-        return Judged::Unsure;
+    if from < 4 || 4096 < v || s[from - 1] != 10 {
+        return None;
     }
     if !lines_run(limit_of(v), s, from) {
-        return Judged::Unsure;
+        return None;
     }
     let lines = &s[from..];
-    let lits = tally_of(lines, 32, 32);
-    Judged::Counts(lits, tally_of(lines, 10, 10))
+    Some(Size {
+        lits: tally_of(lines, 32, 32),
+        steps: tally_of(lines, 10, 10),
+    })
 }

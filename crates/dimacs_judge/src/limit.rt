@@ -1,9 +1,9 @@
 // A limit for numbers, and whether the number that ends with a digit is above it.
 ghost use Rattle.std.specs.Prelude.{◌≡◌, ◌≤◌};
 ghost use Rattle.base.specs.Choice.{pick};
-ghost use Rattle.dimacs_judge.specs.Limits.{LimitOf, raised, fits, above};
+ghost use Rattle.dimacs_judge.specs.Limits.{LimitOf, fits, above};
 
-use drat_judge::{in_range, is_near, one};
+use drat_judge::{in_range, is_near};
 
 // The largest number allowed: its last digit as a byte, and of the three digits before it the byte below.
 #[derive(Clone, Copy)]
@@ -32,12 +32,6 @@ fn byte_if(t: bool, b: u8) -> u8
     if t { b } else { 0 }
 }
 
-fn raise(b: u8) -> u8
-    ensures { result ≡ raised b }
-{
-    if b < 48 { 48 } else { b }
-}
-
 // Whether the number that the digits among b c p x end with is within the limit.
 fn number_fits(t: Limit, b: u8, c: u8, p: u8, x: u8) -> bool
     requires { (t.tens ≤ 56) × (t.hundreds ≤ 56) × (t.thousands ≤ 56) }
@@ -46,9 +40,9 @@ fn number_fits(t: Limit, b: u8, c: u8, p: u8, x: u8) -> bool
     let two = is_near(p);
     let three = two & is_near(c);
     let k = x <= t.ones;
-    let l = raise(p) <= t.tens + one(k);
-    let m = raise(byte_if(two, c)) <= t.hundreds + one(l);
-    raise(byte_if(three, b)) <= t.thousands + one(m)
+    let l = p.max(48) <= t.tens + k as u8;
+    let m = byte_if(two, c).max(48) <= t.hundreds + l as u8;
+    byte_if(three, b).max(48) <= t.thousands + m as u8
 }
 
 // Whether the digit x makes a number above the limit, or is a fifth digit.

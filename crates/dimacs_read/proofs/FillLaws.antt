@@ -13,10 +13,8 @@ use Rattle.base.proofs.MemberLaws.{word_inside}
 use Rattle.base.proofs.Truth.{split}
 use Rattle.drat.specs.Filled.{codes_of}
 use Rattle.drat.specs.Reading.{signed_from}
-use Rattle.drat.specs.declared.Scanned.{Scanned}
-use Rattle.drat.specs.declared.Scanned.TheVariants.{Whole, Fault}
 use Rattle.drat.specs.declared.Token.{Token}
-use Rattle.drat.specs.declared.Token.TheVariants.{Lit, Stop, Bad}
+use Rattle.drat.specs.declared.Token.TheVariants.{Lit, Stop}
 use Rattle.drat.proofs.Complete.{signed_first}
 use Rattle.drat.proofs.Sound.{lit_parts}
 use Rattle.drat_read.specs.Known.{IsNumber}
@@ -26,6 +24,9 @@ use Rattle.dimacs.proofs.LineTokens.{line_sound, line_signed, line_stop}
 use Rattle.dimacs.proofs.LineLaws.{within_was, within_stops, wrong_clauses, clauses_part, Ahead, over, on, clauses_sound}
 use Rattle.dimacs.proofs.Turns.{prepend, Turn, turn_lit, turn_stop, turn_bad, turn_end, turn_cut, lit_moves, stop_moves, codes_kept, ends_kept}
 use Rattle.dimacs_read.specs.Known.{LinesFit}
+use Rattle.std.specs.Prelude.{Option, Some, None, Result, Ok, Err}
+use Rattle.drat.specs.declared.Size.{Size}
+use Rattle.drat.specs.Filled.{size}
 
 -- ---- how many words the clauses take
 
@@ -44,17 +45,17 @@ unfolding prepend
 prepend_part ds (clauses rest) cls e = (rest, refl, clauses_part (ds ++ rest) cls e)
 prepend_part ds (wrong_line i) cls e = absurd (wrong_clauses i cls e)
 
-fault_whole : (p n m : ℕ) → Fault p ≡ Whole n m → ⊥
+fault_whole : (p n m : ℕ) → Err p ≡ Ok (size n m) → ⊥
 fault_whole p n m e = let z : ◌≡◌ {A = ℕ} 0 1 = cc in omega arith
 
 -- what stands at a place of a line that is right
 pub data TokenHere (s : List ℕ) (v at : ℕ) : Type 0 where
-  lit_here : (c j : ℕ) → (get_or s at 0 ≡ 48 → ⊥) → within v (line_from at (drop at s)) ≡ Lit c j → TokenHere s v at
-  stop_here : get_or s at 0 ≡ 48 → within v (line_from at (drop at s)) ≡ Stop (at + 2) → TokenHere s v at
+  lit_here : (c j : ℕ) → (get_or s at 0 ≡ 48 → ⊥) → within v (line_from at (drop at s)) ≡ Some (Lit c j) → TokenHere s v at
+  stop_here : get_or s at 0 ≡ 48 → within v (line_from at (drop at s)) ≡ Some (Stop (at + 2)) → TokenHere s v at
 
 module _ (s : List ℕ) (v from : ℕ) (codes₀ ends₀ : List ℕ) (f : LinesFit s v from (length codes₀) (length ends₀)) where
   -- a wrong line is none of these
-  not_wrong : (codes ends : List ℕ) (p : ℕ) → LineScan s v from codes₀ ends₀ codes ends (Fault p) → ⊥
+  not_wrong : (codes ends : List ℕ) (p : ℕ) → LineScan s v from codes₀ ends₀ codes ends (Err p) → ⊥
   unfolding tallied
   not_wrong codes ends p l = fault_whole p (length (all_codes f.cls)) (length f.cls) (l.answer ∙ ap tallied f.reads)
 
@@ -86,16 +87,16 @@ module _ (s : List ℕ) (v from : ℕ) (codes₀ ends₀ : List ℕ) (f : LinesF
         first : (l : List ℕ) → drop at s ≡ l → get_or s at 0 ≡ get_or l 0 0
         first l e = let z : at ≡ at + 0 = omega arith in ap (λ (x : ℕ). get_or s x 0) z ∙ sym (get_or-drop at s 0 0) ∙ ap (λ (x : List ℕ). get_or x 0 0) e
 
-        go : (u : Token) → within v (line_from at (drop at s)) ≡ u → TokenHere s v at
-        go (Lit c j) e =
+        go : (u : Option Token) → within v (line_from at (drop at s)) ≡ u → TokenHere s v at
+        go (Some (Lit c j)) e =
             let r = line_sound at (drop at s) c j (within_was v (line_from at (drop at s)) c j e).0 in
             let w = signed_first r.2 in
             let z : get_or s at 0 ≡ w.0 = first _ (r.3 ∙ ap (λ (x : List ℕ). x ++ 32 ∷ r.1) w.2) in
             lit_here c j (λ x. w.4 (sym z ∙ x)) e
-        go (Stop j) e =
+        go (Some (Stop j)) e =
             let r = line_stop at (drop at s) j (within_stops v (line_from at (drop at s)) j e) in
-            stop_here (first _ r.split) (e ∙ ap Stop (omega (arith, r.place)))
-        go Bad e = absurd (not_wrong codes ends start (turn_bad s v from codes₀ ends₀ codes ends start at n m t h e codes ends))
+            stop_here (first _ r.split) (e ∙ ap (λ (x : ℕ). Some (Stop x)) (omega (arith, r.place)))
+        go None e = absurd (not_wrong codes ends start (turn_bad s v from codes₀ ends₀ codes ends start at n m t h e codes ends))
 
     -- all is filled
     pub turn_done : length s ≤ at → LineScan s v from codes₀ ends₀ codes ends (tallied (clauses_at s v from))
@@ -104,7 +105,7 @@ module _ (s : List ℕ) (v from : ℕ) (codes₀ ends₀ : List ℕ) (f : LinesF
         go : (u : Bool) → eqb start at ≡ u → LineScan s v from codes₀ ends₀ codes ends (tallied (clauses_at s v from))
         go true e =
             let l = turn_end s v from codes₀ ends₀ codes ends start at n m t h (eqb-true start at e) in
-            subst (λ (r : Scanned). LineScan s v from codes₀ ends₀ codes ends r) l.answer l
+            subst (λ (r : Result Size ℕ). LineScan s v from codes₀ ends₀ codes ends r) l.answer l
         go false e = absurd (not_wrong codes ends start (turn_cut s v from codes₀ ends₀ codes ends start at n m t h (eqb-false start at e) codes ends))
 
     -- a line that is not at its start goes on
@@ -114,17 +115,17 @@ module _ (s : List ℕ) (v from : ℕ) (codes₀ ends₀ : List ℕ) (f : LinesF
         (turn_cut s v from codes₀ ends₀ codes ends start at n m t k (λ e. omega (arith, e, h)) codes ends))) (split at (length s))
 
     -- where no 0 stands there is a literal, and where one stands a line's end
-    is_lit : at < length s → (get_or s at 0 ≡ 48 → ⊥) → (c : ℕ) × (j : ℕ) × (within v (line_from at (drop at s)) ≡ Lit c j)
+    is_lit : at < length s → (get_or s at 0 ≡ 48 → ⊥) → (c : ℕ) × (j : ℕ) × (within v (line_from at (drop at s)) ≡ Some (Lit c j))
     is_lit h k = go (token_here h)
       where
-        go : TokenHere s v at → (c : ℕ) × (j : ℕ) × (within v (line_from at (drop at s)) ≡ Lit c j)
+        go : TokenHere s v at → (c : ℕ) × (j : ℕ) × (within v (line_from at (drop at s)) ≡ Some (Lit c j))
         go (lit_here c j a e) = (c, j, e)
         go (stop_here a e) = absurd (k a)
 
-    is_stop : at < length s → get_or s at 0 ≡ 48 → within v (line_from at (drop at s)) ≡ Stop (at + 2)
+    is_stop : at < length s → get_or s at 0 ≡ 48 → within v (line_from at (drop at s)) ≡ Some (Stop (at + 2))
     is_stop h k = go (token_here h)
       where
-        go : TokenHere s v at → within v (line_from at (drop at s)) ≡ Stop (at + 2)
+        go : TokenHere s v at → within v (line_from at (drop at s)) ≡ Some (Stop (at + 2))
         go (lit_here c j a e) = absurd (a k)
         go (stop_here a e) = e
 
@@ -134,15 +135,15 @@ module _ (s : List ℕ) (v from : ℕ) (codes₀ ends₀ : List ℕ) (f : LinesF
         let w = line_signed s at q.0 q.1 (within_was v (line_from at (drop at s)) q.0 q.1 q.2).0 in
         record { code = q.0; next = w.0; is = w.1; inside = word_inside s w.0 (λ z. omega (arith, z, w.3)); below = omega (arith, w.3) }
 
-    lit_within : at < length s → (get_or s at 0 ≡ 48 → ⊥) → (c k : ℕ) → signed_from at (drop at s) ≡ Lit c k → within v (line_from at (drop at s)) ≡ Lit c (k + 1)
+    lit_within : at < length s → (get_or s at 0 ≡ 48 → ⊥) → (c k : ℕ) → signed_from at (drop at s) ≡ Some (Lit c k) → within v (line_from at (drop at s)) ≡ Some (Lit c (k + 1))
     lit_within h n c k e =
         let q = is_lit h n in
         let w = line_signed s at q.0 q.1 (within_was v (line_from at (drop at s)) q.0 q.1 q.2).0 in
         let z = lit_parts q.0 w.0 c k (sym w.1 ∙ e) in
-        q.2 ∙ ap₂ Lit z.0 (omega (arith, z.1, w.2))
+        q.2 ∙ ap₂ (λ (x y : ℕ). Some (Lit x y)) z.0 (omega (arith, z.1, w.2))
 
     -- a literal is stored
-    pub lit_step : at < length s → (get_or s at 0 ≡ 48 → ⊥) → (c k : ℕ) → signed_from at (drop at s) ≡ Lit c k
+    pub lit_step : at < length s → (get_or s at 0 ≡ 48 → ⊥) → (c k : ℕ) → signed_from at (drop at s) ≡ Some (Lit c k)
         → (start < k + 1) × (at < k + 1) × (k + 1 ≤ length s) × Turn s v from codes₀ ends₀ (set codes n c) ends start (k + 1) (n + 1) m
     lit_step h z c k e =
         let w = lit_within h z c k e in
@@ -157,7 +158,7 @@ module _ (s : List ℕ) (v from : ℕ) (codes₀ ends₀ : List ℕ) (f : LinesF
 
   module _ (codes ends : List ℕ) (start at n m : ℕ) (t : Turn s v from codes₀ ends₀ codes ends start at n m) where
     -- after a literal the line goes on
-    pub lit_turn : at < length s → (get_or s at 0 ≡ 48 → ⊥) → (c k : ℕ) → signed_from at (drop at s) ≡ Lit c k
+    pub lit_turn : at < length s → (get_or s at 0 ≡ 48 → ⊥) → (c k : ℕ) → signed_from at (drop at s) ≡ Some (Lit c k)
         → (k + 1 < length s) × Turn s v from codes₀ ends₀ (set codes n c) ends start (k + 1) (n + 1) m
     lit_turn h z c k e =
         let w = lit_step codes ends start at n m t h z c k e in (goes_on (set codes n c) ends start (k + 1) (n + 1) m w.3 w.0, w.3)

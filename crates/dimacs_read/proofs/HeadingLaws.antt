@@ -1,14 +1,16 @@
 -- The header, byte by byte.
 use Prim.Native.Nat.{ℕ, ◌+◌, ◌-◌, ◌*◌, ◌≤◌, ◌<◌}
-use mathlib.Core.Path.{◌≡◌, refl, sym, ap, ◌∙◌, subst}
+use mathlib.Core.Path.{◌≡◌, refl, sym, ap, ap₂, ◌∙◌, subst}
 use mathlib.Core.List.{List, [], ◌∷◌, ◌++◌, append_assoc, append-nil}
 use mathlib.Core.Bool.{Bool, true, false, ◌&&◌, ◌||◌, not, true≢false}
 use native.Mathlib.Omega.{arith}
 use lib.Dec.{eqb, leb}
 use lib.ListN.{length, get_or, drop, length-append, drop_of_length-le}
+use lib.Pointwise.{pointwise}
+use lib.ListN.{take}
 use lib.Seq.{drop-drop, get_or-drop}
 use mathlib.Core.Logic.{⊎_elim}
-use borrow.Author.Tests.{eqb-true, eq-eqb, ne_eqb, lt-leb, le-leb}
+use borrow.Author.Tests.{eqb-true, eqb-false, eq-eqb, ne_eqb, lt-leb, le-leb}
 use lib.ListN.{get_or-eq_default}
 use Rattle.base.specs.Choice.{pick}
 use Rattle.base.proofs.Truth.{split}
@@ -18,7 +20,8 @@ use Rattle.drat.proofs.Steps.{next}
 use Rattle.dimacs.specs.Cnf.{header_start}
 use Rattle.dimacs.specs.Reading.{header_place, digits_of, value_from, proper, starts_with, head, no_head, head_by, head_from}
 use Rattle.dimacs.proofs.Digits.{value_append, digits_split}
-use Rattle.dimacs_read.specs.Heading.{Capped, same, past, Headed, found, absent, digits_at}
+use Rattle.dimacs_read.specs.Heading.{Capped, same, past, heading, Headed, found, absent, digits_at}
+use Rattle.std.specs.Prelude.{Some, None}
 
 -- ---- its place
 
@@ -168,43 +171,19 @@ proper_other s from h n = proper_more s from h ∙ ap not (ne_eqb (get_or s from
 pub stands_past : (s : List ℕ) (i b : ℕ) → 0 < b → length s ≤ i → false ≡ eqb (get_or s i 0) b
 stands_past s i b h l = sym (ne_eqb (get_or s i 0) b (λ e. omega (arith, get_or-eq_default s 0 l)))
 
-starts_here : (s bs : List ℕ) (i b : ℕ) → i < length s → starts_with (b ∷ bs) (drop i s) ≡ eqb (get_or s i 0) b && starts_with bs (drop (i + 1) s)
+eqb_turned : (b x : ℕ) → eqb b x ≡ eqb x b
+eqb_turned b x = go (eqb b x) refl
+  where
+    go : (t : Bool) → eqb b x ≡ t → t ≡ eqb x b
+    go true e = sym (eq-eqb x b (sym (eqb-true b x e)))
+    go false e = sym (ne_eqb x b (λ q. omega (arith, q, eqb-false b x e)))
+
+-- what the library's test says
+pub starts_same : (bs l : List ℕ) → pointwise eqb bs (take (length bs) l) ≡ starts_with bs l
 unfolding starts_with
-starts_here s bs i b l = ap (starts_with (b ∷ bs)) (next s i l)
-
-starts_past : (s bs : List ℕ) (i b : ℕ) → 0 < b → length s ≤ i → starts_with (b ∷ bs) (drop i s) ≡ eqb (get_or s i 0) b && starts_with bs (drop (i + 1) s)
-unfolding starts_with
-starts_past s bs i b h l =
-    ap (starts_with (b ∷ bs)) (drop_of_length-le s l) ∙ ap (λ (t : Bool). t && starts_with bs (drop (i + 1) s)) (stands_past s i b h l)
-
-starts_next : (s bs : List ℕ) (i b : ℕ) → 0 < b → starts_with (b ∷ bs) (drop i s) ≡ eqb (get_or s i 0) b && starts_with bs (drop (i + 1) s)
-starts_next s bs i b h = ⊎_elim (λ (l : i < length s). starts_here s bs i b l) (λ (l : length s ≤ i). starts_past s bs i b h l) (split i (length s))
-
--- the header_start, byte by byte
-and_rest : (a : Bool) {x y : Bool} → x ≡ y → a && x ≡ a && y
-and_rest a e = ap (λ (t : Bool). a && t) e
-
-starts_nil : (a : Bool) (l : List ℕ) → a && starts_with [] l ≡ a
-unfolding starts_with
-starts_nil true l = refl
-starts_nil false l = refl
-
-pub opens_is : (s : List ℕ) (i : ℕ) → starts_with header_start (drop i s) ≡ eqb (get_or s i 0) 112 && (eqb (get_or s (i + 1) 0) 32 && (eqb (get_or s (i + 2) 0) 99
-    && (eqb (get_or s (i + 3) 0) 110 && (eqb (get_or s (i + 4) 0) 102 && eqb (get_or s (i + 5) 0) 32))))
-opens_is s i =
-    let e₂ : i + 1 + 1 ≡ i + 2 = omega arith in
-    let e₃ : i + 2 + 1 ≡ i + 3 = omega arith in
-    let e₄ : i + 3 + 1 ≡ i + 4 = omega arith in
-    let e₅ : i + 4 + 1 ≡ i + 5 = omega arith in
-    starts_next s (32 ∷ 99 ∷ 110 ∷ 102 ∷ 32 ∷ []) i 112 (omega arith)
-    ∙ and_rest (eqb (get_or s i 0) 112) (starts_next s (99 ∷ 110 ∷ 102 ∷ 32 ∷ []) (i + 1) 32 (omega arith)
-    ∙ and_rest (eqb (get_or s (i + 1) 0) 32) (ap (λ (k : ℕ). starts_with (99 ∷ 110 ∷ 102 ∷ 32 ∷ []) (drop k s)) e₂ ∙ starts_next s (110 ∷ 102 ∷ 32 ∷ []) (i +
-    2) 99 (omega arith)
-    ∙ and_rest (eqb (get_or s (i + 2) 0) 99) (ap (λ (k : ℕ). starts_with (110 ∷ 102 ∷ 32 ∷ []) (drop k s)) e₃ ∙ starts_next s (102 ∷ 32 ∷ []) (i + 3) 110
-    (omega arith)
-    ∙ and_rest (eqb (get_or s (i + 3) 0) 110) (ap (λ (k : ℕ). starts_with (102 ∷ 32 ∷ []) (drop k s)) e₄ ∙ starts_next s (32 ∷ []) (i + 4) 102 (omega arith)
-    ∙ and_rest (eqb (get_or s (i + 4) 0) 102) (ap (λ (k : ℕ). starts_with (32 ∷ []) (drop k s)) e₅ ∙ starts_next s [] (i + 5) 32 (omega arith)
-    ∙ starts_nil (eqb (get_or s (i + 5) 0) 32) (drop (i + 5 + 1) s))))))
+starts_same [] l = refl
+starts_same (b ∷ bs) [] = refl
+starts_same (b ∷ bs) (x ∷ l) = ap₂ (λ (t u : Bool). t && u) (eqb_turned b x) (starts_same bs l)
 
 -- ---- the header at a place: its six tests, the places p and q after the two runs given
 
@@ -234,35 +213,34 @@ module _ (s : List ℕ) (at p q : ℕ) (ep : p ≡ at + 6 + length (digits_at s 
       ∙ rw (b₁, b₂, j)
 
   -- a failed test: there is no header
-  none_found : head_from at (drop at s) ≡ no_head → (f : Bool) → f ≡ false → (v k j : ℕ) → Headed (head_from at (drop at s)) f v k j
-  none_found e f g v k j = rw (e, g) absent
+  none_found : head_from at (drop at s) ≡ no_head → Headed (head_from at (drop at s)) None
+  none_found e = rw e absent
 
   module _ (t₁ : starts_with header_start (drop at s) ≡ true) where
-    pub no_first : proper (digits_at s (at + 6)) ≡ false → (f : Bool) → f ≡ false → (v k j : ℕ) → Headed (head_from at (drop at s)) f v k j
+    pub no_first : proper (digits_at s (at + 6)) ≡ false → Headed (head_from at (drop at s)) None
     no_first e = none_found (tests ∙ rw (t₁, e))
 
     module _ (t₂ : proper (digits_at s (at + 6)) ≡ true) where
-      pub too_large : leb (value_from 0 (digits_at s (at + 6))) 4096 ≡ false → (f : Bool) → f ≡ false → (v k j : ℕ) → Headed (head_from at (drop at s)) f v k j
+      pub too_large : leb (value_from 0 (digits_at s (at + 6))) 4096 ≡ false → Headed (head_from at (drop at s)) None
       too_large e = none_found (tests ∙ rw (t₁, t₂, e))
 
       module _ (t₃ : leb (value_from 0 (digits_at s (at + 6))) 4096 ≡ true) where
-        pub no_blank : eqb (get_or s p 0) 32 ≡ false → (f : Bool) → f ≡ false → (v k j : ℕ) → Headed (head_from at (drop at s)) f v k j
+        pub no_blank : eqb (get_or s p 0) 32 ≡ false → Headed (head_from at (drop at s)) None
         no_blank e = none_found (tests ∙ rw (t₁, t₂, t₃, e))
 
         module _ (t₄ : eqb (get_or s p 0) 32 ≡ true) where
-          pub no_second : proper (digits_at s (p + 1)) ≡ false → (f : Bool) → f ≡ false → (v k j : ℕ) → Headed (head_from at (drop at s)) f v k j
+          pub no_second : proper (digits_at s (p + 1)) ≡ false → Headed (head_from at (drop at s)) None
           no_second e = none_found (tests ∙ rw (t₁, t₂, t₃, t₄, e))
 
           module _ (t₅ : proper (digits_at s (p + 1)) ≡ true) where
-            pub no_feed : eqb (get_or s q 0) 10 ≡ false → (f : Bool) → f ≡ false → (v k j : ℕ) → Headed (head_from at (drop at s)) f v k j
+            pub no_feed : eqb (get_or s q 0) 10 ≡ false → Headed (head_from at (drop at s)) None
             no_feed e = none_found (tests ∙ rw (t₁, t₂, t₃, t₄, t₅, e))
 
             pub head_found : eqb (get_or s q 0) 10 ≡ true → (v k : ℕ) → value_from 0 (digits_at s (at + 6)) ≡ v → Capped k (value_from 0 (digits_at s (p + 1)))
-                → Headed (head_from at (drop at s)) true v k (q + 1)
+                → Headed (head_from at (drop at s)) (Some (heading v k (q + 1)))
             head_found t₆ v k e c = rw (tests, t₁, t₂, t₃, t₄, t₅, t₆, e) (found (digits_at s (p + 1)) c)
 
-pub no_opening : (s : List ℕ) (at : ℕ) → starts_with header_start (drop at s) ≡ false → (f : Bool) → f ≡ false → (v k j : ℕ)
-    → Headed (head_from at (drop at s)) f v k j
+pub no_opening : (s : List ℕ) (at : ℕ) → starts_with header_start (drop at s) ≡ false → Headed (head_from at (drop at s)) None
 no_opening s at e =
     let p = at + 6 + length (digits_at s (at + 6)) in
     let q = p + 1 + length (digits_at s (p + 1)) in

@@ -4,10 +4,9 @@ ghost use Rattle.dimacs.specs.Cnf.{header_start};
 ghost use Rattle.dimacs.specs.Reading.{header_place, value_from, proper, starts_with, head_from};
 ghost use Rattle.dimacs_read.specs.Heading.{Capped, Headed, digits_at};
 
-// Whether there is a header, its V, its C capped, and the place after its line.
-#[derive(Clone, Copy)]
+// A header's V, its C capped, and the place after its line.
+#[derive(Clone, Copy, Debug, PartialEq, Eq)]
 pub(crate) struct Heading {
-    pub found: bool,
     pub variables: u32,
     pub clauses: u64,
     pub next: usize,
@@ -24,13 +23,7 @@ struct Run {
 fn passes(inside: bool, b: u8) -> bool
     ensures { result ≡ inside || eqb b 99 }
 {
-    if inside {
-        return true;
-    }
-    if b == 99 {
-        return true;
-    }
-    false
+    inside || b == 99
 }
 
 // The place of the first line that does not start with `c`, or the file's end. No slice has 2^63 bytes or more.
@@ -40,15 +33,13 @@ pub(crate) fn header_place(s: &[u8]) -> usize
     ensures s_len_bound { length s.now < 9223372036854775808 }
 {
     let mut inside = false;
-    let mut i = 0;
-    while i < s.len() {
+    for i in 0..s.len() {
         if !passes(inside, s[i]) {
             return i;
         }
         inside = s[i] != 10;
-        i += 1;
     }
-    i
+    s.len()
 }
 
 // A digit more after those of v, capped.
@@ -71,8 +62,7 @@ fn run_at(s: &[u8], from: usize) -> Run
     ensures capped { Capped result.value (value_from 0 (digits_at s.now from)) }
 {
     let mut value: u64 = 0;
-    let mut i = from;
-    while i < s.len() {
+    for i in from..s.len() {
         let b = s[i] as u64;
         if b < 48 {
             return Run { value, next: i };
@@ -81,9 +71,11 @@ fn run_at(s: &[u8], from: usize) -> Run
             return Run { value, next: i };
         }
         value = capped_digit(value, b - 48);
-        i += 1;
     }
-    Run { value, next: i }
+    Run {
+        value,
+        next: s.len(),
+    }
 }
 
 // Whether the digits between two places are a number: there are some, and a 0 in front only alone.
@@ -109,7 +101,7 @@ fn stands(s: &[u8], at: usize, b: u8) -> bool
     requires { 0 < b }
     ensures { result ≡ eqb (get_or s.now at 0) b }
 {
-    if at < s.len() { s[at] == b } else { false }
+    at < s.len() && s[at] == b
 }
 
 // Whether `p cnf ` stands at a place.
@@ -117,54 +109,38 @@ fn header_starts(s: &[u8], at: usize) -> bool
     requires { at ≤ length s.now }
     ensures { result ≡ starts_with header_start (drop at s.now) }
 {
-    stands(s, at, 112)
-        & (stands(s, at + 1, 32)
-            & (stands(s, at + 2, 99)
-                & (stands(s, at + 3, 110) & (stands(s, at + 4, 102) & stands(s, at + 5, 32)))))
-}
-
-// No header.
-fn headless() -> Heading
-    ensures { result.found ≡ false }
-{
-    Heading {
-        found: false,
-        variables: 0,
-        clauses: 0,
-        next: 0,
-    }
+    s[at..].starts_with(b"p cnf ")
 }
 
 // The header at a place.
-pub(crate) fn head_at(s: &[u8], at: usize) -> Heading
+pub(crate) fn head_at(s: &[u8], at: usize) -> Option<Heading>
     requires { at ≤ length s.now }
-    ensures { Headed (head_from at (drop at s.now)) result.found result.variables result.clauses result.next }
+    ensures { Headed (head_from at (drop at s.now)) result }
 {
     if !header_starts(s, at) {
-        return headless();
+        return None;
     }
     let v = run_at(s, at + 6);
     if !is_proper(s, at + 6, v.next) {
-        return headless();
+        return None;
     }
     if 4096 < v.value {
-        return headless();
+        return None;
     }
     if !stands(s, v.next, 32) {
-        return headless();
+        return None;
     }
     let c = run_at(s, v.next + 1);
     if !is_proper(s, v.next + 1, c.next) {
-        return headless();
+        return None;
     }
     if !stands(s, c.next, 10) {
-        return headless();
+        return None;
     }
     let next = c.next + 1;
-    Heading {
-        found: true,
+    Some(Heading {
         variables: v.value as u32,
         clauses: c.value,
         next,
-    }
+    })
 }

@@ -1,46 +1,46 @@
 // What stands at a place of a line.
 ghost use Rattle.std.specs.Prelude.{◌≡◌, ◌+◌, eqb, get_or, drop};
 ghost use Rattle.base.specs.Choice.{pick};
-ghost use Rattle.drat.specs.declared.Token.TheVariants.{Lit, Bad};
+ghost use Rattle.drat.specs.declared.Token.TheVariants.{Lit};
 ghost use Rattle.dimacs.specs.Reading.{line_from};
 
 use drat::Token;
 use drat_scan::place::signed_at;
 
 // The blank after a number.
-fn spaced(s: &[u8], code: u32, end: usize) -> Token
-    ensures { result ≡ pick (eqb (get_or s.now end 0) 32) (Lit code (end + 1)) Bad }
+fn spaced(s: &[u8], code: u32, end: usize) -> Option<Token>
+    ensures { result ≡ pick (eqb (get_or s.now end 0) 32) (Some (Lit code (end + 1))) None }
 {
     if s.len() <= end {
-        return Token::Bad;
+        return None;
     }
     if s[end] == 32 {
-        return Token::Lit(code, end + 1);
+        return Some(Token::Lit(code, end + 1));
     }
-    Token::Bad
+    None
 }
 
 // A number and the blank after it, or `0` and the line feed.
-pub(crate) fn line_at(s: &[u8], at: usize) -> Token
+pub(crate) fn line_at(s: &[u8], at: usize) -> Option<Token>
     ensures { result ≡ line_from at (drop at s.now) }
 {
     if s.len() <= at {
-        return Token::Bad;
+        return None;
     }
     let b = s[at];
     if b == 48 {
         let j = at + 1;
         if s.len() <= j {
-            return Token::Bad;
+            return None;
         }
         if s[j] == 10 {
-            return Token::Stop(j + 1);
+            return Some(Token::Stop(j + 1));
         }
-        return Token::Bad;
+        return None;
     }
     match signed_at(s, at) {
-        Token::Lit(code, end) => spaced(s, code, end),
-        Token::Stop(_) => Token::Bad,
-        Token::Bad => Token::Bad,
+        Some(Token::Lit(code, end)) => spaced(s, code, end),
+        Some(Token::Stop(_)) => None,
+        None => None,
     }
 }

@@ -20,8 +20,9 @@ use Rattle.drat.specs.declared.Kind.{Kind}
 use Rattle.drat.specs.declared.Kind.TheVariants.{Add, Delete}
 use Rattle.drat.specs.declared.Format.{Format}
 use Rattle.drat.specs.declared.Format.TheVariants.{Text, Binary}
-use Rattle.drat.specs.declared.Token.TheVariants.{Lit, Stop, Bad}
-use Rattle.drat.specs.declared.Opening.TheVariants.{Opens, Wrong}
+use Rattle.drat.specs.declared.Token.TheVariants.{Lit, Stop}
+use Rattle.std.specs.Prelude.{Some, None}
+use Rattle.drat.specs.Reading.{opens}
 
 -- one decimal digit
 pub digit_read : (sign v d i : ℕ) (l : List ℕ) → d < 10 → 0 < 10 * v + d → 10 * v + d ≤ 4096
@@ -41,7 +42,7 @@ decimal_read (more {d = d} {v = v} {bs = bs} p n) h sign i l =
     ∙ ap₂ (λ (x j : ℕ). digits_from sign x j l) (omega arith) (simp length-append (omega arith))
 
 pub leb_read : {bs : List ℕ} {n : ℕ} → Numeral leb128 bs n → (v w i : ℕ) (l : List ℕ) → 0 < w → 2 ≤ v + w * n → v + w * n ≤ 8193
-    → leb_from v w i (bs ++ l) ≡ Lit (v + w * n - 2) (i + length bs)
+    → leb_from v w i (bs ++ l) ≡ Some (Lit (v + w * n - 2) (i + length bs))
 unfolding leb_from
 leb_read (one {d = d} p q) v w i l hw h2 h = simp (lt-ltb d 128 q, ne_eqb d 0 (omega arith), le-ltb (v + w * d) 2 h2, le-ltb 8193 (v + w * d) h)
 leb_read (more {d = d} {v = x} {bs = bs} p n) v w i l hw h2 h =
@@ -49,14 +50,14 @@ leb_read (more {d = d} {v = x} {bs = bs} p n) v w i l hw h2 h =
     let s : w * 1 ≤ w * x = mul-le-mul_left w (numeral_pos leb128 n) in
     let b : w ≤ 64 = omega arith in
     simp (e, le-ltb (128 + d) 128 (omega arith), le-ltb 64 w b)
-    (leb_read n (v + w * d) (w * 128) (i + 1) l (omega arith) (omega arith) (omega arith) ∙ ap₂ Lit (omega arith) (omega arith))
+    (leb_read n (v + w * d) (w * 128) (i + 1) l (omega arith) (omega arith) (omega arith) ∙ ap₂ (λ (x y : ℕ). Some (Lit x y)) (omega arith) (omega arith))
 
 -- no digit stands first
 abbrev pub Apart : List ℕ → Type 0
 Apart l = digit (get_or l 0 0) ≡ false
 
 -- a run of digits ends before it
-run_read : (sign x i : ℕ) (l : List ℕ) → Apart l → digits_from sign (x + 1) i l ≡ Lit (2 * x + sign) i
+run_read : (sign x i : ℕ) (l : List ℕ) → Apart l → digits_from sign (x + 1) i l ≡ Some (Lit (2 * x + sign) i)
 unfolding digits_from
 run_read sign x i [] h = let e : x + 1 - 1 ≡ x = omega arith in simp (e, ne_eqb (x + 1) 0 (omega arith))
 run_read sign x i (b ∷ l) h = let e : x + 1 - 1 ≡ x = omega arith in simp (h, e, ne_eqb (x + 1) 0 (omega arith))
@@ -74,17 +75,17 @@ unfolding token
 leb_token n i l = let f = leb_first n in rw f.2 (simp (ne_eqb f.0 0 (omega arith)))
 
 digits_read : {bs : List ℕ} {x : ℕ} → x < 4096 → Numeral decimal bs (x + 1) → (sign i : ℕ) (l : List ℕ) → Apart l
-    → digits_from sign 0 i (bs ++ l) ≡ Lit (2 * x + sign) (i + length bs)
+    → digits_from sign 0 i (bs ++ l) ≡ Some (Lit (2 * x + sign) (i + length bs))
 digits_read {bs} {x} h n sign i l a = decimal_read n (omega arith) sign i l ∙ run_read sign x (i + length bs) l a
 
 -- a number is read up to the byte after it
-pub signed_read : {bs : List ℕ} {c : ℕ} → Signed bs c → (i : ℕ) (l : List ℕ) → Apart l → signed_from i (bs ++ l) ≡ Lit c (i + length bs)
+pub signed_read : {bs : List ℕ} {c : ℕ} → Signed bs c → (i : ℕ) (l : List ℕ) → Apart l → signed_from i (bs ++ l) ≡ Some (Lit c (i + length bs))
 unfolding signed_from
 signed_read (plus {bs = bs} {i = x} h n) i l a =
     let f = decimal_first n in
     let e : signed_from i (bs ++ l) ≡ digits_from 0 0 i (bs ++ l) = rw f.2 (simp (ne_eqb f.0 45 (omega arith))) in
-    e ∙ digits_read h n 0 i l a ∙ ap (λ (y : ℕ). Lit y (i + length bs)) (omega arith)
-signed_read (minus {bs = bs} {i = x} h n) i l a = digits_read h n 1 (i + 1) l a ∙ ap (Lit (2 * x + 1)) (omega arith)
+    e ∙ digits_read h n 0 i l a ∙ ap (λ (y : ℕ). Some (Lit y (i + length bs))) (omega arith)
+signed_read (minus {bs = bs} {i = x} h n) i l a = digits_read h n 1 (i + 1) l a ∙ ap (λ (y : ℕ). Some (Lit (2 * x + 1) y)) (omega arith)
 
 -- past what was read
 pub skip : (i : ℕ) (bs l : List ℕ) → drop (i + length bs - i) (bs ++ l) ≡ l
@@ -96,7 +97,7 @@ signed_first (minus {bs = bs} h n) = (45, bs, refl, omega arith, λ e. omega ari
 
 -- a literal is read as one, with its separators where it has some
 gap_follows : {bs gs : List ℕ} {c : ℕ} → Signed bs c → Gap gs → (i : ℕ) (l : List ℕ) → Clear Text l
-    → token Text i (bs ++ (gs ++ l)) ≡ Lit c (i + length bs + length gs)
+    → token Text i (bs ++ (gs ++ l)) ≡ Some (Lit c (i + length bs + length gs))
 unfolding token then_gap
 gap_follows {bs} {gs} {c} n g i l h =
     let f = signed_first n in
@@ -106,16 +107,16 @@ gap_follows {bs} {gs} {c} n g i l h =
     ap (λ (j : ℕ). sep (get_or m j 0)) k ∙ ap sep (get_or-append-add bs (gs ++ l) 0 0) ∙ gap_first g l in
     let e : token Text i m ≡ then_gap i m (signed_from i m) = rw f.2 (simp (ne_eqb f.0 48 f.4)) in
     e ∙ ap (then_gap i m) (signed_read n i (gs ++ l) (gap_apart g l)) ∙ (simp b)
-    ∙ ap (λ (x : List ℕ). Lit c (i + length bs + seps x)) (skip i bs (gs ++ l))
-    ∙ ap (λ (x : ℕ). Lit c (i + length bs + x)) (seps_read (gap_seps g) l h)
+    ∙ ap (λ (x : List ℕ). Some (Lit c (i + length bs + seps x))) (skip i bs (gs ++ l))
+    ∙ ap (λ (x : ℕ). Some (Lit c (i + length bs + x))) (seps_read (gap_seps g) l h)
 
-pub token_number : {f : Format} {bs : List ℕ} {c : ℕ} → Number f bs c → (i : ℕ) (l : List ℕ) → Clear f l → token f i (bs ++ l) ≡ Lit c (i + length bs)
+pub token_number : {f : Format} {bs : List ℕ} {c : ℕ} → Number f bs c → (i : ℕ) (l : List ℕ) → Clear f l → token f i (bs ++ l) ≡ Some (Lit c (i + length bs))
 token_number (spaced {bs = bs} {gs = gs} {c = c} n g) i l h =
-    ap (token Text i) (append_assoc bs gs l) ∙ gap_follows n g i l h ∙ ap (Lit c) (simp length-append (omega arith))
+    ap (token Text i) (append_assoc bs gs l) ∙ gap_follows n g i l h ∙ ap (λ (x : ℕ). Some (Lit c x)) (simp length-append (omega arith))
 token_number (code {bs = bs} {c = c} h n) i l _ =
-    leb_token n i l ∙ leb_read n 0 1 i l (omega arith) (omega arith) (omega arith) ∙ ap (λ (y : ℕ). Lit y (i + length bs)) (omega arith)
+    leb_token n i l ∙ leb_read n 0 1 i l (omega arith) (omega arith) (omega arith) ∙ ap (λ (y : ℕ). Some (Lit y (i + length bs))) (omega arith)
 
-pub token_ends : {f : Format} {l : List ℕ} → Free f l → (i : ℕ) → token f i (stop f ++ l) ≡ Stop (i + length (stop f))
+pub token_ends : {f : Format} {l : List ℕ} → Free f l → (i : ℕ) → token f i (stop f ++ l) ≡ Some (Stop (i + length (stop f)))
 unfolding token close_from
 token_ends at_end i = refl
 token_ends (at_sep s) i = simp (sep_is s)
@@ -139,26 +140,26 @@ step_clear letter_a h l = tt
 step_clear letter_d h l = tt
 
 pub opening_read : {f : Format} {k : Kind} {os bs cs : List ℕ} → Begins f k os → Body f bs cs → (i : ℕ) (l : List ℕ)
-    → opening f i ((os ++ bs) ++ l) ≡ Opens k (i + length os)
+    → opening f i ((os ++ bs) ++ l) ≡ opens k (i + length os)
 unfolding opening gap_from
-opening_read bare h i l = let f = body_first h in rw f.2 (simp (ne_eqb f.0 100 (omega arith)) (ap (Opens Add) (omega arith)))
+opening_read bare h i l = let f = body_first h in rw f.2 (simp (ne_eqb f.0 100 (omega arith)) (ap (λ (x : ℕ). opens Add x) (omega arith)))
 opening_read {bs = bs} (dee {gs = gs} g) h i l =
     ap (gap_from (i + 1)) (append_assoc gs bs l) ∙ (simp (gap_first g (bs ++ l)))
-    ∙ ap (λ (x : ℕ). Opens Delete (i + 1 + x)) (seps_read (gap_seps g) (bs ++ l) (body_clear h l))
-    ∙ ap (Opens Delete) (omega arith)
+    ∙ ap (λ (x : ℕ). opens Delete (i + 1 + x)) (seps_read (gap_seps g) (bs ++ l) (body_clear h l))
+    ∙ ap (λ (x : ℕ). opens Delete x) (omega arith)
 opening_read letter_a h i l = refl
 opening_read letter_d h i l = refl
 
 -- the reader's equations, case by case
-pub body_lit : (f : Format) (n i : ℕ) (l : List ℕ) (c j : ℕ) → token f i l ≡ Lit c j → body f (suc n) i l ≡ cons_part c (body f n j (drop (j - i) l))
+pub body_lit : (f : Format) (n i : ℕ) (l : List ℕ) (c j : ℕ) → token f i l ≡ Some (Lit c j) → body f (suc n) i l ≡ cons_part c (body f n j (drop (j - i) l))
 unfolding body
 body_lit f n i l c j e = rw (e, body)
 
-pub body_stop : (f : Format) (n i : ℕ) (l : List ℕ) (j : ℕ) → token f i l ≡ Stop j → body f (suc n) i l ≡ whole [] j
+pub body_stop : (f : Format) (n i : ℕ) (l : List ℕ) (j : ℕ) → token f i l ≡ Some (Stop j) → body f (suc n) i l ≡ whole [] j
 unfolding body
 body_stop f n i l j e = rw (e, body)
 
-pub body_bad : (f : Format) (n i : ℕ) (l : List ℕ) → token f i l ≡ Bad → body f (suc n) i l ≡ broken
+pub body_bad : (f : Format) (n i : ℕ) (l : List ℕ) → token f i l ≡ None → body f (suc n) i l ≡ broken
 unfolding body
 body_bad f n i l e = rw (e, body)
 
@@ -191,12 +192,12 @@ body_read {f} (lit {bs = bs} {rest = r} {cs = cs} {c = c} p t) (suc n) i {l} g h
     ∙ ap (cons_part c) (body_read t n (i + length bs) g (omega arith))
     ∙ ap (whole (c ∷ cs)) (simp length-append (omega arith))
 
-pub one_opens : (f : Format) (i : ℕ) (l : List ℕ) (k : Kind) (j : ℕ) → opening f i l ≡ Opens k j
+pub one_opens : (f : Format) (i : ℕ) (l : List ℕ) (k : Kind) (j : ℕ) → opening f i l ≡ opens k j
     → one_step f i l ≡ as_step k (body f (length l) j (drop (j - i) l))
 unfolding one_step
 one_opens f i l k j e = rw (e, one_step)
 
-pub one_wrong : (f : Format) (i : ℕ) (l : List ℕ) → opening f i l ≡ Wrong → one_step f i l ≡ fault
+pub one_wrong : (f : Format) (i : ℕ) (l : List ℕ) → opening f i l ≡ None → one_step f i l ≡ fault
 unfolding one_step
 one_wrong f i l e = rw (e, one_step)
 

@@ -17,12 +17,14 @@ use Rattle.drat.specs.Filled.{first}
 use Rattle.drat.specs.Writing.{part}
 use Rattle.drat.specs.declared.Kind.{Kind}
 use Rattle.drat.specs.declared.Format.{Format}
-use Rattle.drat.specs.declared.Scanned.TheVariants.{Whole, Fault}
-use Rattle.drat.specs.declared.Read.{Read}
-use Rattle.drat.specs.declared.Read.TheVariants.{Filled, Broken, Short}
+use Rattle.drat.specs.declared.ReadError.{ReadError}
+use Rattle.drat.specs.declared.ReadError.TheVariants.{NotWhole, Room}
 use Rattle.drat.proofs.Places.{step_at, step_moves}
 use Rattle.drat.proofs.Separators.{lead_le}
 use Rattle.drat.proofs.Sound.{Bytes, bytes_drop}
+use Rattle.std.specs.Prelude.{Result, Ok, Err}
+use Rattle.drat.specs.declared.Size.{Size}
+use Rattle.drat.specs.Filled.{size}
 
 unfoldable pub end_part : ℕ → Part → ℕ
 end_part i (whole cs j) = j
@@ -55,18 +57,23 @@ unfolding step_at
 step_is f s i = refl
 
 -- what a scan's answer says of the bytes
-pub scan_whole : (p : Proof) (n m : ℕ) → Whole n m ≡ counted p → (ss : List Step) × (p ≡ steps ss) × (n ≡ length (codes_of ss)) × (m ≡ length ss)
+pub size_parts : (n m i j : ℕ) → ◌≡◌ {A = Result Size ℕ} (Ok (size n m)) (Ok (size i j)) → (n ≡ i) × (m ≡ j)
+size_parts n m i j e =
+    let z : size n m ≡ size i j = cc in
+    (ap (λ (w : Size). w.lits) z, ap (λ (w : Size). w.steps) z)
+
+pub scan_whole : (p : Proof) (n m : ℕ) → Ok (size n m) ≡ counted p → (ss : List Step) × (p ≡ steps ss) × (n ≡ length (codes_of ss)) × (m ≡ length ss)
 unfolding counted
-scan_whole (steps ss) n m e = (ss, refl, cc, cc)
+scan_whole (steps ss) n m e = let z = size_parts n m _ _ e in (ss, refl, z.0, z.1)
 scan_whole (fault_at i) n m e = let z : ◌≡◌ {A = ℕ} 0 1 = cc in absurd (omega arith)
 
-scan_fault : (p : Proof) (i : ℕ) → Fault i ≡ counted p → p ≡ fault_at i
+scan_fault : (p : Proof) (i : ℕ) → Err i ≡ counted p → p ≡ fault_at i
 unfolding counted
 scan_fault (steps ss) i e = let z : ◌≡◌ {A = ℕ} 0 1 = cc in absurd (omega arith)
 scan_fault (fault_at j) i e = cc
 
 module _ (f : Format) (s : List ℕ) (a b c : ℕ) where
-  pub answer_fault : (i : ℕ) → Fault i ≡ counted (read_proof f s) → read_of f s a b c ≡ refusing 13 (i ∷ [])
+  pub answer_fault : (i : ℕ) → Err i ≡ counted (read_proof f s) → read_of f s a b c ≡ refusing 13 (i ∷ [])
   unfolding answer_of
   answer_fault i e = ap (λ (p : Proof). answer_of p a b c) (scan_fault (read_proof f s) i e)
 
@@ -77,7 +84,7 @@ module _ (f : Format) (s : List ℕ) (a b c : ℕ) where
 
 module _ (f : Format) (s codes ends kinds : List ℕ) where
   -- a call that refuses fills nothing
-  pub call_refused : (r : Read) (n : ℕ) (vs : List ℕ) → read r ≡ refused n vs → read_of f s (length codes) (length ends) (length kinds) ≡ refusing n vs
+  pub call_refused : (r : Result Size ReadError) (n : ℕ) (vs : List ℕ) → read r ≡ refused n vs → read_of f s (length codes) (length ends) (length kinds) ≡ refusing n vs
       → ReadCall f s codes ends kinds codes ends kinds r
   call_refused r n vs e h =
       record {
@@ -89,13 +96,14 @@ module _ (f : Format) (s codes ends kinds : List ℕ) where
 
   -- a call that fills all steps
   pub call_filled : (ss : List Step) → read_proof f s ≡ steps ss → length (codes_of ss) ≤ length codes → length ss ≤ length ends → length ss ≤ length kinds
-      → (codes' ends' kinds' : List ℕ) (n m : ℕ) → Scan f s codes ends kinds codes' ends' kinds' (Whole n m)
-      → ReadCall f s codes ends kinds codes' ends' kinds' (Filled n m)
+      → (codes' ends' kinds' : List ℕ) (n m : ℕ) → Scan f s codes ends kinds codes' ends' kinds' (Ok (size n m))
+      → ReadCall f s codes ends kinds codes' ends' kinds' (Ok (size n m))
   unfolding counted
   call_filled ss h ha hb hc codes' ends' kinds' n m q =
       let e = q.answer ∙ ap counted h in
-      let qn : n ≡ length (codes_of ss) = cc in
-      let qm : m ≡ length ss = cc in
+      let z = size_parts n m _ _ e in
+      let qn = z.0 in
+      let qm = z.1 in
       let l = q.filled ss h in
       let a : read_of f s (length codes) (length ends) (length kinds) ≡ filling ss =
       answer_steps f s (length codes) (length ends) (length kinds) ss h ∙ simp (
@@ -111,16 +119,16 @@ module _ (f : Format) (s codes ends kinds : List ℕ) where
       }
 
 -- the answer's reading loses nothing
-pub read_one : (x y : Read) → read x ≡ read y → x ≡ y
-read_one (Filled n m) (Filled i j) e = cc
-read_one (Filled n m) (Broken p) e = let z : ◌≡◌ {A = ℕ} 0 1 = cc in absurd (omega arith)
-read_one (Filled n m) Short e = let z : ◌≡◌ {A = ℕ} 0 1 = cc in absurd (omega arith)
-read_one (Broken p) (Filled i j) e = let z : ◌≡◌ {A = ℕ} 0 1 = cc in absurd (omega arith)
-read_one (Broken p) (Broken q) e = cc
-read_one (Broken p) Short e = let z : ◌≡◌ {A = ℕ} 13 2 = cc in absurd (omega arith)
-read_one Short (Filled i j) e = let z : ◌≡◌ {A = ℕ} 0 1 = cc in absurd (omega arith)
-read_one Short (Broken p) e = let z : ◌≡◌ {A = ℕ} 2 13 = cc in absurd (omega arith)
-read_one Short Short e = refl
+pub read_one : (x y : Result Size ReadError) → read x ≡ read y → x ≡ y
+read_one (Ok v) (Ok w) e = let n : v.lits ≡ w.lits = cc in let m : v.steps ≡ w.steps = cc in ap₂ (λ (x y : ℕ). Ok (size x y)) n m
+read_one (Ok v) (Err (NotWhole p)) e = let z : ◌≡◌ {A = ℕ} 0 1 = cc in absurd (omega arith)
+read_one (Ok v) (Err Room) e = let z : ◌≡◌ {A = ℕ} 0 1 = cc in absurd (omega arith)
+read_one (Err (NotWhole p)) (Ok w) e = let z : ◌≡◌ {A = ℕ} 0 1 = cc in absurd (omega arith)
+read_one (Err (NotWhole p)) (Err (NotWhole q)) e = cc
+read_one (Err (NotWhole p)) (Err Room) e = let z : ◌≡◌ {A = ℕ} 13 2 = cc in absurd (omega arith)
+read_one (Err Room) (Ok w) e = let z : ◌≡◌ {A = ℕ} 0 1 = cc in absurd (omega arith)
+read_one (Err Room) (Err (NotWhole p)) e = let z : ◌≡◌ {A = ℕ} 2 13 = cc in absurd (omega arith)
+read_one (Err Room) (Err Room) e = refl
 
 -- the first token's place is in the input
 pub first_within : (f : Format) (s : List ℕ) → first_token f s ≤ length s

@@ -11,33 +11,34 @@ use Rattle.drat.specs.Reading.{lead, past, cons_step, steps_from, read_proof}
 use Rattle.drat.specs.declared.Kind.{Kind}
 use Rattle.drat.specs.declared.Format.{Format}
 use Rattle.drat.specs.declared.Token.{Token}
-use Rattle.drat.specs.declared.Token.TheVariants.{Lit, Stop, Bad}
-use Rattle.drat.specs.declared.Opening.TheVariants.{Opens, Wrong}
+use Rattle.drat.specs.declared.Token.TheVariants.{Lit, Stop}
 use Rattle.drat.proofs.Complete.{signed_first, number_length, body_length, stop_some, none_left, body_lit, body_stop, body_bad, one_opens, one_wrong}
 use Rattle.drat.proofs.Complete.{steps_got}
 use Rattle.drat.proofs.Complete.{steps_not}
 use Rattle.drat.proofs.Steps.{next}
 use Rattle.drat.proofs.Separators.{lead_le}
 use Rattle.drat.proofs.Sound.{Bytes, bytes_drop, signed_sound, token_sound, token_stop, opening_sound, step_sound}
+use Rattle.std.specs.Prelude.{Option, Some, None}
+use Rattle.drat.specs.Reading.{opens}
 
 -- each token takes a byte, and so does a number
-pub signed_moves : (i : ℕ) (l : List ℕ) (c j : ℕ) → signed_from i l ≡ Lit c j → (i < j) × (j ≤ i + length l)
+pub signed_moves : (i : ℕ) (l : List ℕ) (c j : ℕ) → signed_from i l ≡ Some (Lit c j) → (i < j) × (j ≤ i + length l)
 signed_moves i l c j e =
     let r = signed_sound i l c j e in
     let f = signed_first r.spelled in
     omega (arith, r.place, ap length f.2, ap length r.split ∙ length-append r.bytes r.rest)
 
-pub lit_moves : (f : Format) (i : ℕ) (l : List ℕ) (c j : ℕ) → Bytes l → token f i l ≡ Lit c j → (i < j) × (j ≤ i + length l)
+pub lit_moves : (f : Format) (i : ℕ) (l : List ℕ) (c j : ℕ) → Bytes l → token f i l ≡ Some (Lit c j) → (i < j) × (j ≤ i + length l)
 lit_moves f i l c j hb e =
     let r = token_sound f i l c j hb e in
     omega (arith, r.place, number_length r.spelled, ap length r.split ∙ length-append r.bytes r.rest)
 
-pub stop_moves : (f : Format) (i : ℕ) (l : List ℕ) (j : ℕ) → token f i l ≡ Stop j → (i < j) × (j ≤ i + length l)
+pub stop_moves : (f : Format) (i : ℕ) (l : List ℕ) (j : ℕ) → token f i l ≡ Some (Stop j) → (i < j) × (j ≤ i + length l)
 stop_moves f i l j e =
     let r = token_stop f i l j e in
     omega (arith, r.place, stop_some f, ap length r.split ∙ length-append (stop f) r.rest)
 
-pub open_moves : (f : Format) (i : ℕ) (l : List ℕ) (k : Kind) (j : ℕ) → opening f i l ≡ Opens k j → (i ≤ j) × (j ≤ i + length l)
+pub open_moves : (f : Format) (i : ℕ) (l : List ℕ) (k : Kind) (j : ℕ) → opening f i l ≡ opens k j → (i ≤ j) × (j ≤ i + length l)
 open_moves f i l k j e =
     let r = opening_sound f i l k j e in
     omega (arith, r.place, ap length r.split ∙ length-append r.bytes r.rest)
@@ -67,14 +68,14 @@ body_depth f (suc n) zero i [] hb p q = refl
 body_depth f (suc n) zero i (b ∷ l) hb p q = absurd (omega arith)
 body_depth f (suc n) (suc m) i l hb p q = go (token f i l) refl (λ j. body_depth f n m j (drop (j - i) l) (bytes_drop (j - i) l hb))
   where
-    go : (t : Token) → token f i l ≡ t → ((j : ℕ) → length (drop (j - i) l) ≤ n → length (drop (j - i) l) ≤ m
+    go : (t : Option Token) → token f i l ≡ t → ((j : ℕ) → length (drop (j - i) l) ≤ n → length (drop (j - i) l) ≤ m
         → body f n j (drop (j - i) l) ≡ body f m j (drop (j - i) l)) → body f (suc n) i l ≡ body f (suc m) i l
-    go (Lit c j) t ih =
+    go (Some (Lit c j)) t ih =
         let v = lit_moves f i l c j hb t in
         let w = shorter i j l v.0 v.1 in
         body_lit f n i l c j t ∙ ap (cons_part c) (ih j (omega arith) (omega arith)) ∙ sym (body_lit f m i l c j t)
-    go (Stop j) t ih = body_stop f n i l j t ∙ sym (body_stop f m i l j t)
-    go Bad t ih = body_bad f n i l t ∙ sym (body_bad f m i l t)
+    go (Some (Stop j)) t ih = body_stop f n i l j t ∙ sym (body_stop f m i l j t)
+    go None t ih = body_bad f n i l t ∙ sym (body_bad f m i l t)
 
 -- a step and what may be passed after it
 pub past_moves : (f : Format) (i : ℕ) (l : List ℕ) (j : ℕ) → i ≤ j → j ≤ i + length l → (j ≤ past f i l j) × (past f i l j ≤ i + length l)
@@ -121,7 +122,7 @@ module _ (f : Format) (s : List ℕ) (hb : Bytes s) where
   rest_le : (i : ℕ) → length (drop i s) ≤ length s
   rest_le i = simp length-drop (omega arith)
 
-  pub lit_at : (i : ℕ) → i ≤ length s → (c j : ℕ) → token f i (drop i s) ≡ Lit c j → (body_at f s i ≡ cons_part c (body_at f s j)) × (i < j) × (j ≤ length s)
+  pub lit_at : (i : ℕ) → i ≤ length s → (c j : ℕ) → token f i (drop i s) ≡ Some (Lit c j) → (body_at f s i ≡ cons_part c (body_at f s j)) × (i < j) × (j ≤ length s)
   unfolding body_at
   lit_at i h c j e =
       let v = lit_moves f i (drop i s) c j (bytes_drop i s hb) e in
@@ -133,7 +134,7 @@ module _ (f : Format) (s : List ℕ) (hb : Bytes s) where
         omega (arith, v.1),
       )
 
-  pub stop_at : (i : ℕ) → i ≤ length s → (j : ℕ) → token f i (drop i s) ≡ Stop j → (body_at f s i ≡ whole [] j) × (i < j) × (j ≤ length s)
+  pub stop_at : (i : ℕ) → i ≤ length s → (j : ℕ) → token f i (drop i s) ≡ Some (Stop j) → (body_at f s i ≡ whole [] j) × (i < j) × (j ≤ length s)
   unfolding body_at
   stop_at i h j e =
       let v = stop_moves f i (drop i s) j e in
@@ -144,12 +145,12 @@ module _ (f : Format) (s : List ℕ) (hb : Bytes s) where
         omega (arith, v.1),
       )
 
-  pub bad_at : (i : ℕ) → token f i (drop i s) ≡ Bad → body_at f s i ≡ broken
+  pub bad_at : (i : ℕ) → token f i (drop i s) ≡ None → body_at f s i ≡ broken
   unfolding body_at
   bad_at i e = body_depth f (length s) (suc (length s)) i (drop i s) (bytes_drop i s hb) (rest_le i) (omega (arith, rest_le i))
       ∙ body_bad f (length s) i (drop i s) e
 
-  pub opens_at : (i : ℕ) → i ≤ length s → (k : Kind) (j : ℕ) → opening f i (drop i s) ≡ Opens k j → (step_at f s i ≡ as_step k (body_at f s j)) × (i ≤ j)
+  pub opens_at : (i : ℕ) → i ≤ length s → (k : Kind) (j : ℕ) → opening f i (drop i s) ≡ opens k j → (step_at f s i ≡ as_step k (body_at f s j)) × (i ≤ j)
       × (j ≤ length s)
   unfolding body_at step_at
   opens_at i h k j e =
@@ -164,7 +165,7 @@ module _ (f : Format) (s : List ℕ) (hb : Bytes s) where
         omega (arith, v.1),
       )
 
-  pub wrong_at_lem : (i : ℕ) → opening f i (drop i s) ≡ Wrong → step_at f s i ≡ fault
+  pub wrong_at_lem : (i : ℕ) → opening f i (drop i s) ≡ None → step_at f s i ≡ fault
   unfolding step_at
   wrong_at_lem i e = one_wrong f i (drop i s) e
 

@@ -11,12 +11,13 @@ use Rattle.drat.specs.Reading.{token, opening, Part, whole, broken, cons_part, g
 use Rattle.drat.specs.Filled.{kind_number, codes_of, ends_from, kinds_of, counted, Scan}
 use Rattle.drat.specs.declared.Kind.{Kind}
 use Rattle.drat.specs.declared.Format.{Format}
-use Rattle.drat.specs.declared.Scanned.TheVariants.{Whole, Fault}
-use Rattle.drat.specs.declared.Token.TheVariants.{Lit, Stop, Bad}
-use Rattle.drat.specs.declared.Opening.TheVariants.{Opens, Wrong}
+use Rattle.drat.specs.declared.Token.TheVariants.{Lit, Stop}
 use Rattle.drat.proofs.Sound.{Bytes, steps_fault, steps_part}
 use Rattle.drat.proofs.Places.{body_at, step_at, proof_at, token_at, token_le, lit_at, stop_at, bad_at, opens_at, wrong_at_lem, got_at, fault_at_lem, end_at}
 use Rattle.drat.proofs.Places.{proof_at_zero}
+use Rattle.std.specs.Prelude.{Some, None, Ok, Err}
+use Rattle.drat.specs.Filled.{size}
+use Rattle.drat.specs.Reading.{opens}
 
 -- what was read before, in front of the rest
 unfoldable pub prepend : List ℕ → Part → Part
@@ -113,7 +114,7 @@ inner_start f s codes at n h g = record {
       refl;
 }
 
-pub inner_more : (f : Format) (s codes₀ codes : List ℕ) (at₀ n₀ at n c j : ℕ) → Bytes s → Inner f s codes₀ at₀ n₀ codes at n → token f at (drop at s) ≡ Lit c j
+pub inner_more : (f : Format) (s codes₀ codes : List ℕ) (at₀ n₀ at n c j : ℕ) → Bytes s → Inner f s codes₀ at₀ n₀ codes at n → token f at (drop at s) ≡ Some (Lit c j)
     → Inner f s codes₀ at₀ n₀ (set codes n c) j (n + 1)
 inner_more f s codes₀ codes at₀ n₀ at n c j hb r e =
     let l = lit_at f s hb at r.within c j e in
@@ -144,8 +145,8 @@ outer_start f s codes ends kinds hb = record {
 module _ (f : Format) (s codes₀ ends₀ kinds₀ codes₁ ends kinds : List ℕ) (start n₁ m : ℕ) (hb : Bytes s)
     (o : Outer f s codes₀ ends₀ kinds₀ codes₁ ends kinds start n₁ m) where
   -- a whole step
-  pub outer_more : (k : Kind) (first : ℕ) → opening f start (drop start s) ≡ Opens k first → (codes : List ℕ) (at n j : ℕ)
-      → Inner f s codes₁ first n₁ codes at n → token f at (drop at s) ≡ Stop j
+  pub outer_more : (k : Kind) (first : ℕ) → opening f start (drop start s) ≡ opens k first → (codes : List ℕ) (at n j : ℕ)
+      → Inner f s codes₁ first n₁ codes at n → token f at (drop at s) ≡ Some (Stop j)
       → Outer f s codes₀ ends₀ kinds₀ codes (set ends m n) (set kinds m (kind_number k)) (token_at f s j) n (m + 1)
   unfolding as_step prepend
   outer_more k first e codes at n j r t =
@@ -175,31 +176,31 @@ module _ (f : Format) (s codes₀ ends₀ kinds₀ codes₁ ends kinds : List �
       }
 
   -- a fault: the answer is the step's start
-  stopped : proof_at f s start ≡ fault_at start → (codes ends' kinds' : List ℕ) → Scan f s codes₀ ends₀ kinds₀ codes ends' kinds' (Fault start)
+  stopped : proof_at f s start ≡ fault_at start → (codes ends' kinds' : List ℕ) → Scan f s codes₀ ends₀ kinds₀ codes ends' kinds' (Err start)
   unfolding prepend_steps counted
   stopped e codes ends' kinds' =
       let p : read_proof f s ≡ fault_at start = o.read ∙ ap (prepend_steps o.ss) e in
       record { answer = sym (ap counted p); filled = λ ss q. absurd (steps_fault ss start (sym p ∙ q)) }
 
-  pub outer_wrong : start < length s → opening f start (drop start s) ≡ Wrong → (codes ends' kinds' : List ℕ)
-      → Scan f s codes₀ ends₀ kinds₀ codes ends' kinds' (Fault start)
+  pub outer_wrong : start < length s → opening f start (drop start s) ≡ None → (codes ends' kinds' : List ℕ)
+      → Scan f s codes₀ ends₀ kinds₀ codes ends' kinds' (Err start)
   outer_wrong h e = stopped (fault_at_lem f s hb start h (wrong_at_lem f s hb start e))
 
-  pub outer_bad : start < length s → (k : Kind) (first : ℕ) → opening f start (drop start s) ≡ Opens k first → (codes : List ℕ) (at n : ℕ)
-      → Inner f s codes₁ first n₁ codes at n → token f at (drop at s) ≡ Bad
-      → (codes ends' kinds' : List ℕ) → Scan f s codes₀ ends₀ kinds₀ codes ends' kinds' (Fault start)
+  pub outer_bad : start < length s → (k : Kind) (first : ℕ) → opening f start (drop start s) ≡ opens k first → (codes : List ℕ) (at n : ℕ)
+      → Inner f s codes₁ first n₁ codes at n → token f at (drop at s) ≡ None
+      → (codes ends' kinds' : List ℕ) → Scan f s codes₀ ends₀ kinds₀ codes ends' kinds' (Err start)
   unfolding as_step prepend
   outer_bad h k first e codes at n r t =
       let a = opens_at f s hb start o.within k first e in
       stopped (fault_at_lem f s hb start h (a.0 ∙ ap (as_step k) (r.read ∙ ap (prepend r.ds) (bad_at f s hb at t))))
 
   -- the end: all steps were whole
-  pub outer_end : length s ≤ start → Scan f s codes₀ ends₀ kinds₀ codes₁ ends kinds (Whole n₁ m)
+  pub outer_end : length s ≤ start → Scan f s codes₀ ends₀ kinds₀ codes₁ ends kinds (Ok (size n₁ m))
   unfolding prepend_steps counted
   outer_end h =
       let p : read_proof f s ≡ steps o.ss = o.read ∙ ap (prepend_steps o.ss) (end_at f s hb start h) ∙ ap steps (append-nil o.ss) in
       record {
-        answer = ap₂ Whole o.count.0 o.count.1 ∙ sym (ap counted p);
+        answer = ap₂ (λ (x y : ℕ). Ok (size x y)) o.count.0 o.count.1 ∙ sym (ap counted p);
         filled = λ ss q. let e = steps_part o.ss ss (sym p ∙ q) in (
           o.codes_held ∙ ap (λ (x : List Step). sets codes₀ 0 (codes_of x)) e,
           o.ends_held

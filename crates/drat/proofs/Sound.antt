@@ -20,33 +20,33 @@ use Rattle.drat.specs.declared.Kind.TheVariants.{Add, Delete}
 use Rattle.drat.specs.declared.Format.{Format}
 use Rattle.drat.specs.declared.Format.TheVariants.{Text, Binary}
 use Rattle.drat.specs.declared.Token.{Token}
-use Rattle.drat.specs.declared.Token.TheVariants.{Lit, Stop, Bad}
-use Rattle.drat.specs.declared.Opening.{Opening}
-use Rattle.drat.specs.declared.Opening.TheVariants.{Opens, Wrong}
+use Rattle.drat.specs.declared.Token.TheVariants.{Lit, Stop}
 use Rattle.drat.proofs.Numerals.{in_range_is}
 use Rattle.drat.proofs.Complete.{body_lit, body_stop, body_bad, one_opens, one_wrong, steps_got, steps_not, rest_past}
 use Rattle.drat.proofs.Separators.{is_sep, nothing_lead, lead_split, split_rest, some_gap, spells_lead}
+use Rattle.std.specs.Prelude.{Option, Some, None}
+use Rattle.drat.specs.Reading.{opens}
 
 abbrev pub Bytes : List ℕ → Type 0
 Bytes l = (k : ℕ) → get_or l k 0 < 256
 
 -- where the result is no fault, the test for a fault failed
-pub not_bad : (t : Bool) (y z : Token) → (z ≡ Bad → ⊥) → pick t Bad y ≡ z → (t ≡ false) × (y ≡ z)
+pub not_bad : (t : Bool) (y z : Option Token) → (z ≡ None → ⊥) → pick t None y ≡ z → (t ≡ false) × (y ≡ z)
 not_bad true y z h e = absurd (h (sym e))
 not_bad false y z h e = (refl, e)
 
-pub lit_bad : (c j : ℕ) → Lit c j ≡ Bad → ⊥
+pub lit_bad : (c j : ℕ) → Some (Lit c j) ≡ None → ⊥
 lit_bad c j e = let z : ◌≡◌ {A = ℕ} 0 1 = cc in omega arith
 
-pub stop_bad : (j : ℕ) → Stop j ≡ Bad → ⊥
+pub stop_bad : (j : ℕ) → Some (Stop j) ≡ None → ⊥
 stop_bad j e = let z : ◌≡◌ {A = ℕ} 0 1 = cc in omega arith
 
-pub lit_stop : (c i j : ℕ) → Lit c i ≡ Stop j → ⊥
+pub lit_stop : (c i j : ℕ) → Some (Lit c i) ≡ Some (Stop j) → ⊥
 lit_stop c i j e = let z : ◌≡◌ {A = ℕ} 0 1 = cc in omega arith
 
 -- a test for a fault failed, where a literal was read
-pub passed : (t : Bool) (y : Token) (c j : ℕ) → pick t Bad y ≡ Lit c j → (t ≡ false) × (y ≡ Lit c j)
-passed t y c j e = not_bad t y (Lit c j) (lit_bad c j) e
+pub passed : (t : Bool) (y : Option Token) (c j : ℕ) → pick t None y ≡ Some (Lit c j) → (t ≡ false) × (y ≡ Some (Lit c j))
+passed t y c j e = not_bad t y (Some (Lit c j)) (lit_bad c j) e
 
 -- the digits read so far
 data Sofar : List ℕ → ℕ → Type 0 where
@@ -72,27 +72,26 @@ record DigitsRead (sign i : ℕ) (p l : List ℕ) (c j : ℕ) : Type 0 where
   is_code : c ≡ 2 * index + sign
   place : j ≡ i + length digits
 
-pub lit_parts : (a b c d : ℕ) → Lit a b ≡ Lit c d → (a ≡ c) × (b ≡ d)
+pub lit_parts : (a b c d : ℕ) → Some (Lit a b) ≡ Some (Lit c d) → (a ≡ c) × (b ≡ d)
 lit_parts a b c d e = (cc, cc)
 
-run_sound : (sign i : ℕ) (p l : List ℕ) (v c j : ℕ) → Sofar p v → v ≤ 4096 → numbered sign v i ≡ Lit c j → DigitsRead sign i p l c j
+run_sound : (sign i : ℕ) (p l : List ℕ) (v c j : ℕ) → Sofar p v → v ≤ 4096 → numbered sign v i ≡ Some (Lit c j) → DigitsRead sign i p l c j
 run_sound sign i p l v c j s h e =
-    let z = passed (eqb v 0) (Lit (2 * (v - 1) + sign) i) c j e in
+    let z = passed (eqb v 0) (Some (Lit (2 * (v - 1) + sign) i)) c j e in
     let nz = eqb-false v 0 z.0 in
     let q = lit_parts (2 * (v - 1) + sign) i c j z.1 in
     let n : Numeral decimal (p ++ []) (v - 1 + 1) =
     subst₂ (λ (x : List ℕ) (y : ℕ). Numeral decimal x y) (sym (append-nil p)) (omega arith) (sofar_some s (omega arith)) in
     record { digits = []; rest = l; index = v - 1; split = refl; spelled = n; small = omega arith; is_code = sym q.0; place = omega arith }
 
-digits_sound : (sign : ℕ) (l : List ℕ) (v i c j : ℕ) (p : List ℕ) → Sofar p v → v ≤ 4096 → digits_from sign v i l ≡ Lit c j → DigitsRead sign i p l c j
+digits_sound : (sign : ℕ) (l : List ℕ) (v i c j : ℕ) (p : List ℕ) → Sofar p v → v ≤ 4096 → digits_from sign v i l ≡ Some (Lit c j) → DigitsRead sign i p l c j
 unfolding digits_from
 digits_sound sign [] v i c j p s h e = run_sound sign i p [] v c j s h e
 digits_sound sign (b ∷ l) v i c j p s h e = go (digit b) refl e (digits_sound sign l (with_digit v b) (i + 1) c j)
   where
     go : (t : Bool) → digit b ≡ t
-        → pick t (pick (eqb (with_digit v b) 0) Bad (pick (ltb 4096 (with_digit v b)) Bad (digits_from sign (with_digit v b) (i + 1) l))) (numbered sign v i) ≡ Lit
-        c j
-        → ((q : List ℕ) → Sofar q (with_digit v b) → with_digit v b ≤ 4096 → digits_from sign (with_digit v b) (i + 1) l ≡ Lit c j
+        → pick t (pick (eqb (with_digit v b) 0) None (pick (ltb 4096 (with_digit v b)) None (digits_from sign (with_digit v b) (i + 1) l))) (numbered sign v i) ≡ Some (Lit c j)
+        → ((q : List ℕ) → Sofar q (with_digit v b) → with_digit v b ≤ 4096 → digits_from sign (with_digit v b) (i + 1) l ≡ Some (Lit c j)
         → DigitsRead sign (i + 1) q l c j)
         → DigitsRead sign i p (b ∷ l) c j
     go true t e ih =
@@ -125,12 +124,12 @@ pub record SignedRead (i : ℕ) (l : List ℕ) (c j : ℕ) : Type 0 where
   pub spelled : Signed bytes c
   pub place : j ≡ i + length bytes
 
-pub signed_sound : (i : ℕ) (l : List ℕ) (c j : ℕ) → signed_from i l ≡ Lit c j → SignedRead i l c j
+pub signed_sound : (i : ℕ) (l : List ℕ) (c j : ℕ) → signed_from i l ≡ Some (Lit c j) → SignedRead i l c j
 unfolding signed_from
 signed_sound i [] c j e = absurd (lit_bad c j (sym e))
 signed_sound i (b ∷ l) c j e = go (eqb b 45) refl e
   where
-    go : (t : Bool) → eqb b 45 ≡ t → pick t (digits_from 1 0 (i + 1) l) (digits_from 0 0 i (b ∷ l)) ≡ Lit c j → SignedRead i (b ∷ l) c j
+    go : (t : Bool) → eqb b 45 ≡ t → pick t (digits_from 1 0 (i + 1) l) (digits_from 0 0 i (b ∷ l)) ≡ Some (Lit c j) → SignedRead i (b ∷ l) c j
     go true t e =
         let r = digits_sound 1 l 0 (i + 1) c j [] start (omega arith) e in
         record {
@@ -146,17 +145,17 @@ signed_sound i (b ∷ l) c j e = go (eqb b 45) refl e
         record { bytes = r.digits; rest = r.rest; split = r.split; spelled = subst (Signed r.digits) ec (plus r.small r.spelled); place = r.place }
 
 -- with the separators after it
-gap_read : (i : ℕ) (l : List ℕ) (t : Token) (c j : ℕ) → then_gap i l t ≡ Lit c j
-    → (k : ℕ) × (t ≡ Lit c k) × (j ≡ past Text i l k) × (sep (get_or l (k - i) 0) ≡ true)
+gap_read : (i : ℕ) (l : List ℕ) (t : Option Token) (c j : ℕ) → then_gap i l t ≡ Some (Lit c j)
+    → (k : ℕ) × (t ≡ Some (Lit c k)) × (j ≡ past Text i l k) × (sep (get_or l (k - i) 0) ≡ true)
 unfolding then_gap
-gap_read i l (Lit d k) c j e = go (sep (get_or l (k - i) 0)) refl e
+gap_read i l (Some (Lit d k)) c j e = go (sep (get_or l (k - i) 0)) refl e
   where
-    go : (u : Bool) → sep (get_or l (k - i) 0) ≡ u → pick u (Lit d (past Text i l k)) Bad ≡ Lit c j
-        → (k' : ℕ) × (Lit d k ≡ Lit c k') × (j ≡ past Text i l k') × (sep (get_or l (k' - i) 0) ≡ true)
-    go true u e = let q = lit_parts d (past Text i l k) c j e in (k, ap (λ (x : ℕ). Lit x k) q.0, sym q.1, u)
+    go : (u : Bool) → sep (get_or l (k - i) 0) ≡ u → pick u (Some (Lit d (past Text i l k))) None ≡ Some (Lit c j)
+        → (k' : ℕ) × (Some (Lit d k) ≡ Some (Lit c k')) × (j ≡ past Text i l k') × (sep (get_or l (k' - i) 0) ≡ true)
+    go true u e = let q = lit_parts d (past Text i l k) c j e in (k, ap (λ (x : ℕ). Some (Lit x k)) q.0, sym q.1, u)
     go false u e = absurd (lit_bad c j (sym e))
-gap_read i l (Stop k) c j e = absurd (lit_bad c j (sym e))
-gap_read i l Bad c j e = absurd (lit_bad c j (sym e))
+gap_read i l (Some (Stop k)) c j e = absurd (lit_bad c j (sym e))
+gap_read i l None c j e = absurd (lit_bad c j (sym e))
 
 pub first_is : (l : List ℕ) (b : ℕ) → 0 < b → get_or l 0 0 ≡ b → (m : List ℕ) × (l ≡ b ∷ m)
 first_is [] b h e = absurd (omega arith)
@@ -176,15 +175,15 @@ record LebRead (v w i : ℕ) (l : List ℕ) (c j : ℕ) : Type 0 where
   small : v + w * number ≤ 8193
   place : j ≡ i + length bytes
 
-leb_sound : (l : List ℕ) (v w i c j : ℕ) → Bytes l → leb_from v w i l ≡ Lit c j → LebRead v w i l c j
+leb_sound : (l : List ℕ) (v w i c j : ℕ) → Bytes l → leb_from v w i l ≡ Some (Lit c j) → LebRead v w i l c j
 unfolding leb_from
 leb_sound [] v w i c j hb e = absurd (lit_bad c j (sym e))
 leb_sound (b ∷ l) v w i c j hb e = go (ltb b 128) refl e (leb_sound l (v + w * (b - 128)) (w * 128) (i + 1) c j (λ k. hb (suc k)))
   where
     go : (t : Bool) → ltb b 128 ≡ t
-        → pick t (pick (eqb b 0) Bad (pick (ltb (v + w * b) 2) Bad (pick (ltb 8193 (v + w * b)) Bad (Lit (v + w * b - 2) (i + 1)))))
-        (pick (ltb 64 w) Bad (leb_from (v + w * (b - 128)) (w * 128) (i + 1) l)) ≡ Lit c j
-        → (leb_from (v + w * (b - 128)) (w * 128) (i + 1) l ≡ Lit c j → LebRead (v + w * (b - 128)) (w * 128) (i + 1) l c j)
+        → pick t (pick (eqb b 0) None (pick (ltb (v + w * b) 2) None (pick (ltb 8193 (v + w * b)) None (Some (Lit (v + w * b - 2) (i + 1))))))
+        (pick (ltb 64 w) None (leb_from (v + w * (b - 128)) (w * 128) (i + 1) l)) ≡ Some (Lit c j)
+        → (leb_from (v + w * (b - 128)) (w * 128) (i + 1) l ≡ Some (Lit c j) → LebRead (v + w * (b - 128)) (w * 128) (i + 1) l c j)
         → LebRead v w i (b ∷ l) c j
     go true t e ih =
         let z₁ = passed (eqb b 0) _ c j e in
@@ -230,17 +229,17 @@ pub record LitRead (f : Format) (i : ℕ) (l : List ℕ) (c j : ℕ) : Type 0 wh
   pub spelled : Number f bytes c
   pub place : j ≡ i + length bytes
 
-pub close_no_lit : (i : ℕ) (l : List ℕ) (c j : ℕ) → close_from i l ≡ Lit c j → ⊥
+pub close_no_lit : (i : ℕ) (l : List ℕ) (c j : ℕ) → close_from i l ≡ Some (Lit c j) → ⊥
 unfolding close_from
 close_no_lit i [] c j e = lit_stop c j i (sym e)
 close_no_lit i (b ∷ l) c j e = go (sep b) e
   where
-    go : (t : Bool) → pick t (Stop i) Bad ≡ Lit c j → ⊥
+    go : (t : Bool) → pick t (Some (Stop i)) None ≡ Some (Lit c j) → ⊥
     go true e = lit_stop c j i (sym e)
     go false e = lit_bad c j (sym e)
 
 -- a number and its separators
-spaced_sound : (i : ℕ) (l : List ℕ) (c j : ℕ) → then_gap i l (signed_from i l) ≡ Lit c j → LitRead Text i l c j
+spaced_sound : (i : ℕ) (l : List ℕ) (c j : ℕ) → then_gap i l (signed_from i l) ≡ Some (Lit c j) → LitRead Text i l c j
 spaced_sound i l c j e =
     let q = gap_read i l (signed_from i l) c j e in
     let k = q.0 in
@@ -258,18 +257,18 @@ spaced_sound i l c j e =
       place = simp length-append (omega (arith, r.place, q.2, ap seps d, t.size));
     }
 
-pub token_sound : (f : Format) (i : ℕ) (l : List ℕ) (c j : ℕ) → Bytes l → token f i l ≡ Lit c j → LitRead f i l c j
+pub token_sound : (f : Format) (i : ℕ) (l : List ℕ) (c j : ℕ) → Bytes l → token f i l ≡ Some (Lit c j) → LitRead f i l c j
 unfolding token
 token_sound Text i [] c j hb e = absurd (lit_bad c j (sym e))
 token_sound Text i (b ∷ l) c j hb e = go (eqb b 48) e
   where
-    go : (t : Bool) → pick t (close_from (i + 1) l) (then_gap i (b ∷ l) (signed_from i (b ∷ l))) ≡ Lit c j → LitRead Text i (b ∷ l) c j
+    go : (t : Bool) → pick t (close_from (i + 1) l) (then_gap i (b ∷ l) (signed_from i (b ∷ l))) ≡ Some (Lit c j) → LitRead Text i (b ∷ l) c j
     go true e = absurd (close_no_lit (i + 1) l c j e)
     go false e = spaced_sound i (b ∷ l) c j e
 token_sound Binary i [] c j hb e = absurd (lit_bad c j (sym e))
 token_sound Binary i (b ∷ l) c j hb e = go (eqb b 0) e
   where
-    go : (t : Bool) → pick t (Stop (i + 1)) (leb_from 0 1 i (b ∷ l)) ≡ Lit c j → LitRead Binary i (b ∷ l) c j
+    go : (t : Bool) → pick t (Some (Stop (i + 1))) (leb_from 0 1 i (b ∷ l)) ≡ Some (Lit c j) → LitRead Binary i (b ∷ l) c j
     go true e = absurd (lit_stop c j (i + 1) (sym e))
     go false e =
         let r = leb_sound (b ∷ l) 0 1 i c j hb e in
@@ -284,30 +283,30 @@ token_sound Binary i (b ∷ l) c j hb e = go (eqb b 0) e
         }
 
 -- a step's end that was read
-gap_no_stop : (i : ℕ) (l : List ℕ) (t : Token) (j : ℕ) → then_gap i l t ≡ Stop j → ⊥
+gap_no_stop : (i : ℕ) (l : List ℕ) (t : Option Token) (j : ℕ) → then_gap i l t ≡ Some (Stop j) → ⊥
 unfolding then_gap
-gap_no_stop i l (Lit c k) j e = go (sep (get_or l (k - i) 0)) e
+gap_no_stop i l (Some (Lit c k)) j e = go (sep (get_or l (k - i) 0)) e
   where
-    go : (u : Bool) → pick u (Lit c (past Text i l k)) Bad ≡ Stop j → ⊥
+    go : (u : Bool) → pick u (Some (Lit c (past Text i l k))) None ≡ Some (Stop j) → ⊥
     go true e = lit_stop c (past Text i l k) j e
     go false e = stop_bad j (sym e)
-gap_no_stop i l (Stop k) j e = stop_bad j (sym e)
-gap_no_stop i l Bad j e = stop_bad j (sym e)
+gap_no_stop i l (Some (Stop k)) j e = stop_bad j (sym e)
+gap_no_stop i l None j e = stop_bad j (sym e)
 
-leb_no_stop : (l : List ℕ) (v w i j : ℕ) → leb_from v w i l ≡ Stop j → ⊥
+leb_no_stop : (l : List ℕ) (v w i j : ℕ) → leb_from v w i l ≡ Some (Stop j) → ⊥
 unfolding leb_from
 leb_no_stop [] v w i j e = stop_bad j (sym e)
 leb_no_stop (b ∷ l) v w i j e = go (ltb b 128) e (leb_no_stop l (v + w * (b - 128)) (w * 128) (i + 1) j)
   where
     go : (t : Bool)
-        → pick t (pick (eqb b 0) Bad (pick (ltb (v + w * b) 2) Bad (pick (ltb 8193 (v + w * b)) Bad (Lit (v + w * b - 2) (i + 1)))))
-        (pick (ltb 64 w) Bad (leb_from (v + w * (b - 128)) (w * 128) (i + 1) l)) ≡ Stop j
-        → (leb_from (v + w * (b - 128)) (w * 128) (i + 1) l ≡ Stop j → ⊥) → ⊥
+        → pick t (pick (eqb b 0) None (pick (ltb (v + w * b) 2) None (pick (ltb 8193 (v + w * b)) None (Some (Lit (v + w * b - 2) (i + 1))))))
+        (pick (ltb 64 w) None (leb_from (v + w * (b - 128)) (w * 128) (i + 1) l)) ≡ Some (Stop j)
+        → (leb_from (v + w * (b - 128)) (w * 128) (i + 1) l ≡ Some (Stop j) → ⊥) → ⊥
     go true e ih =
-        let z₁ = not_bad (eqb b 0) _ (Stop j) (stop_bad j) e in
-        let z₂ = not_bad (ltb (v + w * b) 2) _ (Stop j) (stop_bad j) z₁.1 in
-        lit_stop _ _ j (not_bad (ltb 8193 (v + w * b)) _ (Stop j) (stop_bad j) z₂.1).1
-    go false e ih = ih (not_bad (ltb 64 w) _ (Stop j) (stop_bad j) e).1
+        let z₁ = not_bad (eqb b 0) _ (Some (Stop j)) (stop_bad j) e in
+        let z₂ = not_bad (ltb (v + w * b) 2) _ (Some (Stop j)) (stop_bad j) z₁.1 in
+        lit_stop _ _ j (not_bad (ltb 8193 (v + w * b)) _ (Some (Stop j)) (stop_bad j) z₂.1).1
+    go false e ih = ih (not_bad (ltb 64 w) _ (Some (Stop j)) (stop_bad j) e).1
 
 pub record EndRead (f : Format) (i : ℕ) (l : List ℕ) (j : ℕ) : Type 0 where
   pub rest : List ℕ
@@ -315,24 +314,24 @@ pub record EndRead (f : Format) (i : ℕ) (l : List ℕ) (j : ℕ) : Type 0 wher
   pub free : Free f rest
   pub place : j ≡ i + length (stop f)
 
-pub stop_part : (i j : ℕ) → Stop i ≡ Stop j → i ≡ j
+pub stop_part : (i j : ℕ) → Some (Stop i) ≡ Some (Stop j) → i ≡ j
 stop_part i j e = cc
 
-close_sound : (i : ℕ) (l : List ℕ) (j : ℕ) → close_from i l ≡ Stop j → Free Text l × (j ≡ i)
+close_sound : (i : ℕ) (l : List ℕ) (j : ℕ) → close_from i l ≡ Some (Stop j) → Free Text l × (j ≡ i)
 unfolding close_from
 close_sound i [] j e = (at_end, sym (stop_part i j e))
 close_sound i (b ∷ l) j e = go (sep b) refl e
   where
-    go : (t : Bool) → sep b ≡ t → pick t (Stop i) Bad ≡ Stop j → Free Text (b ∷ l) × (j ≡ i)
+    go : (t : Bool) → sep b ≡ t → pick t (Some (Stop i)) None ≡ Some (Stop j) → Free Text (b ∷ l) × (j ≡ i)
     go true t e = (at_sep (is_sep b t), sym (stop_part i j e))
     go false t e = absurd (stop_bad j (sym e))
 
-pub token_stop : (f : Format) (i : ℕ) (l : List ℕ) (j : ℕ) → token f i l ≡ Stop j → EndRead f i l j
+pub token_stop : (f : Format) (i : ℕ) (l : List ℕ) (j : ℕ) → token f i l ≡ Some (Stop j) → EndRead f i l j
 unfolding token
 token_stop Text i [] j e = absurd (stop_bad j (sym e))
 token_stop Text i (b ∷ l) j e = go (eqb b 48) refl e
   where
-    go : (t : Bool) → eqb b 48 ≡ t → pick t (close_from (i + 1) l) (then_gap i (b ∷ l) (signed_from i (b ∷ l))) ≡ Stop j → EndRead Text i (b ∷ l) j
+    go : (t : Bool) → eqb b 48 ≡ t → pick t (close_from (i + 1) l) (then_gap i (b ∷ l) (signed_from i (b ∷ l))) ≡ Some (Stop j) → EndRead Text i (b ∷ l) j
     go true h e =
         let r = close_sound (i + 1) l j e in
         record { rest = l; split = ap (λ (x : ℕ). x ∷ l) (eqb-true b 48 h); free = r.0; place = r.1 }
@@ -340,7 +339,7 @@ token_stop Text i (b ∷ l) j e = go (eqb b 48) refl e
 token_stop Binary i [] j e = absurd (stop_bad j (sym e))
 token_stop Binary i (b ∷ l) j e = go (eqb b 0) refl e
   where
-    go : (t : Bool) → eqb b 0 ≡ t → pick t (Stop (i + 1)) (leb_from 0 1 i (b ∷ l)) ≡ Stop j → EndRead Binary i (b ∷ l) j
+    go : (t : Bool) → eqb b 0 ≡ t → pick t (Some (Stop (i + 1))) (leb_from 0 1 i (b ∷ l)) ≡ Some (Stop j) → EndRead Binary i (b ∷ l) j
     go true h e = record { rest = l; split = ap (λ (x : ℕ). x ∷ l) (eqb-true b 0 h); free = any_byte; place = sym (stop_part (i + 1) j e) }
     go false h e = absurd (leb_no_stop (b ∷ l) 0 1 i j e)
 
@@ -352,41 +351,43 @@ pub record OpenRead (f : Format) (i : ℕ) (l : List ℕ) (k : Kind) (j : ℕ) :
   pub begins : Begins f k bytes
   pub place : j ≡ i + length bytes
 
-pub opens_wrong : (k : Kind) (j : ℕ) → Opens k j ≡ Wrong → ⊥
+pub opens_wrong : (k : Kind) (j : ℕ) → opens k j ≡ None → ⊥
 opens_wrong k j e = let z : ◌≡◌ {A = ℕ} 0 1 = cc in omega arith
 
-opens_parts : (a b : Kind) (i j : ℕ) → Opens a i ≡ Opens b j → (a ≡ b) × (i ≡ j)
-opens_parts a b i j e = (cc, cc)
+opens_parts : (a b : Kind) (i j : ℕ) → opens a i ≡ opens b j → (a ≡ b) × (i ≡ j)
+opens_parts a b i j e =
+    let z : ◌≡◌ {A = Kind × ℕ} (a, i) (b, j) = cc in
+    (ap (λ (w : Kind × ℕ). w.0) z, ap (λ (w : Kind × ℕ). w.1) z)
 
 open_at : (f : Format) (i : ℕ) (l : List ℕ) (a k : Kind) (i' j : ℕ) (bs rest : List ℕ) → l ≡ bs ++ rest → Begins f a bs → i' ≡ i + length bs
-    → Opens a i' ≡ Opens k j → OpenRead f i l k j
+    → opens a i' ≡ opens k j → OpenRead f i l k j
 open_at f i l a k i' j bs rest s b p e =
     let q = opens_parts a k i' j e in
     record { bytes = bs; rest = rest; split = s; begins = subst (λ (x : Kind). Begins f x bs) q.0 b; place = sym q.1 ∙ p }
 
-gap_sound : (i : ℕ) (l : List ℕ) (k : Kind) (j : ℕ) → gap_from (i + 1) l ≡ Opens k j → OpenRead Text i (100 ∷ l) k j
+gap_sound : (i : ℕ) (l : List ℕ) (k : Kind) (j : ℕ) → gap_from (i + 1) l ≡ opens k j → OpenRead Text i (100 ∷ l) k j
 unfolding gap_from
 gap_sound i l k j e = go (sep (get_or l 0 0)) refl e
   where
-    go : (t : Bool) → sep (get_or l 0 0) ≡ t → pick t (Opens Delete (i + 1 + seps l)) Wrong ≡ Opens k j → OpenRead Text i (100 ∷ l) k j
+    go : (t : Bool) → sep (get_or l 0 0) ≡ t → pick t (opens Delete (i + 1 + seps l)) None ≡ opens k j → OpenRead Text i (100 ∷ l) k j
     go true h e =
         let t = lead_split Text l in
         open_at Text i (100 ∷ l) Delete k (i + 1 + seps l) j (100 ∷ t.front) t.rest (ap (λ (m : List ℕ). 100 ∷ m) t.split) (dee (some_gap l t h))
         (omega (arith, t.size)) e
     go false h e = absurd (opens_wrong k j (sym e))
 
-pub opening_sound : (f : Format) (i : ℕ) (l : List ℕ) (k : Kind) (j : ℕ) → opening f i l ≡ Opens k j → OpenRead f i l k j
+pub opening_sound : (f : Format) (i : ℕ) (l : List ℕ) (k : Kind) (j : ℕ) → opening f i l ≡ opens k j → OpenRead f i l k j
 unfolding opening
 opening_sound Text i [] k j e = absurd (opens_wrong k j (sym e))
 opening_sound Binary i [] k j e = absurd (opens_wrong k j (sym e))
 opening_sound Text i (b ∷ l) k j e = go (eqb b 100) refl e
   where
-    go : (t : Bool) → eqb b 100 ≡ t → pick t (gap_from (i + 1) l) (Opens Add i) ≡ Opens k j → OpenRead Text i (b ∷ l) k j
+    go : (t : Bool) → eqb b 100 ≡ t → pick t (gap_from (i + 1) l) (opens Add i) ≡ opens k j → OpenRead Text i (b ∷ l) k j
     go true h e = subst (λ (x : ℕ). OpenRead Text i (x ∷ l) k j) (sym (eqb-true b 100 h)) (gap_sound i l k j e)
     go false h e = open_at Text i (b ∷ l) Add k i j [] (b ∷ l) refl bare (omega arith) e
 opening_sound Binary i (b ∷ l) k j e = go (eqb b 97) refl (eqb b 100) refl e
   where
-    go : (t : Bool) → eqb b 97 ≡ t → (u : Bool) → eqb b 100 ≡ u → pick t (Opens Add (i + 1)) (pick u (Opens Delete (i + 1)) Wrong) ≡ Opens k j
+    go : (t : Bool) → eqb b 97 ≡ t → (u : Bool) → eqb b 100 ≡ u → pick t (opens Add (i + 1)) (pick u (opens Delete (i + 1)) None) ≡ opens k j
         → OpenRead Binary i (b ∷ l) k j
     go true h u g e = open_at Binary i (b ∷ l) Add k (i + 1) j (97 ∷ []) l (ap (λ (x : ℕ). x ∷ l) (eqb-true b 97 h)) letter_a refl e
     go false h true g e = open_at Binary i (b ∷ l) Delete k (i + 1) j (100 ∷ []) l (ap (λ (x : ℕ). x ∷ l) (eqb-true b 100 g)) letter_d refl e
@@ -421,9 +422,9 @@ unfolding body
 body_sound f zero i l cs j hb e = absurd (broken_whole cs j e)
 body_sound f (suc n) i l cs j hb e = go (token f i l) refl (λ m i' ds h. body_sound f n i' m ds j h)
   where
-    go : (t : Token) → token f i l ≡ t → ((m : List ℕ) (i' : ℕ) (ds : List ℕ) → Bytes m → body f n i' m ≡ whole ds j → BodyRead f i' m ds j)
+    go : (t : Option Token) → token f i l ≡ t → ((m : List ℕ) (i' : ℕ) (ds : List ℕ) → Bytes m → body f n i' m ≡ whole ds j → BodyRead f i' m ds j)
         → BodyRead f i l cs j
-    go (Lit c i') t ih =
+    go (Some (Lit c i')) t ih =
         let r = token_sound f i l c i' hb t in
         let q = cons_part_lem c (body f n i' (drop (i' - i) l)) cs j (sym (body_lit f n i l c i' t) ∙ e) in
         let d = rest_is i i' l r.bytes r.rest r.split r.place in
@@ -436,7 +437,7 @@ body_sound f (suc n) i l cs j hb e = go (token f i l) refl (λ m i' ds h. body_s
           free = b.free;
           place = simp length-append (omega (arith, r.place, b.place));
         }
-    go (Stop i') t ih =
+    go (Some (Stop i')) t ih =
         let r = token_stop f i l i' t in
         let q = whole_parts [] cs i' j (sym (body_stop f n i l i' t) ∙ e) in
         record {
@@ -448,7 +449,7 @@ body_sound f (suc n) i l cs j hb e = go (token f i l) refl (λ m i' ds h. body_s
           place =
               sym q.1 ∙ r.place;
         }
-    go Bad t ih = absurd (broken_whole cs j (sym (body_bad f n i l t) ∙ e))
+    go None t ih = absurd (broken_whole cs j (sym (body_bad f n i l t) ∙ e))
 
 pub record StepRead (f : Format) (i : ℕ) (l : List ℕ) (s : Step) (j : ℕ) : Type 0 where
   pub front : List ℕ
@@ -475,8 +476,8 @@ pub step_sound : (f : Format) (i : ℕ) (l : List ℕ) (s : Step) (j : ℕ) → 
 unfolding one_step
 step_sound f i l s j hb e = go (opening f i l) refl
   where
-    go : (o : Opening) → opening f i l ≡ o → StepRead f i l s j
-    go (Opens k i') o =
+    go : (o : Option (Kind × ℕ)) → opening f i l ≡ o → StepRead f i l s j
+    go (Some (k, i')) o =
         let r = opening_sound f i l k i' o in
         let q = as_step_lem k (body f (length l) i' (drop (i' - i) l)) s j (sym (one_opens f i l k i' o) ∙ e) in
         let d = rest_is i i' l r.bytes r.rest r.split r.place in
@@ -493,7 +494,7 @@ step_sound f i l s j hb e = go (opening f i l) refl
           free = b.free;
           place = simp length-append (omega (arith, r.place, b.place));
         })
-    go Wrong o = absurd (fault_got s j (sym (one_wrong f i l o) ∙ e))
+    go None o = absurd (fault_got s j (sym (one_wrong f i l o) ∙ e))
 
 pub steps_fault : (ss : List Step) (i : ℕ) → fault_at i ≡ steps ss → ⊥
 steps_fault ss i e = let z : ◌≡◌ {A = ℕ} 0 1 = cc in omega arith

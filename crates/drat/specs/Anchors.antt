@@ -8,8 +8,10 @@ use Rattle.drat.specs.Writing.{Writing, write_clause_of, wrote}
 use Rattle.drat.specs.Listed.{write_all_of}
 use Rattle.drat.specs.declared.Format.TheVariants.{Text, Binary}
 use Rattle.drat.specs.declared.Kind.TheVariants.{Add, Delete}
-use Rattle.drat.specs.declared.Read.TheVariants.{Filled, Broken, Short}
+use Rattle.drat.specs.declared.ReadError.TheVariants.{NotWhole, Room}
 use Rattle.drat.specs.declared.Wrote.TheVariants.{Done, Outside, Lacking}
+use Rattle.std.specs.Prelude.{Ok, Err}
+use Rattle.drat.specs.Filled.{size}
 
 -- What is looked at: bytes, an answer, what Read fills, what a writing call fills.
 pub data Seen : Type 0 where
@@ -206,9 +208,9 @@ firsts =
 -- The numbers of the answers: literals and steps; 13 and the place; 2. The place after what was written; 3; 2.
 abbrev pub answer_rows : List CodecRow
 answer_rows =
-    answer (read (Filled 5 2)) is answer (accepted (5 ∷ 2 ∷ []))
-    ∷ answer (read (Broken 4)) is answer (refused 13 (4 ∷ []))
-    ∷ answer (read Short) is answer (refused 2 [])
+    answer (read (Ok (size 5 2))) is answer (accepted (5 ∷ 2 ∷ []))
+    ∷ answer (read (Err (NotWhole 4))) is answer (refused 13 (4 ∷ []))
+    ∷ answer (read (Err Room)) is answer (refused 2 [])
     ∷ answer (wrote (Done 7)) is answer (accepted (7 ∷ []))
     ∷ answer (wrote Outside) is answer (refused 3 [])
     ∷ answer (wrote Lacking) is answer (refused 2 [])

@@ -6,13 +6,17 @@ use Rattle.base.specs.Answer.{Answer, accepted, refused}
 use Rattle.drat.specs.Grammar.{Step}
 use Rattle.drat.specs.Reading.{lead, One, got, fault, one_step, Proof, steps, fault_at, read_proof}
 use Rattle.drat.specs.Writing.{part}
-use Rattle.drat.specs.declared.Read.{Read}
-use Rattle.drat.specs.declared.Read.TheVariants.{Filled, Broken, Short}
+use Rattle.drat.specs.declared.ReadError.{ReadError}
+use Rattle.drat.specs.declared.ReadError.TheVariants.{NotWhole, Room}
 use Rattle.drat.specs.declared.Kind.{Kind}
 use Rattle.drat.specs.declared.Kind.TheVariants.{Add, Delete}
 use Rattle.drat.specs.declared.Format.{Format}
-use Rattle.drat.specs.declared.Scanned.{Scanned}
-use Rattle.drat.specs.declared.Scanned.TheVariants.{Whole, Fault}
+use Rattle.std.specs.Prelude.{Result, Ok, Err}
+use Rattle.drat.specs.declared.Size.{Size}
+
+-- So many literals and steps.
+abbrev pub size : ℕ → ℕ → Size
+size n m = record { lits = n; steps = m }
 
 -- The three lists that steps fill: all literal codes in a row, where each step ends in that row, and a kind for each step.
 abbrev pub kind_number : Kind → ℕ
@@ -55,14 +59,14 @@ answer_of (steps ss) a b c = pick (ltb a (length (codes_of ss)) || ltb b (length
 abbrev pub read_of : Format → List ℕ → ℕ → ℕ → ℕ → Filling
 read_of f s a b c = answer_of (read_proof f s) a b c
 
--- The answer's enum: the numbers of literals and of steps; 13 and the place; 2.
-abbrev pub read : Read → Answer
-read (Filled n m) = accepted (n ∷ m ∷ [])
-read (Broken p) = refused 13 (p ∷ [])
-read Short = refused 2 []
+-- What the call returns: the numbers of literals and of steps; 13 and the place; 2.
+abbrev pub read : Result Size ReadError → Answer
+read (Ok w) = accepted (w.lits ∷ w.steps ∷ [])
+read (Err (NotWhole p)) = refused 13 (p ∷ [])
+read (Err Room) = refused 2 []
 
 -- A call of the reader: its answer and the three slices, before (₀) and after.
-pub record ReadCall (f : Format) (s codes₀ ends₀ kinds₀ codes ends kinds : List ℕ) (r : Read) : Type 0 where
+pub record ReadCall (f : Format) (s codes₀ ends₀ kinds₀ codes ends kinds : List ℕ) (r : Result Size ReadError) : Type 0 where
   pub answer : read r ≡ (read_of f s (length codes₀) (length ends₀) (length kinds₀)).answer
   pub codes_after : codes ≡ sets codes₀ 0 (read_of f s (length codes₀) (length ends₀) (length kinds₀)).codes
   pub ends_after : ends ≡ sets ends₀ 0 (read_of f s (length codes₀) (length ends₀) (length kinds₀)).ends
@@ -95,12 +99,12 @@ first i (b ∷ bs) = accepted (b ∷ bs)
 -- ---- one scan, which stores where there is room
 
 -- the number of literals and of steps, or the start of the first step that is not whole
-unfoldable pub counted : Proof → Scanned
-counted (steps ss) = Whole (length (codes_of ss)) (length ss)
-counted (fault_at i) = Fault i
+unfoldable pub counted : Proof → Result Size ℕ
+counted (steps ss) = Ok (size (length (codes_of ss)) (length ss))
+counted (fault_at i) = Err i
 
 -- its answer, and, where all is whole, what the three slices hold
-pub record Scan (f : Format) (s codes₀ ends₀ kinds₀ codes ends kinds : List ℕ) (r : Scanned) : Type 0 where
+pub record Scan (f : Format) (s codes₀ ends₀ kinds₀ codes ends kinds : List ℕ) (r : Result Size ℕ) : Type 0 where
   pub answer : r ≡ counted (read_proof f s)
   pub filled : (ss : List Step) → read_proof f s ≡ steps ss → (codes ≡ sets codes₀ 0 (codes_of ss)) × (ends ≡ sets ends₀ 0 (ends_from 0 ss))
       × (kinds ≡ sets kinds₀ 0 (kinds_of ss))

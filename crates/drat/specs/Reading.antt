@@ -8,30 +8,29 @@ use Rattle.drat.specs.declared.Kind.TheVariants.{Add, Delete}
 use Rattle.drat.specs.declared.Format.{Format}
 use Rattle.drat.specs.declared.Format.TheVariants.{Text, Binary}
 use Rattle.drat.specs.declared.Token.{Token}
-use Rattle.drat.specs.declared.Token.TheVariants.{Lit, Stop, Bad}
-use Rattle.drat.specs.declared.Opening.{Opening}
-use Rattle.drat.specs.declared.Opening.TheVariants.{Opens, Wrong}
+use Rattle.drat.specs.declared.Token.TheVariants.{Lit, Stop}
+use Rattle.std.specs.Prelude.{Option, Some, None}
 
 -- In each of these i is a place of the input and l the input from there on.
 -- The literal whose number is v; 0 is no number.
-abbrev pub numbered : ℕ → ℕ → ℕ → Token
-numbered sign v i = pick (eqb v 0) Bad (Lit (2 * (v - 1) + sign) i)
+abbrev pub numbered : ℕ → ℕ → ℕ → Option Token
+numbered sign v i = pick (eqb v 0) None (Some (Lit (2 * (v - 1) + sign) i))
 
 -- A digit b after the digits of v.
 abbrev pub with_digit : ℕ → ℕ → ℕ
 with_digit v b = 10 * v + (b - 48)
 
 -- The longest run of decimal digits, with the value v of those before and the sign: a literal, and the place of the byte after the run.
-unfoldable pub digits_from : ℕ → ℕ → ℕ → List ℕ → Token
+unfoldable pub digits_from : ℕ → ℕ → ℕ → List ℕ → Option Token
 digits_from sign v i [] = numbered sign v i
 digits_from sign v i (b ∷ l) =
     pick (digit b)
-    (pick (eqb (with_digit v b) 0) Bad (pick (ltb 4096 (with_digit v b)) Bad (digits_from sign (with_digit v b) (i + 1) l)))
+    (pick (eqb (with_digit v b) 0) None (pick (ltb 4096 (with_digit v b)) None (digits_from sign (with_digit v b) (i + 1) l)))
     (numbered sign v i)
 
 -- A literal's number: an optional minus, and such a run.
-unfoldable pub signed_from : ℕ → List ℕ → Token
-signed_from i [] = Bad
+unfoldable pub signed_from : ℕ → List ℕ → Option Token
+signed_from i [] = None
 signed_from i (b ∷ l) = pick (eqb b 45) (digits_from 1 0 (i + 1) l) (digits_from 0 0 i (b ∷ l))
 
 -- A separator of text is a blank or a line feed. How many of them l starts with.
@@ -52,39 +51,43 @@ abbrev pub past : Format → ℕ → List ℕ → ℕ → ℕ
 past f i l j = j + lead f (drop (j - i) l)
 
 -- A text number's separators, at least one.
-unfoldable pub then_gap : ℕ → List ℕ → Token → Token
-then_gap i l (Lit c j) = pick (sep (get_or l (j - i) 0)) (Lit c (past Text i l j)) Bad
-then_gap i l (Stop j) = Bad
-then_gap i l Bad = Bad
+unfoldable pub then_gap : ℕ → List ℕ → Option Token → Option Token
+then_gap i l (Some (Lit c j)) = pick (sep (get_or l (j - i) 0)) (Some (Lit c (past Text i l j))) None
+then_gap i l (Some (Stop j)) = None
+then_gap i l None = None
 
 -- LEB128 bytes, with the value v of those before, and the weight w of the next.
-unfoldable pub leb_from : ℕ → ℕ → ℕ → List ℕ → Token
-leb_from v w i [] = Bad
+unfoldable pub leb_from : ℕ → ℕ → ℕ → List ℕ → Option Token
+leb_from v w i [] = None
 leb_from v w i (b ∷ l) =
     pick (ltb b 128)
-    (pick (eqb b 0) Bad (pick (ltb (v + w * b) 2) Bad (pick (ltb 8193 (v + w * b)) Bad (Lit (v + w * b - 2) (i + 1)))))
-    (pick (ltb 64 w) Bad (leb_from (v + w * (b - 128)) (w * 128) (i + 1) l))
+    (pick (eqb b 0) None (pick (ltb (v + w * b) 2) None (pick (ltb 8193 (v + w * b)) None (Some (Lit (v + w * b - 2) (i + 1))))))
+    (pick (ltb 64 w) None (leb_from (v + w * (b - 128)) (w * 128) (i + 1) l))
 
 -- The end of a text step, place i being the one after its 0: a token goes on up to a separator or the end of the input.
-unfoldable pub close_from : ℕ → List ℕ → Token
-close_from i [] = Stop i
-close_from i (b ∷ l) = pick (sep b) (Stop i) Bad
+unfoldable pub close_from : ℕ → List ℕ → Option Token
+close_from i [] = Some (Stop i)
+close_from i (b ∷ l) = pick (sep b) (Some (Stop i)) None
 
 -- What stands at place i of a step: a literal, with the separators after it in text, or the step's end, a `0` or byte 0.
-unfoldable pub token : Format → ℕ → List ℕ → Token
-token f i [] = Bad
+unfoldable pub token : Format → ℕ → List ℕ → Option Token
+token f i [] = None
 token Text i (b ∷ l) = pick (eqb b 48) (close_from (i + 1) l) (then_gap i (b ∷ l) (signed_from i (b ∷ l)))
-token Binary i (b ∷ l) = pick (eqb b 0) (Stop (i + 1)) (leb_from 0 1 i (b ∷ l))
+token Binary i (b ∷ l) = pick (eqb b 0) (Some (Stop (i + 1))) (leb_from 0 1 i (b ∷ l))
+
+-- How a step opens: its kind, and the place of its first literal.
+abbrev pub opens : Kind → ℕ → Option (Kind × ℕ)
+opens k j = Some (k, j)
 
 -- The separators after a text step's `d`, at least one.
-unfoldable pub gap_from : ℕ → List ℕ → Opening
-gap_from i l = pick (sep (get_or l 0 0)) (Opens Delete (i + seps l)) Wrong
+unfoldable pub gap_from : ℕ → List ℕ → Option (Kind × ℕ)
+gap_from i l = pick (sep (get_or l 0 0)) (opens Delete (i + seps l)) None
 
 -- How the step at place i opens.
-unfoldable pub opening : Format → ℕ → List ℕ → Opening
-opening f i [] = Wrong
-opening Text i (b ∷ l) = pick (eqb b 100) (gap_from (i + 1) l) (Opens Add i)
-opening Binary i (b ∷ l) = pick (eqb b 97) (Opens Add (i + 1)) (pick (eqb b 100) (Opens Delete (i + 1)) Wrong)
+unfoldable pub opening : Format → ℕ → List ℕ → Option (Kind × ℕ)
+opening f i [] = None
+opening Text i (b ∷ l) = pick (eqb b 100) (gap_from (i + 1) l) (opens Add i)
+opening Binary i (b ∷ l) = pick (eqb b 97) (opens Add (i + 1)) (pick (eqb b 100) (opens Delete (i + 1)) None)
 
 -- A step's literals and the place after it, or none.
 pub data Part : Type 0 where
@@ -98,7 +101,7 @@ cons_part c broken = broken
 -- Literals up to a step's end, at most n tokens.
 unfoldable pub body : Format → ℕ → ℕ → List ℕ → Part
 body f zero i l = broken
-body f (suc n) i l = elim (token f i l) [ Lit c j ↦ cons_part c (body f n j (drop (j - i) l)) | Stop j ↦ whole [] j | Bad ↦ broken ]
+body f (suc n) i l = elim (token f i l) [ Some (Lit c j) ↦ cons_part c (body f n j (drop (j - i) l)) | Some (Stop j) ↦ whole [] j | None ↦ broken ]
 
 -- One step: its kind, its literals and the place after it.
 pub data One : Type 0 where
@@ -111,7 +114,7 @@ as_step k broken = fault
 
 unfoldable pub one_step : Format → ℕ → List ℕ → One
 one_step f i l =
-    elim (opening f i l) [ Opens k j ↦ as_step k (body f (length l) j (drop (j - i) l)) | Wrong ↦ fault ]
+    elim (opening f i l) [ Some (k, j) ↦ as_step k (body f (length l) j (drop (j - i) l)) | None ↦ fault ]
 
 -- All steps, or the start of the first that is not whole.
 pub data Proof : Type 0 where

@@ -1,46 +1,48 @@
 // The types of the DRAT codec. Its definitions are in specs/, their laws in proofs/.
 #![tactic(auto)]
 
-#[derive(Clone, Copy)]
+use std::fmt;
+
+#[derive(Clone, Copy, Debug, PartialEq, Eq)]
 pub enum Format {
     Text,
     Binary,
 }
 
-#[derive(Clone, Copy)]
+#[derive(Clone, Copy, Debug, PartialEq, Eq)]
 pub enum Kind {
     Add,
     Delete,
 }
 
-// What stands at a place inside a step: a literal's code and the place after it, the step's end and the place after it, or a fault.
-#[derive(Clone, Copy)]
+// What stands at a place inside a step: a literal's code and the place after it, or the step's end and the place after it.
+#[derive(Clone, Copy, Debug, PartialEq, Eq)]
 pub enum Token {
     Lit(u32, usize),
     Stop(usize),
-    Bad,
 }
 
-// How a step opens: its kind, and the place of its first literal.
-#[derive(Clone, Copy)]
-pub enum Opening {
-    Opens(Kind, usize),
-    Wrong,
+// The numbers of literals and of steps.
+#[derive(Clone, Copy, Debug, PartialEq, Eq)]
+pub struct Size {
+    pub lits: usize,
+    pub steps: usize,
 }
 
-// The number of literals and of steps, or the start of the first step that is not whole.
-#[derive(Clone, Copy)]
-pub enum Scanned {
-    Whole(usize, usize),
-    Fault(usize),
+// Read: the start of the first step that is not whole; or an output slice is too short.
+#[derive(Clone, Copy, Debug, PartialEq, Eq)]
+pub enum ReadError {
+    NotWhole(usize),
+    Room,
 }
 
-// Read: the number of literals and of steps filled; the start of the first step that is not whole; or an output slice is too short.
-#[derive(Clone, Copy)]
-pub enum Read {
-    Filled(usize, usize),
-    Broken(usize),
-    Short,
+impl fmt::Display for ReadError {
+    fn fmt<W: fmt::Write>(&self, f: &mut fmt::Formatter<W>) -> fmt::Result {
+        match self {
+            ReadError::NotWhole(place) => write!(f, "the step at byte {place} is not whole"),
+            ReadError::Room => write!(f, "an output slice is too short"),
+        }
+    }
 }
 
 // What a writer answers: the place after what was filled; that these lists or literals cannot be written; or that the output is too short.

@@ -11,16 +11,17 @@ use Rattle.drat.specs.Filled.{codes_of, counted}
 use Rattle.drat.specs.Grammar.{Step, Spells, none, step}
 use Rattle.drat.specs.Reading.{steps, read_proof}
 use Rattle.drat.specs.declared.Format.{Format}
-use Rattle.drat.specs.declared.Scanned.TheVariants.{Whole}
 use Rattle.drat_judge.specs.Local.{judged, lits_by, steps_by}
 use Rattle.drat_judge.proofs.JudgedLaws.{judged_spells}
 use Rattle.drat_judge.proofs.TallyLaws.{steps_by_lem, lits_by_lem}
+use Rattle.std.specs.Prelude.{Ok}
+use Rattle.drat.specs.Filled.{size}
 
-pub counts_are : (f : Format) (s : List ℕ) → Bytes s → judged f s ≡ true → Whole (lits_by f s) (steps_by f s) ≡ counted (read_proof f s)
+pub counts_are : (f : Format) (s : List ℕ) → Bytes s → judged f s ≡ true → Ok (size (lits_by f s) (steps_by f s)) ≡ counted (read_proof f s)
 unfolding counted
 counts_are f s hb h =
     let j = judged_spells f s hb h in
-    ap₂ Whole (lits_by_lem j.spelled) (steps_by_lem j.spelled) ∙ sym (ap counted (spells_read j.spelled))
+    ap₂ (λ (x y : ℕ). Ok (size x y)) (lits_by_lem j.spelled) (steps_by_lem j.spelled) ∙ sym (ap counted (spells_read j.spelled))
 
 -- literals and steps take a byte each
 spells_size : {f : Format} {bs : List ℕ} {ss : List Step} → Spells f bs ss → length (codes_of ss) + length ss ≤ length bs

@@ -1,8 +1,9 @@
 -- The judging and the counts at a place of the input, as the loops meet them.
 use Prim.Native.Nat.{ℕ, suc, ◌+◌, ◌-◌, ◌≤◌, ◌<◌}
 use mathlib.Core.Bool.{Bool, true, false, ◌&&◌}
-use mathlib.Core.List.{List, [], ◌∷◌}
+use mathlib.Core.List.{List, [], ◌∷◌, ◌++◌}
 use mathlib.Core.Path.{◌≡◌, refl, sym, ap, ap₂, ◌∙◌}
+use mir.Val.{bool_byte}
 use lib.Dec.{ltb, leb-suc-suc}
 use lib.ListN.{length, get_or, drop, drop_of_length-le}
 use native.Mathlib.Numerals.{add-one}
@@ -14,7 +15,7 @@ use Rattle.drat.specs.declared.Format.TheVariants.{Text, Binary}
 use Rattle.drat.specs.declared.Format.{Format}
 use Rattle.drat.proofs.Shapes.{one_le}
 use Rattle.drat.specs.Numeral.{in_range}
-use Rattle.drat_judge.specs.Local.{text_next, binary_next, may_follow, ended, before, runs, byte_back, runs_at, tally, starts, starts_at}
+use Rattle.drat_judge.specs.Local.{may_follow, ended, before, runs, byte_back, runs_at, tally, starts, starts_at}
 
 back_suc : (f : Format) (s : List ℕ) (i k : ℕ) → byte_back f s (i + 1) (k + 1) ≡ byte_back f s i k
 back_suc f s i k =
@@ -72,23 +73,6 @@ head_turn f s j i a b c p h ok r e ea eb ec ep q =
     ∙ ap₂ (λ (x y : ℕ). may_follow f (byte_back f s i 4) (byte_back f s i 3) x y (get_or s i 0)) ec ep)
     ∙ runs_turn f s j i h ok e
 
--- the same where the bytes before stand in the input
-pub text_turn : (s : List ℕ) (j : Bool) (i : ℕ) → i < length s → 4 ≤ i → (ok r : Bool) → ok && runs_at Text s i ≡ j
-    → r ≡ text_next (get_or s (i - 4) 0) (get_or s (i - 3) 0) (get_or s (i - 2) 0) (get_or s (i - 1) 0) (get_or s i 0) → (ok && r) && runs_at Text s (i + 1) ≡ j
-text_turn s j i h k ok r e q = ap (λ (u : Bool). (ok && u) && runs_at Text s (i + 1)) (q ∙ sym (here (get_or s i 0))) ∙ runs_turn Text s j i h ok e
-  where
-    here : (x : ℕ) → may_follow Text (byte_back Text s i 4) (byte_back Text s i 3) (byte_back Text s i 2) (byte_back Text s i 1) x ≡ may_follow Text
-        (get_or s (i - 4) 0) (get_or s (i - 3) 0) (get_or s (i - 2) 0) (get_or s (i - 1) 0) x
-    here x =
-        ap₂ (λ (a b : ℕ). may_follow Text a b (byte_back Text s i 2) (byte_back Text s i 1) x) (back_at_lem Text s i 4 k) (back_at_lem Text s i 3 (omega arith))
-        ∙ ap₂ (λ (c p : ℕ). may_follow Text (get_or s (i - 4) 0) (get_or s (i - 3) 0) c p x) (back_at_lem Text s i 2 (omega arith)) (back_at_lem Text s i 1 (omega arith))
-
-pub binary_turn : (s : List ℕ) (j : Bool) (i : ℕ) → i < length s → 1 ≤ i → (ok r : Bool) → ok && runs_at Binary s i ≡ j
-    → r ≡ binary_next (get_or s (i - 1) 0) (get_or s i 0) → (ok && r) && runs_at Binary s (i + 1) ≡ j
-binary_turn s j i h k ok r e q =
-    ap (λ (t : Bool). (ok && t) && runs_at Binary s (i + 1)) (q ∙ ap (λ (p : ℕ). binary_next p (get_or s i 0)) (sym (back_at_lem Binary s i 1 k)))
-    ∙ runs_turn Binary s j i h ok e
-
 pub runs_out : (f : Format) (s : List ℕ) (j : Bool) (i : ℕ) → length s ≤ i → 4 ≤ i → (ok : Bool) → ok && runs_at f s i ≡ j
     → ok && ended f (get_or s (i - 4) 0) (get_or s (i - 3) 0) (get_or s (i - 2) 0) (get_or s (i - 1) 0) ≡ j
 runs_out f s j i h k ok e =
@@ -104,6 +88,15 @@ part_holds false x y h e = let z : ◌≡◌ {A = ℕ} 0 1 = cc in absurd (omega
 pub part_fails : (r x y : Bool) → r ≡ false → r && x ≡ y → false ≡ y
 part_fails true x y h e = let z : ◌≡◌ {A = ℕ} 0 1 = cc in absurd (omega arith)
 part_fails false x y h e = e
+
+-- a test as a number
+pub as_byte : (t : Bool) → bool_byte t ≡ pick t 1 0
+as_byte true = refl
+as_byte false = refl
+
+pub as_byte_le : (t : Bool) → bool_byte t ≤ 1
+as_byte_le true = omega arith
+as_byte_le false = omega arith
 
 pub tally_next : (lo hi : ℕ) (s : List ℕ) (i : ℕ) → i < length s → tally lo hi (drop i s) ≡ pick (in_range lo hi (get_or s i 0)) 1 0 + tally lo hi (drop (i + 1) s)
 unfolding tally
@@ -131,12 +124,29 @@ pub starts_done : (lo hi : ℕ) (s : List ℕ) (i : ℕ) → length s ≤ i → 
 unfolding starts
 starts_done lo hi s i h = ap (starts lo hi (get_or s (i - 1) 0)) (drop_of_length-le s h)
 
-pub starts_none : (lo hi : ℕ) (s : List ℕ) → length s ≡ 0 → starts lo hi 10 s ≡ 0
+pub starts_first : (lo hi p : ℕ) (s : List ℕ) → 0 < length s
+    → starts lo hi p s ≡ pick (ltb p 45 && in_range lo hi (get_or s 0 0)) 1 0 + starts_at lo hi s 1
 unfolding starts
-starts_none lo hi [] h = refl
-starts_none lo hi (x ∷ s) h = absurd (omega arith)
+starts_first lo hi p [] h = absurd (omega arith)
+starts_first lo hi p (x ∷ s) h = refl
 
-pub starts_first : (lo hi : ℕ) (s : List ℕ) → 0 < length s → starts lo hi 10 s ≡ pick (in_range lo hi (get_or s 0 0)) 1 0 + starts_at lo hi s 1
+-- nothing to count
+pub tally_none : (lo hi : ℕ) (s : List ℕ) → length s ≡ 0 → tally lo hi s ≡ 0
+unfolding tally
+tally_none lo hi [] h = refl
+tally_none lo hi (x ∷ s) h = absurd (omega arith)
+
+pub starts_none : (lo hi p : ℕ) (s : List ℕ) → length s ≡ 0 → starts lo hi p s ≡ 0
 unfolding starts
-starts_first lo hi [] h = absurd (omega arith)
-starts_first lo hi (x ∷ s) h = refl
+starts_none lo hi p [] h = refl
+starts_none lo hi p (x ∷ s) h = absurd (omega arith)
+
+-- the count of a part and of what is behind it
+pub starts_append : (lo hi p : ℕ) (s t : List ℕ) → 0 < length s → starts lo hi p (s ++ t) ≡ starts lo hi p s + starts lo hi (get_or s (length s - 1) 0) t
+unfolding starts
+starts_append lo hi p [] t h = absurd (omega arith)
+starts_append lo hi p (x ∷ []) t h = omega arith
+starts_append lo hi p (x ∷ y ∷ s) t h =
+    let e : length (x ∷ y ∷ s) - 1 ≡ suc (length (y ∷ s) - 1) = omega arith in
+    let g : get_or (x ∷ y ∷ s) (length (x ∷ y ∷ s) - 1) 0 ≡ get_or (y ∷ s) (length (y ∷ s) - 1) 0 = ap (λ (k : ℕ). get_or (x ∷ y ∷ s) k 0) e in
+    omega (arith, starts_append lo hi x (y ∷ s) t (omega arith), ap (λ (q : ℕ). starts lo hi q t) g)

@@ -2,21 +2,13 @@
 // No state goes from byte to byte, so that the loops take many bytes at once.
 #![tactic(auto)]
 
-ghost use Rattle.std.specs.Prelude.{◌≡◌, true, ◌&&◌, ◌+◌, ◌-◌, ◌≤◌, ◌<◌, length, drop};
+ghost use Rattle.std.specs.Prelude.{◌≡◌, true, ◌&&◌, ◌≤◌, ◌<◌, length};
 ghost use Rattle.base.specs.Choice.{pick};
 ghost use Rattle.drat.specs.Numeral.{in_range};
 ghost use Rattle.drat_judge.specs.Local.{near, low, closing, closed, small, text_next, binary_next, may_follow, ended, before, judged};
-ghost use Rattle.drat_judge.specs.Local.{byte_back, runs_at, tally, starts, starts_at, steps_by, lits_by};
-ghost use Rattle.drat.specs.declared.Format.TheVariants.{Text, Binary};
+ghost use Rattle.drat_judge.specs.Local.{byte_back, runs_at, tally, starts, steps_by, lits_by};
 
-use drat::Format;
-
-// The numbers of literals and of steps.
-#[derive(Clone, Copy)]
-pub struct Counts {
-    pub lits: usize,
-    pub steps: usize,
-}
+use drat::{Format, Size};
 
 pub fn in_range(x: u8, lo: u8, hi: u8) -> bool
     ensures { result ≡ in_range lo hi x }
@@ -35,12 +27,6 @@ pub fn is_near(x: u8) -> bool
     ensures { result ≡ near x }
 {
     in_range(x, 48, 127)
-}
-
-pub fn one(t: bool) -> u8
-    ensures { (result ≡ pick t 1 0) × (result ≤ 1) }
-{
-    if t { 1 } else { 0 }
 }
 
 // Whether p is a closing 0.
@@ -70,7 +56,7 @@ fn is_small(a: u8, b: u8, c: u8, p: u8, x: u8) -> bool
 {
     let above = in_range(c, 49, 127) | ((p == 57) & in_range(x, 55, 127));
     let few = !is_near(b) | (!is_near(c) | !is_near(p));
-    few | (!is_near(a) & (b <= 52 - one(above)))
+    few | (!is_near(a) & (b <= 52 - above as u8))
 }
 
 // Whether x may stand after a b c p.
@@ -138,50 +124,32 @@ fn head_runs(f: Format, s: &[u8], n: usize) -> bool
     ensures { result && runs_at f s.now n ≡ judged f s.now }
 {
     let mut ok = true;
-    let mut i = 0;
-    while i < n {
+    for i in 0..n {
         let a = byte_back(f, s, i, 4);
         let b = byte_back(f, s, i, 3);
         let c = byte_back(f, s, i, 2);
         let p = byte_back(f, s, i, 1);
-        ok = ok & next(f, a, b, c, p, s[i]);
-        i += 1;
+        ok &= next(f, a, b, c, p, s[i]);
     }
     ok
 }
 
-// The bytes of text from one place to another.
-fn text_part(s: &[u8], from: usize, to: usize) -> bool
+// The bytes from one place to another.
+#[inline(always)]
+fn bytes_run(f: Format, s: &[u8], from: usize, to: usize) -> bool
     requires le_from { 4 ≤ from }
     requires from_le_to { from ≤ to }
     requires to_in_bounds { to ≤ length s.now }
-    ensures { result && runs_at Text s.now to ≡ runs_at Text s.now from }
+    ensures { result && runs_at f s.now to ≡ runs_at f s.now from }
 {
     let mut ok = true;
-    let mut i = from;
-    while i < to {
-        ok = ok & text_next(s[i - 4], s[i - 3], s[i - 2], s[i - 1], s[i]);
-        i += 1;
+    for i in from..to {
+        ok &= next(f, s[i - 4], s[i - 3], s[i - 2], s[i - 1], s[i]);
     }
     ok
 }
 
-// The bytes of binary from one place to another.
-fn binary_part(s: &[u8], from: usize, to: usize) -> bool
-    requires le_from { 4 ≤ from }
-    requires from_le_to { from ≤ to }
-    requires to_in_bounds { to ≤ length s.now }
-    ensures { result && runs_at Binary s.now to ≡ runs_at Binary s.now from }
-{
-    let mut ok = true;
-    let mut i = from;
-    while i < to {
-        ok = ok & binary_next(s[i - 1], s[i]);
-        i += 1;
-    }
-    ok
-}
-
+// The same. The format is given as a constant, so that each gets a loop of its own.
 fn part_runs(f: Format, s: &[u8], from: usize, to: usize) -> bool
     requires le_from { 4 ≤ from }
     requires from_le_to { from ≤ to }
@@ -189,8 +157,8 @@ fn part_runs(f: Format, s: &[u8], from: usize, to: usize) -> bool
     ensures { result && runs_at f s.now to ≡ runs_at f s.now from }
 {
     match f {
-        Format::Text => text_part(s, from, to),
-        Format::Binary => binary_part(s, from, to),
+        Format::Text => bytes_run(Format::Text, s, from, to),
+        Format::Binary => bytes_run(Format::Binary, s, from, to),
     }
 }
 
@@ -199,15 +167,13 @@ fn tail_runs(f: Format, s: &[u8]) -> bool
     requires { 4 ≤ length s.now }
     ensures { result ≡ runs_at f s.now 4 }
 {
-    let mut i: usize = 4;
-    while 4096 < s.len() - i {
-        if !part_runs(f, s, i, i + 4096) {
+    let n = s.len();
+    for i in (4..n).step_by(4096) {
+        if !part_runs(f, s, i, n.min(i + 4096)) {
             return false;
         }
-        i += 4096;
     }
-    let n = s.len();
-    part_runs(f, s, i, n) & is_end(f, s[n - 4], s[n - 3], s[n - 2], s[n - 1])
+    is_end(f, s[n - 4], s[n - 3], s[n - 2], s[n - 1])
 }
 
 // specs/Local.antt: judged. What is judged is a proof's bytes, by proofs/JudgedLaws.antt.
@@ -227,18 +193,14 @@ pub fn is_judged(f: Format, s: &[u8]) -> bool
     tail_runs(f, s)
 }
 
-// How many of the bytes from one place to another, at most 192 of them, are from lo to hi.
-fn block(s: &[u8], from: usize, to: usize, lo: u8, hi: u8) -> u8
-    requires from_le_to { from ≤ to }
-    requires to_bound { to ≤ from + 192 }
-    requires to_in_bounds { to ≤ length s.now }
-    ensures { (result + tally lo hi (drop to s.now) ≡ tally lo hi (drop from s.now)) × (result ≤ to - from) }
+// How many of at most 192 bytes are from lo to hi.
+fn block(s: &[u8], lo: u8, hi: u8) -> u8
+    requires { length s.now ≤ 192 }
+    ensures { (result ≡ tally lo hi s.now) × (result ≤ length s.now) }
 {
-    let mut k: u8 = 0;
-    let mut i = from;
-    while i < to {
-        k += one(in_range(s[i], lo, hi));
-        i += 1;
+    let mut k = 0;
+    for x in s {
+        k += in_range(*x, lo, hi) as u8;
     }
     k
 }
@@ -247,28 +209,22 @@ fn block(s: &[u8], from: usize, to: usize, lo: u8, hi: u8) -> u8
 pub fn tally_of(s: &[u8], lo: u8, hi: u8) -> usize
     ensures { result ≡ tally lo hi s.now }
 {
-    let mut k: usize = 0;
-    let mut i: usize = 0;
-    while 192 < s.len() - i {
-        k += block(s, i, i + 192, lo, hi) as usize;
-        i += 192;
+    let mut k = 0;
+    for part in s.chunks(192) {
+        k += block(part, lo, hi) as usize;
     }
-    k + block(s, i, s.len(), lo, hi) as usize
+    k
 }
 
-// How many of the bytes from one place to another, at most 192 of them, are from lo to hi and stand after a separator.
-fn starts_block(s: &[u8], from: usize, to: usize, lo: u8, hi: u8) -> u8
-    requires le_from { 1 ≤ from }
-    requires from_le_to { from ≤ to }
-    requires to_bound { to ≤ from + 192 }
-    requires to_in_bounds { to ≤ length s.now }
-    ensures { (result + starts_at lo hi s.now to ≡ starts_at lo hi s.now from) × (result ≤ to - from) }
+// How many of 1 to 192 bytes of text are from lo to hi and stand after a separator; p is the byte before the first.
+fn starts_block(p: u8, s: &[u8], lo: u8, hi: u8) -> u8
+    requires some { 0 < length s.now }
+    requires few { length s.now ≤ 192 }
+    ensures { (result ≡ starts lo hi p s.now) × (result ≤ length s.now) }
 {
-    let mut k: u8 = 0;
-    let mut i = from;
-    while i < to {
-        k += one((s[i - 1] < 45) & in_range(s[i], lo, hi));
-        i += 1;
+    let mut k = ((p < 45) & in_range(s[0], lo, hi)) as u8;
+    for i in 1..s.len() {
+        k += ((s[i - 1] < 45) & in_range(s[i], lo, hi)) as u8;
     }
     k
 }
@@ -277,16 +233,13 @@ fn starts_block(s: &[u8], from: usize, to: usize, lo: u8, hi: u8) -> u8
 fn starts_of(s: &[u8], lo: u8, hi: u8) -> usize
     ensures { result ≡ starts lo hi 10 s.now }
 {
-    if s.len() == 0 {
-        return 0;
+    let mut k = 0;
+    let mut p = 10;
+    for part in s.chunks(192) {
+        k += starts_block(p, part, lo, hi) as usize;
+        p = part[part.len() - 1];
     }
-    let mut k = one(in_range(s[0], lo, hi)) as usize;
-    let mut i: usize = 1;
-    while 192 < s.len() - i {
-        k += starts_block(s, i, i + 192, lo, hi) as usize;
-        i += 192;
-    }
-    k + starts_block(s, i, s.len(), lo, hi) as usize
+    k
 }
 
 fn steps_of(f: Format, s: &[u8]) -> usize
@@ -310,12 +263,12 @@ fn lits_of(f: Format, s: &[u8], steps: usize) -> usize
 }
 
 // How many literals and steps bytes have that are judged whole.
-pub fn counts_of(f: Format, s: &[u8]) -> Counts
+pub fn counts_of(f: Format, s: &[u8]) -> Size
     requires { judged f s.now ≡ true }
     ensures { (result.lits ≡ lits_by f s.now) × (result.steps ≡ steps_by f s.now) }
 {
     let steps = steps_of(f, s);
-    Counts {
+    Size {
         lits: lits_of(f, s, steps),
         steps,
     }

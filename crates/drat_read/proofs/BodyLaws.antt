@@ -16,10 +16,11 @@ use Rattle.drat.proofs.Sound.{Bytes, lit_bad, lit_stop, stop_bad, broken_whole, 
 use Rattle.drat.specs.Reading.{close_from, signed_from, seps, token, whole}
 use Rattle.drat.specs.declared.Format.TheVariants.{Text, Binary}
 use Rattle.drat.specs.declared.Format.{Format}
-use Rattle.drat.specs.declared.Token.TheVariants.{Lit, Stop, Bad}
+use Rattle.drat.specs.declared.Token.TheVariants.{Lit, Stop}
 use Rattle.drat.specs.declared.Token.{Token}
 use Rattle.drat_read.specs.Known.{body_from, BodyFits, BodyFilled, IsNumber, IsGap, IsLit}
 use Rattle.drat_read.proofs.LitLaws.{text_number, text_read}
+use Rattle.std.specs.Prelude.{Option, Some, None}
 
 pub body_is : (f : Format) (s : List ℕ) (i : ℕ) → body_at f s i ≡ body_from f s i
 unfolding body_at
@@ -32,43 +33,43 @@ stop_byte Binary = 0
 
 -- what stands ahead of a place where literals and an end are whole
 pub data NextToken (f : Format) (s : List ℕ) (i : ℕ) (cs : List ℕ) (j : ℕ) : Type 0 where
-  stops : token f i (drop i s) ≡ Stop j → cs ≡ [] → j ≤ length s → NextToken f s i cs j
-  goes : (c k : ℕ) (ds : List ℕ) → token f i (drop i s) ≡ Lit c k → cs ≡ c ∷ ds → body_at f s k ≡ whole ds j → i < k → k ≤ length s → NextToken f s i cs j
+  stops : token f i (drop i s) ≡ Some (Stop j) → cs ≡ [] → j ≤ length s → NextToken f s i cs j
+  goes : (c k : ℕ) (ds : List ℕ) → token f i (drop i s) ≡ Some (Lit c k) → cs ≡ c ∷ ds → body_at f s k ≡ whole ds j → i < k → k ≤ length s → NextToken f s i cs j
 
 pub next_token : (f : Format) (s : List ℕ) (i : ℕ) (cs : List ℕ) (j : ℕ) → Bytes s → i ≤ length s → body_at f s i ≡ whole cs j → NextToken f s i cs j
 next_token f s i cs j hb h e = go (token f i (drop i s)) refl
   where
-    go : (t : Token) → token f i (drop i s) ≡ t → NextToken f s i cs j
-    go (Lit c k) t =
+    go : (t : Option Token) → token f i (drop i s) ≡ t → NextToken f s i cs j
+    go (Some (Lit c k)) t =
         let l = lit_at f s hb i h c k t in
         let r = cons_part_lem c (body_at f s k) cs j (sym l.0 ∙ e) in
         goes c k r.0 t (sym r.2) r.1 l.1 l.2
-    go (Stop k) t =
+    go (Some (Stop k)) t =
         let l = stop_at f s hb i h k t in
         let q : whole [] k ≡ whole cs j = sym l.0 ∙ e in
         let z : k ≡ j = cc in
-        stops (t ∙ ap Stop z) (cc) (omega (arith, l.2))
-    go Bad t = absurd (broken_whole cs j (sym (bad_at f s hb i t) ∙ e))
+        stops (t ∙ ap (λ (x : ℕ). Some (Stop x)) z) (cc) (omega (arith, l.2))
+    go None t = absurd (broken_whole cs j (sym (bad_at f s hb i t) ∙ e))
 
 -- the byte there tells which
 head_is : (s : List ℕ) (i x : ℕ) (l : List ℕ) → drop i s ≡ x ∷ l → get_or s i 0 ≡ x
 head_is s i x l e = let z : i + 0 ≡ i = omega arith in ap (λ (k : ℕ). get_or s k 0) (sym z) ∙ sym (get_or-drop i s 0 0) ∙ ap (λ (m : List ℕ). get_or m 0 0) e
 
-stop_byte_lem : (f : Format) (s : List ℕ) (i j : ℕ) → token f i (drop i s) ≡ Stop j → (get_or s i 0 ≡ stop_byte f) × (j ≡ i + 1)
+stop_byte_lem : (f : Format) (s : List ℕ) (i j : ℕ) → token f i (drop i s) ≡ Some (Stop j) → (get_or s i 0 ≡ stop_byte f) × (j ≡ i + 1)
 stop_byte_lem Text s i j e = let r = token_stop Text i (drop i s) j e in (head_is s i 48 r.rest r.split, r.place)
 stop_byte_lem Binary s i j e = let r = token_stop Binary i (drop i s) j e in (head_is s i 0 r.rest r.split, r.place)
 
-here : (f : Format) (s : List ℕ) (i : ℕ) (t : Token) → token f i (drop i s) ≡ t → (t ≡ Bad → ⊥) → i < length s
+here : (f : Format) (s : List ℕ) (i : ℕ) (t : Option Token) → token f i (drop i s) ≡ t → (t ≡ None → ⊥) → i < length s
 here f s i t e n = ⊎_elim (λ (h : i < length s). h) (λ (h : length s ≤ i). absurd (n (sym e ∙ token_past s i h f))) (split i (length s))
 
-lit_byte : (f : Format) (s : List ℕ) (i c j : ℕ) → token f i (drop i s) ≡ Lit c j → get_or s i 0 ≡ stop_byte f → ⊥
+lit_byte : (f : Format) (s : List ℕ) (i c j : ℕ) → token f i (drop i s) ≡ Some (Lit c j) → get_or s i 0 ≡ stop_byte f → ⊥
 lit_byte Text s i c j e h =
-    let l = here Text s i (Lit c j) e (lit_bad c j) in
+    let l = here Text s i (Some (Lit c j)) e (lit_bad c j) in
     let t : token Text i (drop i s) ≡ close_from (i + 1) (drop (i + 1) s) = text_here s i l ∙ simp (eq-eqb (get_or s i 0) 48 h) in
     close_no_lit (i + 1) (drop (i + 1) s) c j (sym t ∙ e)
 lit_byte Binary s i c j e h =
-    let l = here Binary s i (Lit c j) e (lit_bad c j) in
-    let t : token Binary i (drop i s) ≡ Stop (i + 1) = binary_here s i l ∙ simp (eq-eqb (get_or s i 0) 0 h) in
+    let l = here Binary s i (Some (Lit c j)) e (lit_bad c j) in
+    let t : token Binary i (drop i s) ≡ Some (Stop (i + 1)) = binary_here s i l ∙ simp (eq-eqb (get_or s i 0) 0 h) in
     lit_stop c j (i + 1) (sym e ∙ t)
 
 -- a text step's literals start with a minus or a digit, and end with a digit
@@ -76,9 +77,9 @@ pub body_byte : (s : List ℕ) (i : ℕ) (cs : List ℕ) (j : ℕ) → Bytes s �
 body_byte s i cs j hb h e = go (next_token Text s i cs j hb h e)
   where
     go : NextToken Text s i cs j → (i < length s) × (45 ≤ get_or s i 0)
-    go (stops t q k) = (here Text s i (Stop j) t (stop_bad j), omega (arith, (stop_byte_lem Text s i j t).0))
+    go (stops t q k) = (here Text s i (Some (Stop j)) t (stop_bad j), omega (arith, (stop_byte_lem Text s i j t).0))
     go (goes c k ds t q b u v) =
-        let l = here Text s i (Lit c k) t (lit_bad c k) in
+        let l = here Text s i (Some (Lit c k)) t (lit_bad c k) in
         let n = text_number s i c k l (lit_byte Text s i c k t) t in
         let r = signed_sound i (drop i s) n.code n.next n.is in
         let f = signed_first r.spelled in
@@ -119,7 +120,7 @@ module _ (f : Format) (s codes₀ codes : List ℕ) (i n at m : ℕ) (hb : Bytes
   filling_inside = go known
     where
       go : NextToken f s at r.rest r.end → at < length s
-      go (stops t z k) = here f s at (Stop r.end) t (stop_bad r.end)
+      go (stops t z k) = here f s at (Some (Stop r.end)) t (stop_bad r.end)
       go (goes c k ds t z b o p) = omega arith
 
   -- the step's end
@@ -143,14 +144,14 @@ module _ (f : Format) (s codes₀ codes : List ℕ) (i n at m : ℕ) (hb : Bytes
       go (goes c k ds t z b o p) = record { code = c; next = k; is = t }
 
   -- one literal more
-  pub filling_more : (c k : ℕ) → token f at (drop at s) ≡ Lit c k → (at < k) × (k ≤ length s) × (m < length codes₀)
+  pub filling_more : (c k : ℕ) → token f at (drop at s) ≡ Some (Lit c k) → (at < k) × (k ≤ length s) × (m < length codes₀)
       × BodyFilling f s codes₀ i n (set codes m c) k (m + 1)
   filling_more c k e = go known
     where
       go : NextToken f s at r.rest r.end → (at < k) × (k ≤ length s) × (m < length codes₀) × BodyFilling f s codes₀ i n (set codes m c) k (m + 1)
       go (stops t z o) = absurd (lit_stop c k r.end (sym e ∙ t))
       go (goes d j ds t z b o p) =
-          let q : Lit d j ≡ Lit c k = sym t ∙ e in
+          let q : Some (Lit d j) ≡ Some (Lit c k) = sym t ∙ e in
           let qd : d ≡ c = cc in
           let qj : j ≡ k = cc in
           let a : r.ds ++ r.rest ≡ (r.ds ++ c ∷ []) ++ ds =
@@ -179,8 +180,8 @@ module _ (s codes₀ codes : List ℕ) (i n at m : ℕ) (hb : Bytes s) (r : Body
       let l = filling_lit Text s codes₀ codes i n at m hb r h in
       text_number s at l.code l.next (filling_inside Text s codes₀ codes i n at m hb r) h l.is
 
-  module _ (c k : ℕ) (e : signed_from at (drop at s) ≡ Lit c k) where
-    pub filling_read : (k < length s) × (token Text at (drop at s) ≡ Lit c (k + 1 + seps (drop (k + 1) s)))
+  module _ (c k : ℕ) (e : signed_from at (drop at s) ≡ Some (Lit c k)) where
+    pub filling_read : (k < length s) × (token Text at (drop at s) ≡ Some (Lit c (k + 1 + seps (drop (k + 1) s))))
     filling_read =
         let l = filling_lit Text s codes₀ codes i n at m hb r h in
         text_read s at l.code l.next c k (filling_inside Text s codes₀ codes i n at m hb r) h l.is e

@@ -20,15 +20,15 @@ use Rattle.drat.specs.Grammar.{Step}
 use Rattle.drat.specs.Reading.{token, opening, whole, One, got, fault, one_step, Proof, steps, fault_at, read_proof}
 use Rattle.drat.specs.declared.Format.{Format}
 use Rattle.drat.specs.declared.Kind.{Kind}
-use Rattle.drat.specs.declared.Opening.TheVariants.{Opens}
-use Rattle.drat.specs.declared.Read.TheVariants.{Filled}
-use Rattle.drat.specs.declared.Scanned.TheVariants.{Whole}
+use Rattle.drat.specs.declared.ReadError.TheVariants.{Room}
 use Rattle.drat.specs.declared.Token.TheVariants.{Lit, Stop}
 use Rattle.drat_judge.proofs.CountsLaws.{judged_size}
 use Rattle.drat_judge.specs.Local.{judged}
-use Rattle.drat_read.specs.declared.Room.TheVariants.{Fits, Short}
 use Rattle.drat_read.specs.Known.{StepsFit, Found, room_for, BodyFits, BodyFilled, IsStep}
 use Rattle.drat_read.proofs.BodyLaws.{body_is, NextToken, stops, goes, next_token}
+use Rattle.std.specs.Prelude.{Some, Ok, Err}
+use Rattle.drat.specs.Filled.{size}
+use Rattle.drat.specs.Reading.{opens}
 
 -- ---- what a whole is made of
 rest_steps : (ds : List Step) (p : Proof) (ss : List Step) → prepend_steps ds p ≡ steps ss → (ts : List Step) × (p ≡ steps ts) × (ss ≡ ds ++ ts)
@@ -43,10 +43,10 @@ codes_more ss ts t =
 
 -- literals that were filled, one by one
 along : (f : Format) (s : List ℕ) → Bytes s → (rest codes₁ codes₂ : List ℕ) (at₁ n₁ at₂ n₂ j : ℕ) → Inner f s codes₁ at₁ n₁ codes₂ at₂ n₂
-    → body_at f s at₂ ≡ whole rest j → (z : ℕ) × Inner f s codes₁ at₁ n₁ (sets codes₂ n₂ rest) z (n₂ + length rest) × (token f z (drop z s) ≡ Stop j)
+    → body_at f s at₂ ≡ whole rest j → (z : ℕ) × Inner f s codes₁ at₁ n₁ (sets codes₂ n₂ rest) z (n₂ + length rest) × (token f z (drop z s) ≡ Some (Stop j))
 along f s hb [] codes₁ codes₂ at₁ n₁ at₂ n₂ j i e = go (next_token f s at₂ [] j hb i.within e)
   where
-    go : NextToken f s at₂ [] j → (z : ℕ) × Inner f s codes₁ at₁ n₁ codes₂ z (n₂ + 0) × (token f z (drop z s) ≡ Stop j)
+    go : NextToken f s at₂ [] j → (z : ℕ) × Inner f s codes₁ at₁ n₁ codes₂ z (n₂ + 0) × (token f z (drop z s) ≡ Some (Stop j))
     go (stops t q k) = let z : n₂ ≡ n₂ + 0 = omega arith in (at₂, subst (Inner f s codes₁ at₁ n₁ codes₂ at₂) z i, t)
     go (goes c k ds t q b u v) = let z : ◌≡◌ {A = ℕ} 0 1 = cc in absurd (omega arith)
 along f s hb (x ∷ rest) codes₁ codes₂ at₁ n₁ at₂ n₂ j i e = go (next_token f s at₂ (x ∷ rest) j hb i.within e)
@@ -54,13 +54,13 @@ along f s hb (x ∷ rest) codes₁ codes₂ at₁ n₁ at₂ n₂ j i e = go (ne
   where
     go : NextToken f s at₂ (x ∷ rest) j
         → ((codes : List ℕ) (k n : ℕ) → Inner f s codes₁ at₁ n₁ codes k n → body_at f s k ≡ whole rest j → (z : ℕ)
-        × Inner f s codes₁ at₁ n₁ (sets codes n rest) z (n + length rest) × (token f z (drop z s) ≡ Stop j))
-        → (z : ℕ) × Inner f s codes₁ at₁ n₁ (sets codes₂ n₂ (x ∷ rest)) z (n₂ + length (x ∷ rest)) × (token f z (drop z s) ≡ Stop j)
+        × Inner f s codes₁ at₁ n₁ (sets codes n rest) z (n + length rest) × (token f z (drop z s) ≡ Some (Stop j)))
+        → (z : ℕ) × Inner f s codes₁ at₁ n₁ (sets codes₂ n₂ (x ∷ rest)) z (n₂ + length (x ∷ rest)) × (token f z (drop z s) ≡ Some (Stop j))
     go (stops t q k) ih = let z : ◌≡◌ {A = ℕ} 0 1 = cc in absurd (omega arith)
     go (goes c k ds t q b u v) ih =
         let qx : c ≡ x = cc in
         let qr : ds ≡ rest = cc in
-        let g = ih (set codes₂ n₂ x) k (n₂ + 1) (inner_more f s codes₁ codes₂ at₁ n₁ at₂ n₂ x k hb i (t ∙ ap (λ (y : ℕ). Lit y k) qx))
+        let g = ih (set codes₂ n₂ x) k (n₂ + 1) (inner_more f s codes₁ codes₂ at₁ n₁ at₂ n₂ x k hb i (t ∙ ap (λ (y : ℕ). Some (Lit y k)) qx))
         (b ∙ ap (λ (y : List ℕ). whole y j) qr) in
         let w : n₂ + 1 + length rest ≡ n₂ + length (x ∷ rest) = omega arith in
         (g.0, subst₂ (λ (y : ℕ) (l : ℕ). Inner f s codes₁ at₁ n₁ (sets (set codes₂ n₂ x) y rest) g.0 l) (add-one n₂) w g.1, g.2)
@@ -91,7 +91,7 @@ module _ (f : Format) (s codes₀ ends₀ kinds₀ codes ends kinds : List ℕ) 
       pub fill_here : IsStep (one_step f at (drop at s))
       fill_here = let g = coming w.ss w.reads h in record { step = g.now; end = g.end; is = sym (step_is f s at) ∙ g.here }
 
-      pub fill_opens : (k : Kind) (first : ℕ) → opening f at (drop at s) ≡ Opens k first → BodyFits f s first n a
+      pub fill_opens : (k : Kind) (first : ℕ) → opening f at (drop at s) ≡ opens k first → BodyFits f s first n a
       fill_opens k first e =
           let g = coming w.ss w.reads h in
           let x = opens_at f s hb at o.within k first e in
@@ -113,7 +113,7 @@ module _ (f : Format) (s codes₀ ends₀ kinds₀ codes ends kinds : List ℕ) 
           (omega (arith, o.count, w.ends_fit), omega (arith, o.count, w.kinds_fit))
 
     -- one step more
-    pub fill_step : (k : Kind) (first : ℕ) → opening f at (drop at s) ≡ Opens k first → (codes' : List ℕ) (at' n' : ℕ)
+    pub fill_step : (k : Kind) (first : ℕ) → opening f at (drop at s) ≡ opens k first → (codes' : List ℕ) (at' n' : ℕ)
         → BodyFilled f s first n codes codes' at' n'
         → (at < at') × Outer f s codes₀ ends₀ kinds₀ codes' (set ends m n') (set kinds m (kind_number k)) (token_at f s at') n' (m + 1)
     fill_step k first e codes' at' n' b =
@@ -128,17 +128,17 @@ module _ (f : Format) (s codes₀ ends₀ kinds₀ codes ends kinds : List ℕ) 
         )
 
     -- no step more
-    pub fill_end : length s ≤ at → Scan f s codes₀ ends₀ kinds₀ codes ends kinds (Whole n m)
+    pub fill_end : length s ≤ at → Scan f s codes₀ ends₀ kinds₀ codes ends kinds (Ok (size n m))
     fill_end h = outer_end f s codes₀ ends₀ kinds₀ codes ends kinds at n m hb o h
 
 -- the numbers of literals and of steps say whether slices hold them
-pub whole_found : (f : Format) (s : List ℕ) (n m a b c : ℕ) → Whole n m ≡ counted (read_proof f s) → Found f s a b c (room_for n m a b c)
+pub whole_found : (f : Format) (s : List ℕ) (n m a b c : ℕ) → Ok (size n m) ≡ counted (read_proof f s) → Found f s a b c (room_for (size n m) a b c)
 whole_found f s n m a b c e = go (ltb a n || ltb b m || ltb c m) refl
   where
     w : (ss : List Step) × (read_proof f s ≡ steps ss) × (n ≡ length (codes_of ss)) × (m ≡ length ss)
     w = scan_whole (read_proof f s) n m e
 
-    go : (t : Bool) → ltb a n || ltb b m || ltb c m ≡ t → Found f s a b c (pick t Short Fits)
+    go : (t : Bool) → ltb a n || ltb b m || ltb c m ≡ t → Found f s a b c (pick t (Err Room) (Ok tt))
     go true h = answer_steps f s a b c w.0 w.1
         ∙ ap₂ (λ (x y : ℕ). pick (ltb a x || ltb b y || ltb c y) (refusing 2 []) (filling w.0)) (sym w.2) (sym w.3)
         ∙ ap (λ (t : Bool). pick t (refusing 2 []) (filling w.0)) h
@@ -166,6 +166,6 @@ ample_fits f s a b c hb h ha hc hk =
 
 -- what was filled is what the call answers
 pub fits_call : (f : Format) (s codes ends kinds codes' ends' kinds' : List ℕ) (n m : ℕ) → StepsFit f s (length codes) (length ends) (length kinds)
-    → Scan f s codes ends kinds codes' ends' kinds' (Whole n m) → ReadCall f s codes ends kinds codes' ends' kinds' (Filled n m)
+    → Scan f s codes ends kinds codes' ends' kinds' (Ok (size n m)) → ReadCall f s codes ends kinds codes' ends' kinds' (Ok (size n m))
 fits_call f s codes ends kinds codes' ends' kinds' n m h q =
     call_filled f s codes ends kinds h.ss h.reads h.codes_fit h.ends_fit h.kinds_fit codes' ends' kinds' n m q

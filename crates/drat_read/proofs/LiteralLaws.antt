@@ -20,10 +20,11 @@ use Rattle.drat.specs.Reading.{signed_from}
 use Rattle.drat.specs.declared.Token.{Token}
 use Rattle.drat.specs.declared.Token.TheVariants.{Lit}
 use Rattle.drat_read.specs.Known.{IsNumber, lead_of, MinusOrDigit}
+use Rattle.std.specs.Prelude.{Option, Some}
 
 -- a literal's code and place may be written as any sums that they are
-pub lit_as : (t : Token) (c j k i : ℕ) → t ≡ Lit c j → k ≡ c → i ≡ j → t ≡ Lit k i
-lit_as t c j k i e f g = e ∙ ap₂ Lit (sym f) (sym g)
+pub lit_as : (t : Option Token) (c j k i : ℕ) → t ≡ Some (Lit c j) → k ≡ c → i ≡ j → t ≡ Some (Lit k i)
+lit_as t c j k i e f g = e ∙ ap₂ (λ (x y : ℕ). Some (Lit x y)) (sym f) (sym g)
 
 pub product : (w x : ℕ) → w ≤ 2000 → x ≤ 255 → w * x ≤ 510000
 product w x hw hx = le_trans (mul-le-mul_left w hx) (omega arith)

@@ -8,12 +8,13 @@ use Rattle.drat.specs.Filled.{kind_number, codes_of, refusing, read_of}
 use Rattle.drat.specs.declared.Format.{Format}
 use Rattle.drat.specs.declared.Format.TheVariants.{Text, Binary}
 use Rattle.drat.specs.declared.Kind.{Kind}
-use Rattle.drat.specs.declared.Opening.{Opening}
-use Rattle.drat.specs.declared.Opening.TheVariants.{Opens}
 use Rattle.drat.specs.declared.Token.{Token}
 use Rattle.drat.specs.declared.Token.TheVariants.{Lit}
-use Rattle.drat_read.specs.declared.Room.{Room}
-use Rattle.drat_read.specs.declared.Room.TheVariants.{Fits, Short, Broken}
+use Rattle.drat.specs.declared.ReadError.{ReadError}
+use Rattle.drat.specs.declared.ReadError.TheVariants.{NotWhole, Room}
+use Rattle.drat.specs.declared.Size.{Size}
+use Rattle.std.specs.Prelude.{Option, Some, Result, Ok, Err}
+use Rattle.drat.specs.Reading.{opens}
 
 -- All steps are whole, and slices of a, b and c words hold them.
 pub record StepsFit (f : Format) (s : List ℕ) (a b c : ℕ) : Type 0 where
@@ -24,14 +25,14 @@ pub record StepsFit (f : Format) (s : List ℕ) (a b c : ℕ) : Type 0 where
   pub kinds_fit : length ss ≤ c
 
 -- What is found before anything is filled: that all steps are whole and held, or the refusal.
-abbrev pub Found : Format → List ℕ → ℕ → ℕ → ℕ → Room → Type 0
-Found f s a b c Fits = StepsFit f s a b c
-Found f s a b c Short = read_of f s a b c ≡ refusing 2 []
-Found f s a b c (Broken p) = read_of f s a b c ≡ refusing 13 (p ∷ [])
+abbrev pub Found : Format → List ℕ → ℕ → ℕ → ℕ → Result (Unit {0}) ReadError → Type 0
+Found f s a b c (Ok _) = StepsFit f s a b c
+Found f s a b c (Err Room) = read_of f s a b c ≡ refusing 2 []
+Found f s a b c (Err (NotWhole p)) = read_of f s a b c ≡ refusing 13 (p ∷ [])
 
--- Whether n literals and m steps are held.
-abbrev pub room_for : ℕ → ℕ → ℕ → ℕ → ℕ → Room
-room_for n m a b c = pick (ltb a n || ltb b m || ltb c m) Short Fits
+-- Whether so many literals and steps are held.
+abbrev pub room_for : Size → ℕ → ℕ → ℕ → Result (Unit {0}) ReadError
+room_for w a b c = pick (ltb a w.lits || ltb b w.steps || ltb c w.steps) (Err Room) (Ok tt)
 
 -- The literals and the end of a step from place i on.
 abbrev pub body_from : Format → List ℕ → ℕ → Part
@@ -54,10 +55,10 @@ pub record BodyFilled (f : Format) (s : List ℕ) (i n : ℕ) (codes₀ codes : 
   pub held : codes ≡ sets codes₀ n cs
 
 -- A number, and after it a byte below a minus and the digits, as separators are.
-pub record IsNumber (s : List ℕ) (t : Token) : Type 0 where
+pub record IsNumber (s : List ℕ) (t : Option Token) : Type 0 where
   pub code : ℕ
   pub next : ℕ
-  pub is : t ≡ Lit code next
+  pub is : t ≡ Some (Lit code next)
   pub inside : next < length s
   pub below : get_or s next 0 < 45
 
@@ -74,10 +75,10 @@ abbrev pub MinusOrDigit : ℕ → Type 0
 MinusOrDigit b = (b ≡ 45 → ⊥) → 48 ≤ b
 
 -- A literal.
-pub record IsLit (t : Token) : Type 0 where
+pub record IsLit (t : Option Token) : Type 0 where
   pub code : ℕ
   pub next : ℕ
-  pub is : t ≡ Lit code next
+  pub is : t ≡ Some (Lit code next)
 
 -- A whole step; the number of its kind and the place of its first literal.
 pub record IsStep (t : One) : Type 0 where
@@ -85,9 +86,9 @@ pub record IsStep (t : One) : Type 0 where
   pub end : ℕ
   pub is : t ≡ got step end
 
-pub record OpenedAs (t : Opening) (number first : ℕ) : Type 0 where
+pub record OpenedAs (t : Option (Kind × ℕ)) (number first : ℕ) : Type 0 where
   pub kind : Kind
-  pub is : t ≡ Opens kind first
+  pub is : t ≡ opens kind first
   pub numbered : number ≡ kind_number kind
 
 -- That place, by the number: in text a deletion has `d` and separators before it, in binary each step has one byte.

@@ -1,16 +1,13 @@
 // The fill: the words of steps that were judged whole. It asks nothing of a byte that the judging has asked.
-ghost use Rattle.std.specs.Prelude.{◌≡◌, ◌+◌, ◌≤◌, eqb, length, get_or, drop};
-ghost use Rattle.base.specs.Choice.{pick};
+ghost use Rattle.std.specs.Prelude.{◌≡◌, ◌+◌, length, get_or, drop};
 ghost use Rattle.drat.specs.Reading.{seps, token, opening, one_step};
 ghost use Rattle.drat.specs.Filled.{Scan};
 ghost use Rattle.drat.specs.declared.Format.TheVariants.{Text, Binary};
-ghost use Rattle.drat.specs.declared.Scanned.TheVariants.{Whole};
 ghost use Rattle.drat.specs.declared.Token.TheVariants.{Lit};
 ghost use Rattle.drat_read.specs.Known.{StepsFit, BodyFits, BodyFilled, IsGap, IsLit, IsStep, OpenedAs};
 
 use crate::literal::{Literal, literal_at};
-use drat::Format;
-use drat_judge::Counts;
+use drat::{Format, Size};
 use drat_scan::place::past;
 
 // The place after a step and the number of literals filled.
@@ -42,7 +39,7 @@ fn past_gap(s: &[u8], at: usize) -> usize
 fn code_at(s: &[u8], at: usize) -> Literal
     requires fact { get_or s.now at 0 ≡ 0 → ⊥ }
     requires lit { IsLit (token Binary at (drop at s.now)) }
-    ensures { token Binary at (drop at s.now) ≡ Lit result.code result.next }
+    ensures { token Binary at (drop at s.now) ≡ Some (Lit result.code result.next) }
 {
     let b = s[at] as u32;
     if b < 128 {
@@ -97,18 +94,12 @@ fn body_from(f: Format, s: &[u8], codes: &mut [u32], from: usize, first: usize) 
     }
 }
 
-fn kind_by(b: u8) -> u8
-    ensures { (result ≡ pick (eqb b 100) 1 0) × (result ≤ 1) }
-{
-    if b == 100 { 1 } else { 0 }
-}
-
 // How a step opens that is known to be whole. Without a branch on the kind: where additions and deletions mix it would be mispredicted.
 fn start_at(f: Format, s: &[u8], at: usize) -> Start
     requires { IsStep (one_step f at (drop at s.now)) }
     ensures { OpenedAs (opening f at (drop at s.now)) result.kind result.first }
 {
-    let kind = kind_by(s[at]);
+    let kind = (s[at] == 100) as u8;
     match f {
         Format::Text => Start {
             kind,
@@ -128,9 +119,9 @@ pub(crate) fn fill(
     codes: &mut [u32],
     ends: &mut [u64],
     kinds: &mut [u8],
-) -> Counts
+) -> Size
     requires { StepsFit f s.now (length codes.old) (length ends.old) (length kinds.old) }
-    ensures { Scan f s.now codes.old ends.old kinds.old codes.new ends.new kinds.new (Whole result.lits result.steps) }
+    ensures { Scan f s.now codes.old ends.old kinds.old codes.new ends.new kinds.new (Ok result) }
 {
     let mut at = past(f, s, 0);
     let mut n: usize = 0;
@@ -144,5 +135,5 @@ pub(crate) fn fill(
         kinds[m] = b.kind;
         m += 1;
     }
-    Counts { lits: n, steps: m }
+    Size { lits: n, steps: m }
 }

@@ -7,7 +7,7 @@ ghost use Rattle.drat.specs.Filled.{read_of, read, first_token, first_of, first}
 ghost use Rattle.drat_judge.specs.Local.{judged};
 ghost use Rattle.drat_read.specs.Known.{Found, room_for};
 
-use drat::{Format, Read, Scanned};
+use drat::{Format, ReadError, Size};
 use drat_judge::{counts_of, is_judged};
 use drat_scan::place::past;
 use drat_scan::scan::{scan, step_end};
@@ -15,14 +15,6 @@ use fill::fill;
 
 mod fill;
 pub mod literal;
-
-// What is found before anything is filled: that all is whole and the slices hold it; 2; 13 with the place.
-#[derive(Clone, Copy)]
-enum Room {
-    Fits,
-    Short,
-    Broken(usize),
-}
 
 // Whether the bytes are judged whole. For fewer than 64 bytes judging costs more than it saves.
 fn is_known(f: Format, bytes: &[u8]) -> bool
@@ -38,45 +30,32 @@ fn is_known(f: Format, bytes: &[u8]) -> bool
 fn is_ample(n: usize, a: usize, b: usize, c: usize) -> bool
     ensures { result ≡ true → (n ≤ a) × (n ≤ b) × (n ≤ c) }
 {
-    if a < n {
-        return false;
-    }
-    if b < n {
-        return false;
-    }
-    n <= c
+    n <= a && n <= b && n <= c
 }
 
-// Whether slices of a, b and c words hold n literals and m steps.
-fn room_for(n: usize, m: usize, a: usize, b: usize, c: usize) -> Room
-    ensures { result ≡ room_for n m a b c }
+// Whether slices of a, b and c words hold so many literals and steps.
+fn room_for(size: Size, a: usize, b: usize, c: usize) -> Result<(), ReadError>
+    ensures { result ≡ room_for size a b c }
 {
-    if a < n {
-        return Room::Short;
+    if a < size.lits || b < size.steps || c < size.steps {
+        return Err(ReadError::Room);
     }
-    if b < m {
-        return Room::Short;
-    }
-    if c < m {
-        return Room::Short;
-    }
-    Room::Fits
+    Ok(())
 }
 
 // What is judged whole is counted only where it might not fit. All else is scanned step by step.
-fn find(f: Format, bytes: &[u8], a: usize, b: usize, c: usize) -> Room
+fn find(f: Format, bytes: &[u8], a: usize, b: usize, c: usize) -> Result<(), ReadError>
     ensures { Found f bytes.now a b c result }
 {
     if is_known(f, bytes) {
         if is_ample(bytes.len(), a, b, c) {
-            return Room::Fits;
+            return Ok(());
         }
-        let w = counts_of(f, bytes);
-        return room_for(w.lits, w.steps, a, b, c);
+        return room_for(counts_of(f, bytes), a, b, c);
     }
     match scan(f, bytes) {
-        Scanned::Fault(p) => Room::Broken(p),
-        Scanned::Whole(n, m) => room_for(n, m, a, b, c),
+        Ok(size) => room_for(size, a, b, c),
+        Err(place) => Err(ReadError::NotWhole(place)),
     }
 }
 
@@ -88,7 +67,7 @@ pub fn read_proof(
     codes: &mut [u32],
     ends: &mut [u64],
     kinds: &mut [u8],
-) -> Read
+) -> Result<Size, ReadError>
     ensures value { let w = read_of f bytes.now (length codes.old) (length ends.old) (length kinds.old) in
         read result ≡ w.answer }
     ensures codes { let w = read_of f bytes.now (length codes.old) (length ends.old) (length kinds.old) in
@@ -98,14 +77,8 @@ pub fn read_proof(
     ensures kinds { let w = read_of f bytes.now (length codes.old) (length ends.old) (length kinds.old) in
         Fills (change kinds.old kinds.new) 0 w.kinds }
 {
-    match find(f, bytes, codes.len(), ends.len(), kinds.len()) {
-        Room::Fits => {
-            let w = fill(f, bytes, codes, ends, kinds);
-            Read::Filled(w.lits, w.steps)
-        }
-        Room::Short => Read::Short,
-        Room::Broken(p) => Read::Broken(p),
-    }
+    find(f, bytes, codes.len(), ends.len(), kinds.len())?;
+    Ok(fill(f, bytes, codes, ends, kinds))
 }
 
 // The place of the first token; 0 without any.

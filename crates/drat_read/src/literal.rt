@@ -64,33 +64,42 @@ fn code_5(b: u8, c: u8, d: u8, e: u8) -> u32
     2000 * digit(b) + 200 * digit(c) + 20 * digit(d) + 2 * digit(e) - 1
 }
 
-fn found(code: u32, next: usize) -> Literal
-    ensures { (result.code ≡ code) × (result.next ≡ next) }
-{
-    Literal { code, next }
-}
-
 // The number at a place, by how many bytes it has. The byte after it is below 45: no digit and no minus.
 pub fn literal_at(s: &[u8], at: usize) -> Literal
     requires { IsNumber s.now (signed_from at (drop at s.now)) }
-    ensures { signed_from at (drop at s.now) ≡ Lit result.code result.next }
+    ensures { signed_from at (drop at s.now) ≡ Some (Lit result.code result.next) }
 {
     let a = s[at];
     let b = s[at + 1];
     if b < 45 {
-        return found(code_1(a), at + 1);
+        return Literal {
+            code: code_1(a),
+            next: at + 1,
+        };
     }
     let c = s[at + 2];
     if c < 45 {
-        return found(code_2(a, b), at + 2);
+        return Literal {
+            code: code_2(a, b),
+            next: at + 2,
+        };
     }
     let d = s[at + 3];
     if d < 45 {
-        return found(code_3(a, b, c), at + 3);
+        return Literal {
+            code: code_3(a, b, c),
+            next: at + 3,
+        };
     }
     let e = s[at + 4];
     if e < 45 {
-        return found(code_4(a, b, c, d), at + 4);
+        return Literal {
+            code: code_4(a, b, c, d),
+            next: at + 4,
+        };
     }
-    found(code_5(b, c, d, e), at + 5)
+    Literal {
+        code: code_5(b, c, d, e),
+        next: at + 5,
+    }
 }

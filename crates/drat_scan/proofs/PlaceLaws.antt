@@ -15,8 +15,9 @@ use Rattle.drat.specs.Grammar.{Sep, blank, feed}
 use Rattle.drat.specs.Reading.{digits_from, signed_from, sep, seps, then_gap, token, gap_from}
 use Rattle.drat.specs.declared.Format.TheVariants.{Text}
 use Rattle.drat.specs.declared.Kind.TheVariants.{Delete}
-use Rattle.drat.specs.declared.Opening.TheVariants.{Opens, Wrong}
-use Rattle.drat.specs.declared.Token.TheVariants.{Lit, Bad}
+use Rattle.drat.specs.declared.Token.TheVariants.{Lit}
+use Rattle.std.specs.Prelude.{Some, None}
+use Rattle.drat.specs.Reading.{opens}
 
 pub not_true : (t : Bool) → not t ≡ true → t ≡ false
 not_true true h = sym h
@@ -68,15 +69,15 @@ seps_one s i h =
 
 -- the gap after a number, and the one after a `d`
 pub gap_some : (s : List ℕ) (code i r : ℕ) → sep (get_or s i 0) ≡ true → r ≡ i + 1 + seps (drop (i + 1) s)
-    → Lit code r ≡ pick (sep (get_or s i 0)) (Lit code (i + seps (drop i s))) Bad
-gap_some s code i r h e = ap (Lit code) (e ∙ sym (seps_one s i h)) ∙ sym (ap (λ (t : Bool). pick t (Lit code (i + seps (drop i s))) Bad) h)
+    → Some (Lit code r) ≡ pick (sep (get_or s i 0)) (Some (Lit code (i + seps (drop i s)))) None
+gap_some s code i r h e = ap (λ (x : ℕ). Some (Lit code x)) (e ∙ sym (seps_one s i h)) ∙ sym (ap (λ (t : Bool). pick t (Some (Lit code (i + seps (drop i s)))) None) h)
 
-pub open_none : (s : List ℕ) (i : ℕ) → length s ≤ i → Wrong ≡ gap_from i (drop i s)
+pub open_none : (s : List ℕ) (i : ℕ) → length s ≤ i → None ≡ gap_from i (drop i s)
 open_none s i h = sym (gap_at s i ∙ simp (get_or-eq_default s 0 h))
 
-pub open_some : (s : List ℕ) (i r : ℕ) → sep (get_or s i 0) ≡ true → r ≡ i + 1 + seps (drop (i + 1) s) → Opens Delete r ≡ gap_from i (drop i s)
+pub open_some : (s : List ℕ) (i r : ℕ) → sep (get_or s i 0) ≡ true → r ≡ i + 1 + seps (drop (i + 1) s) → opens Delete r ≡ gap_from i (drop i s)
 open_some s i r h e =
-    ap (Opens Delete) (e ∙ sym (seps_one s i h)) ∙ sym (gap_at s i ∙ ap (λ (t : Bool). pick t (Opens Delete (i + seps (drop i s))) Wrong) h)
+    ap (λ (x : ℕ). opens Delete x) (e ∙ sym (seps_one s i h)) ∙ sym (gap_at s i ∙ ap (λ (t : Bool). pick t (opens Delete (i + seps (drop i s))) None) h)
 
-pub open_not : (s : List ℕ) (i : ℕ) → sep (get_or s i 0) ≡ false → Wrong ≡ gap_from i (drop i s)
-open_not s i h = sym (gap_at s i ∙ ap (λ (t : Bool). pick t (Opens Delete (i + seps (drop i s))) Wrong) h)
+pub open_not : (s : List ℕ) (i : ℕ) → sep (get_or s i 0) ≡ false → None ≡ gap_from i (drop i s)
+open_not s i h = sym (gap_at s i ∙ ap (λ (t : Bool). pick t (opens Delete (i + seps (drop i s))) None) h)

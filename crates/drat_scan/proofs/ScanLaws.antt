@@ -14,9 +14,10 @@ use Rattle.drat.specs.Reading.{token, opening, One, got, fault, one_step, read_p
 use Rattle.drat.specs.Writing.{part}
 use Rattle.drat.specs.declared.Format.{Format}
 use Rattle.drat.specs.declared.Kind.{Kind}
-use Rattle.drat.specs.declared.Opening.TheVariants.{Opens, Wrong}
-use Rattle.drat.specs.declared.Scanned.TheVariants.{Whole, Fault}
-use Rattle.drat.specs.declared.Token.TheVariants.{Lit, Stop, Bad}
+use Rattle.drat.specs.declared.Token.TheVariants.{Lit, Stop}
+use Rattle.std.specs.Prelude.{Some, None, Ok, Err}
+use Rattle.drat.specs.Filled.{size}
+use Rattle.drat.specs.Reading.{opens}
 
 -- between steps: n literals and m steps were read
 pub record Between (f : Format) (s : List ℕ) (at n m : ℕ) : Type 0 where
@@ -36,7 +37,7 @@ between_start f s hb = record { codes = []; ends = []; kinds = []; outer = outer
 pub inside_start : (f : Format) (s : List ℕ) (at n : ℕ) → at ≤ length s → n ≤ at → InStep f s at n at n
 inside_start f s at n h g = record { codes = []; inner = inner_start f s [] at n h g }
 
-pub inside_more : (f : Format) (s : List ℕ) (first n₀ at n c j : ℕ) → Bytes s → InStep f s first n₀ at n → token f at (drop at s) ≡ Lit c j
+pub inside_more : (f : Format) (s : List ℕ) (first n₀ at n c j : ℕ) → Bytes s → InStep f s first n₀ at n → token f at (drop at s) ≡ Some (Lit c j)
     → InStep f s first n₀ j (n + 1)
 inside_more f s first n₀ at n c j hb i e = record { codes = set i.codes n c; inner = inner_more f s [] i.codes first n₀ at n c j hb i.inner e }
 
@@ -47,8 +48,8 @@ onto f s codes first n₀ at n i =
     record { ds = r.ds; within = r.within; after = r.after; small = r.small; read = r.read; count = r.count; held = refl }
 
 module _ (f : Format) (s : List ℕ) (start n m : ℕ) (hb : Bytes s) (b : Between f s start n m) where
-  pub between_more : (k : Kind) (first at n' j : ℕ) → opening f start (drop start s) ≡ Opens k first → InStep f s first n at n'
-      → token f at (drop at s) ≡ Stop j → Between f s (token_at f s j) n' (m + 1)
+  pub between_more : (k : Kind) (first at n' j : ℕ) → opening f start (drop start s) ≡ opens k first → InStep f s first n at n'
+      → token f at (drop at s) ≡ Some (Stop j) → Between f s (token_at f s j) n' (m + 1)
   between_more k first at n' j e i t =
       record {
         codes = _;
@@ -58,16 +59,16 @@ module _ (f : Format) (s : List ℕ) (start n m : ℕ) (hb : Bytes s) (b : Betwe
             (sets b.codes n i.inner.ds) at n' j (onto f s b.codes first n at n' i) t;
       }
 
-  pub between_wrong : start < length s → opening f start (drop start s) ≡ Wrong → Fault start ≡ counted (read_proof f s)
+  pub between_wrong : start < length s → opening f start (drop start s) ≡ None → Err start ≡ counted (read_proof f s)
   between_wrong h e = (outer_wrong f s [] [] [] b.codes b.ends b.kinds start n m hb b.outer h e [] [] []).answer
 
-  pub between_bad : start < length s → (k : Kind) (first at n' : ℕ) → opening f start (drop start s) ≡ Opens k first → InStep f s first n at n'
-      → token f at (drop at s) ≡ Bad → Fault start ≡ counted (read_proof f s)
+  pub between_bad : start < length s → (k : Kind) (first at n' : ℕ) → opening f start (drop start s) ≡ opens k first → InStep f s first n at n'
+      → token f at (drop at s) ≡ None → Err start ≡ counted (read_proof f s)
   between_bad h k first at n' e i t =
       (outer_bad f s [] [] [] b.codes b.ends b.kinds start n m hb b.outer h k first e (sets b.codes n i.inner.ds) at n'
       (onto f s b.codes first n at n' i) t [] [] []).answer
 
-  pub between_end : length s ≤ start → Whole n m ≡ counted (read_proof f s)
+  pub between_end : length s ≤ start → Ok (size n m) ≡ counted (read_proof f s)
   between_end h = (outer_end f s [] [] [] b.codes b.ends b.kinds start n m hb b.outer h).answer
 
 -- a step's end is not before its start

@@ -3,9 +3,9 @@ ghost use Rattle.std.specs.Prelude.{◌≡◌, ◌+◌, ◌≤◌, eqb, length, 
 ghost use Rattle.base.specs.Choice.{pick};
 ghost use Rattle.drat.specs.Reading.{numbered, digits_from, signed_from, sep, seps, lead, leb_from, close_from, token, gap_from, opening};
 ghost use Rattle.drat.specs.declared.Format.TheVariants.{Text, Binary};
-ghost use Rattle.drat.specs.declared.Token.TheVariants.{Lit, Bad};
+ghost use Rattle.drat.specs.declared.Token.TheVariants.{Lit};
 
-use drat::{Format, Kind, Opening, Token};
+use drat::{Format, Kind, Token};
 
 // Whether a byte separates tokens of text.
 fn is_sep(b: u8) -> bool
@@ -18,14 +18,12 @@ fn is_sep(b: u8) -> bool
 pub fn past_seps(s: &[u8], at: usize) -> usize
     ensures { (result ≡ at + seps (drop at s.now)) × (at ≤ length s.now → result ≤ length s.now) }
 {
-    let mut i = at;
-    while i < s.len() {
+    for i in at..s.len() {
         if !is_sep(s[i]) {
             return i;
         }
-        i += 1;
     }
-    i
+    at.max(s.len())
 }
 
 // The place after the bytes that may be passed before a step.
@@ -46,25 +44,25 @@ fn minus(b: u8) -> u32
 }
 
 // The literal whose number is v.
-fn literal(sign: u32, v: u32, at: usize) -> Token
+fn literal(sign: u32, v: u32, at: usize) -> Option<Token>
     requires sign_bound { sign ≤ 1 }
     requires v_bound { v ≤ 4096 }
     ensures { result ≡ numbered sign v at }
 {
     if v == 0 {
-        return Token::Bad;
+        return None;
     }
-    Token::Lit(2 * (v - 1) + sign, at)
+    Some(Token::Lit(2 * (v - 1) + sign, at))
 }
 
 // The longest run of decimal digits from a place on, and the place of the byte after it.
-fn decimal_at(s: &[u8], at: usize, sign: u32) -> Token
-    requires { sign ≤ 1 }
+fn decimal_at(s: &[u8], at: usize, sign: u32) -> Option<Token>
+    requires sign_bound { sign ≤ 1 }
+    requires at_in_bounds { at ≤ length s.now }
     ensures { result ≡ digits_from sign 0 at (drop at s.now) }
 {
     let mut v: u32 = 0;
-    let mut i = at;
-    while i < s.len() {
+    for i in at..s.len() {
         let b = s[i] as u32;
         if b < 48 {
             return literal(sign, v, i);
@@ -74,135 +72,132 @@ fn decimal_at(s: &[u8], at: usize, sign: u32) -> Token
         }
         let w = 10 * v + (b - 48);
         if w == 0 {
-            return Token::Bad;
+            return None;
         }
         if 4096 < w {
-            return Token::Bad;
+            return None;
         }
         v = w;
-        i += 1;
     }
-    literal(sign, v, i)
+    literal(sign, v, s.len())
 }
 
 // A literal's number from a place on, and the place of the byte after it.
-pub fn signed_at(s: &[u8], at: usize) -> Token
+pub fn signed_at(s: &[u8], at: usize) -> Option<Token>
     ensures { result ≡ signed_from at (drop at s.now) }
 {
     if s.len() <= at {
-        return Token::Bad;
+        return None;
     }
     let sign = minus(s[at]);
     decimal_at(s, at + sign as usize, sign)
 }
 
 // The separators after a number, at least one.
-fn gap_after(s: &[u8], code: u32, end: usize) -> Token
-    ensures { result ≡ pick (sep (get_or s.now end 0)) (Lit code (end + seps (drop end s.now))) Bad }
+fn gap_after(s: &[u8], code: u32, end: usize) -> Option<Token>
+    ensures { result ≡ pick (sep (get_or s.now end 0)) (Some (Lit code (end + seps (drop end s.now)))) None }
 {
     if s.len() <= end {
-        return Token::Bad;
+        return None;
     }
     if is_sep(s[end]) {
-        return Token::Lit(code, past_seps(s, end + 1));
+        return Some(Token::Lit(code, past_seps(s, end + 1)));
     }
-    Token::Bad
+    None
 }
 
 // The end of a text step, from the place after its 0: a separator or the end of the input.
-fn close_at(s: &[u8], at: usize) -> Token
+fn close_at(s: &[u8], at: usize) -> Option<Token>
     ensures { result ≡ close_from at (drop at s.now) }
 {
     if s.len() <= at {
-        return Token::Stop(at);
+        return Some(Token::Stop(at));
     }
     if is_sep(s[at]) {
-        return Token::Stop(at);
+        return Some(Token::Stop(at));
     }
-    Token::Bad
+    None
 }
 
 // What stands at a place inside a text step.
-pub(crate) fn text_token(s: &[u8], at: usize) -> Token
+pub(crate) fn text_token(s: &[u8], at: usize) -> Option<Token>
     ensures { result ≡ token Text at (drop at s.now) }
 {
     if s.len() <= at {
-        return Token::Bad;
+        return None;
     }
     if s[at] == 48 {
         return close_at(s, at + 1);
     }
     match signed_at(s, at) {
-        Token::Lit(code, end) => gap_after(s, code, end),
-        Token::Stop(_) => Token::Bad,
-        Token::Bad => Token::Bad,
+        Some(Token::Lit(code, end)) => gap_after(s, code, end),
+        Some(Token::Stop(_)) => None,
+        None => None,
     }
 }
 
 // LEB128 bytes from a place on.
-fn leb_at(s: &[u8], at: usize) -> Token
+fn leb_at(s: &[u8], at: usize) -> Option<Token>
     ensures { result ≡ leb_from 0 1 at (drop at s.now) }
 {
     let mut v: u32 = 0;
     let mut w: u32 = 1;
-    let mut i = at;
-    while i < s.len() {
+    for i in at..s.len() {
         let b = s[i] as u32;
         if b < 128 {
             if b == 0 {
-                return Token::Bad;
+                return None;
             }
             let n = v + w * b;
             if n < 2 {
-                return Token::Bad;
+                return None;
             }
             if 8193 < n {
-                return Token::Bad;
+                return None;
             }
-            return Token::Lit(n - 2, i + 1);
+            return Some(Token::Lit(n - 2, i + 1));
         }
         if 64 < w {
-            return Token::Bad;
+            return None;
         }
         v = v + w * (b - 128);
         w = w * 128;
-        i += 1;
     }
-    Token::Bad
+    None
 }
 
 // What stands at a place inside a binary step.
-pub(crate) fn binary_token(s: &[u8], at: usize) -> Token
+pub(crate) fn binary_token(s: &[u8], at: usize) -> Option<Token>
     ensures { result ≡ token Binary at (drop at s.now) }
 {
     if s.len() <= at {
-        return Token::Bad;
+        return None;
     }
     if s[at] == 0 {
-        return Token::Stop(at + 1);
+        return Some(Token::Stop(at + 1));
     }
     leb_at(s, at)
 }
 
 // The separators after a text step's `d`, at least one.
-fn gap_at(s: &[u8], at: usize) -> Opening
+fn gap_at(s: &[u8], at: usize) -> Option<(Kind, usize)>
     ensures { result ≡ gap_from at (drop at s.now) }
 {
     if s.len() <= at {
-        return Opening::Wrong;
+        return None;
     }
     if is_sep(s[at]) {
-        return Opening::Opens(Kind::Delete, past_seps(s, at + 1));
+        return Some((Kind::Delete, past_seps(s, at + 1)));
     }
-    Opening::Wrong
+    None
 }
 
 // How the step at a place opens.
-pub(crate) fn opening_at(f: Format, s: &[u8], at: usize) -> Opening
+pub(crate) fn opening_at(f: Format, s: &[u8], at: usize) -> Option<(Kind, usize)>
     ensures { result ≡ opening f at (drop at s.now) }
 {
     if s.len() <= at {
-        return Opening::Wrong;
+        return None;
     }
     let b = s[at];
     match f {
@@ -210,16 +205,16 @@ pub(crate) fn opening_at(f: Format, s: &[u8], at: usize) -> Opening
             if b == 100 {
                 return gap_at(s, at + 1);
             }
-            Opening::Opens(Kind::Add, at)
+            Some((Kind::Add, at))
         }
         Format::Binary => {
             if b == 97 {
-                return Opening::Opens(Kind::Add, at + 1);
+                return Some((Kind::Add, at + 1));
             }
             if b == 100 {
-                return Opening::Opens(Kind::Delete, at + 1);
+                return Some((Kind::Delete, at + 1));
             }
-            Opening::Wrong
+            None
         }
     }
 }

@@ -4,10 +4,11 @@ ghost use Rattle.drat.specs.Filled.{counted, end_of};
 ghost use Rattle.drat.specs.Reading.{token, one_step, read_proof};
 
 use crate::place::{binary_token, opening_at, past, text_token};
-use drat::{Format, Opening, Scanned, Token};
+use drat::{Format, Size, Token};
 
-// What stands at a place inside a step. It is called from one place alone, so that it is compiled into the scan's loop.
-fn token_at(f: Format, s: &[u8], at: usize) -> Token
+// What stands at a place inside a step.
+#[inline(always)]
+fn token_at(f: Format, s: &[u8], at: usize) -> Option<Token>
     ensures { result ≡ token f at (drop at s.now) }
 {
     match f {
@@ -17,7 +18,7 @@ fn token_at(f: Format, s: &[u8], at: usize) -> Token
 }
 
 // The number of literals and of steps, or the start of the first step that is not whole. Between steps `at` is the place of a first token.
-pub fn scan(f: Format, s: &[u8]) -> Scanned
+pub fn scan(f: Format, s: &[u8]) -> Result<Size, usize>
     ensures { result ≡ counted (read_proof f s.now) }
 {
     let mut at = past(f, s, 0);
@@ -28,39 +29,29 @@ pub fn scan(f: Format, s: &[u8]) -> Scanned
             break at;
         }
         let start = at;
-        let Opening::Opens(_, first) = opening_at(f, s, at) else {
+        let Some((_, first)) = opening_at(f, s, at) else {
             break 'steps start;
         };
         at = first;
         loop {
             match token_at(f, s, at) {
-                Token::Lit(_, next) => {
+                Some(Token::Lit(_, next)) => {
                     n += 1;
                     at = next;
                 }
-                Token::Stop(next) => {
+                Some(Token::Stop(next)) => {
                     at = past(f, s, next);
                     break;
                 }
-                Token::Bad => break 'steps start,
+                None => break 'steps start,
             }
         }
         m += 1;
     };
     if place < s.len() {
-        Scanned::Fault(place)
+        Err(place)
     } else {
-        Scanned::Whole(n, m)
-    }
-}
-
-// The same, for one step alone: a second call of `token_at` would keep it out of the scan's loop.
-fn token_alone(f: Format, s: &[u8], at: usize) -> Token
-    ensures { result ≡ token f at (drop at s.now) }
-{
-    match f {
-        Format::Text => text_token(s, at),
-        Format::Binary => binary_token(s, at),
+        Ok(Size { lits: n, steps: m })
     }
 }
 
@@ -69,17 +60,17 @@ pub fn step_end(f: Format, s: &[u8], start: usize) -> usize
     requires { start ≤ length s.now }
     ensures { (result ≡ end_of start (one_step f start (drop start s.now))) × (result ≤ length s.now) }
 {
-    let Opening::Opens(_, first) = opening_at(f, s, start) else {
+    let Some((_, first)) = opening_at(f, s, start) else {
         return start;
     };
     let mut at = first;
     loop {
-        match token_alone(f, s, at) {
-            Token::Lit(_, next) => {
+        match token_at(f, s, at) {
+            Some(Token::Lit(_, next)) => {
                 at = next;
             }
-            Token::Stop(next) => return next,
-            Token::Bad => return start,
+            Some(Token::Stop(next)) => return next,
+            None => return start,
         }
     }
 }

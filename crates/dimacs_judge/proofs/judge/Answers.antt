@@ -15,7 +15,6 @@ returns c =
     let run = c.lines_run in
     let all : take (length s - a.from) (drop a.from s) ≡ drop a.from s = take_all (length s - a.from) (drop a.from s)
     (omega (arith, length-drop a.from s)) in
-    λ n m e.
     judged_counts s a.v a.from lim.result (omega arith) lim.ensures (omega arith)
-    (sym run.ensures ∙ c.if-not-lines_run.false) c.tally_of-lits.result c.tally_of.result n m
-    (c.tally_of-lits.ensures ∙ ap (tally 32 32) all) (c.tally_of.ensures ∙ ap (tally 10 10) all) e
+    (sym run.ensures ∙ c.if-not-lines_run.false) c.tally_of.result c.tally_of-2.result
+    (c.tally_of.ensures ∙ ap (tally 32 32) all) (c.tally_of-2.ensures ∙ ap (tally 10 10) all)

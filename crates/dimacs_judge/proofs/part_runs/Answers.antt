@@ -7,8 +7,5 @@ pub loop-i-preserved : goal.loop-i-preserved
 loop-i-preserved c =
     let a = c.args in
     let s = a.s.now in
-    let l = c.loop-i in (
-      omega arith,
-      omega arith,
-      runs_turn a.t s (runs_at a.t s a.from) l.i (omega arith) (omega arith) l.ok c.next-ok.result l.invariant.2 c.next-ok.ensures,
-    )
+    let l = c.loop-i in
+    runs_turn a.t s (runs_at a.t s a.from) l.i (omega arith) (omega arith) l.ok c.next-ok.result l.invariant c.next-ok.ensures

@@ -1,115 +1,76 @@
 use mathlib.Core.Path.{sym, ◌∙◌}
-use borrow.Author.Tests.{not-true, not-false}
-use Rattle.dimacs_read.proofs.CallLaws.{call_headless, lines_within, lines_fit, call_wrong, call_miscounted, call_short₁, call_short₂, call_filled}
+use Rattle.dimacs_read.proofs.CallLaws.{call_headless, lines_within, lines_fit, call_wrong, call_miscounted, call_short, call_filled}
 use Rattle.dimacs_read.proofs.read_cnf.Goals as goal
 
-pub returns-then-not-head : goal.returns-then-not-head
-returns-then-not-head c =
+pub returns-in_default : goal.returns-in_default
+returns-in_default c =
     let a = c.args in
-    let if1 = c.if-not-head in
     let place = c.header_place-place in
-    let head = c.head_at-head in
-    let k = call_headless a.bytes.now a.codes.now a.ends.now place.result place.ensures.value head.result.found
-    head.result.variables head.result.clauses head.result.next head.ensures (not-true head.result.found if1.true) in
+    let k = call_headless a.bytes.now a.codes.now a.ends.now place.result place.ensures.value c.head_at.result c.head_at.ensures c.in_default.is in
     record { value = k.answer; codes = k.codes_after; ends = k.ends_after }
 
 pub count-requires : goal.count-requires
 count-requires c =
     let a = c.args in
-    let if1 = c.if-not-head in
     let place = c.header_place-place in
-    let head = c.head_at-head in
-    lines_within a.bytes.now a.codes.now a.ends.now place.result place.ensures.value head.result.found head.result.variables
-    head.result.clauses head.result.next head.ensures (not-false head.result.found if1.false) place.ensures.upper_bound
+    let found = c.head_at in
+    let head = c.in-Some.head in
+    lines_within a.bytes.now a.codes.now a.ends.now place.result place.ensures.value found.result found.ensures head.variables
+    head.clauses head.next c.in-Some.is place.ensures.upper_bound
 
-pub returns-then-head-m : goal.returns-then-head-m
-returns-then-head-m c =
+pub returns-in-Err : goal.returns-in-Err
+returns-in-Err c =
     let a = c.args in
-    let if1 = c.if-not-head in
-    let if2 = c.if-head-m in
     let place = c.header_place-place in
-    let head = c.head_at-head in
-    let count = c.count in
-    let told = c.in-Whole in
-    let k = call_miscounted a.bytes.now a.codes.now a.ends.now place.result place.ensures.value head.result.found
-    head.result.variables head.result.clauses head.result.next head.ensures (not-false head.result.found if1.false)
-    told.n told.m (sym told.is ∙ count.ensures) place.ensures.s_len_bound if2.true in
+    let found = c.head_at in
+    let head = c.in-Some.head in
+    let k = call_wrong a.bytes.now a.codes.now a.ends.now place.result place.ensures.value found.result found.ensures head.variables
+    head.clauses head.next c.in-Some.is c.in-Err.start (sym c.in-Err.is ∙ c.count.ensures) in
     record { value = k.answer; codes = k.codes_after; ends = k.ends_after }
 
-pub returns-then-codes-n : goal.returns-then-codes-n
-returns-then-codes-n c =
+pub returns-then-head-size : goal.returns-then-head-size
+returns-then-head-size c =
     let a = c.args in
-    let if1 = c.if-not-head in
-    let if2 = c.if-head-m in
-    let if3 = c.if-codes-n in
     let place = c.header_place-place in
-    let head = c.head_at-head in
-    let count = c.count in
-    let told = c.in-Whole in
-    let k = call_short₁ a.bytes.now a.codes.now a.ends.now place.result place.ensures.value head.result.found
-    head.result.variables head.result.clauses head.result.next head.ensures (not-false head.result.found if1.false)
-    told.n told.m (sym told.is ∙ count.ensures) place.ensures.s_len_bound if2.false if3.true in
+    let found = c.head_at in
+    let head = c.in-Some.head in
+    let told = c.in-Ok in
+    let k = call_miscounted a.bytes.now a.codes.now a.ends.now place.result place.ensures.value found.result found.ensures head.variables
+    head.clauses head.next c.in-Some.is told.size.lits told.size.steps (sym told.is ∙ c.count.ensures) place.ensures.s_len_bound c.if-head-size.true in
     record { value = k.answer; codes = k.codes_after; ends = k.ends_after }
 
-pub returns-then-ends-m : goal.returns-then-ends-m
-returns-then-ends-m c =
+pub returns-then-codes-size : goal.returns-then-codes-size
+returns-then-codes-size c =
     let a = c.args in
-    let if1 = c.if-not-head in
-    let if2 = c.if-head-m in
-    let if3 = c.if-codes-n in
-    let if4 = c.if-ends-m in
     let place = c.header_place-place in
-    let head = c.head_at-head in
-    let count = c.count in
-    let told = c.in-Whole in
-    let k = call_short₂ a.bytes.now a.codes.now a.ends.now place.result place.ensures.value head.result.found
-    head.result.variables head.result.clauses head.result.next head.ensures (not-false head.result.found if1.false)
-    told.n told.m (sym told.is ∙ count.ensures) place.ensures.s_len_bound if2.false if3.false if4.true in
+    let found = c.head_at in
+    let head = c.in-Some.head in
+    let told = c.in-Ok in
+    let k = call_short a.bytes.now a.codes.now a.ends.now place.result place.ensures.value found.result found.ensures head.variables head.clauses
+    head.next c.in-Some.is told.size.lits told.size.steps (sym told.is ∙ c.count.ensures) place.ensures.s_len_bound c.if-head-size.false
+    c.then-codes-size.either in
     record { value = k.answer; codes = k.codes_after; ends = k.ends_after }
 
 pub fill-requires : goal.fill-requires
 fill-requires c =
     let a = c.args in
-    let if1 = c.if-not-head in
-    let if3 = c.if-codes-n in
-    let if4 = c.if-ends-m in
     let place = c.header_place-place in
-    let head = c.head_at-head in
-    let count = c.count in
-    let told = c.in-Whole in
-    lines_fit a.bytes.now a.codes.now a.ends.now place.result place.ensures.value head.result.found head.result.variables
-    head.result.clauses head.result.next head.ensures (not-false head.result.found if1.false) told.n
-    told.m (sym told.is ∙ count.ensures) place.ensures.s_len_bound
-    (lines_within a.bytes.now a.codes.now a.ends.now place.result place.ensures.value head.result.found head.result.variables
-    head.result.clauses head.result.next head.ensures (not-false head.result.found if1.false) place.ensures.upper_bound) if3.false if4.false
+    let found = c.head_at in
+    let head = c.in-Some.head in
+    let told = c.in-Ok in
+    lines_fit a.bytes.now a.codes.now a.ends.now place.result place.ensures.value found.result found.ensures head.variables head.clauses head.next
+    c.in-Some.is told.size.lits told.size.steps (sym told.is ∙ c.count.ensures) place.ensures.s_len_bound
+    (lines_within a.bytes.now a.codes.now a.ends.now place.result place.ensures.value found.result found.ensures head.variables head.clauses
+    head.next c.in-Some.is place.ensures.upper_bound) c.if-codes-size.false c.if-ends-size.false
 
-pub returns-in-Fault : goal.returns-in-Fault
-returns-in-Fault c =
+pub returns : goal.returns
+returns c =
     let a = c.args in
-    let if1 = c.if-not-head in
     let place = c.header_place-place in
-    let head = c.head_at-head in
-    let count = c.count in
-    let told = c.in-Fault in
-    let k = call_wrong a.bytes.now a.codes.now a.ends.now place.result place.ensures.value head.result.found
-    head.result.variables head.result.clauses head.result.next head.ensures (not-false head.result.found if1.false)
-    told.p (sym told.is ∙ count.ensures) in
-    record { value = k.answer; codes = k.codes_after; ends = k.ends_after }
-
-pub returns-else-ends-m : goal.returns-else-ends-m
-returns-else-ends-m c =
-    let a = c.args in
-    let if1 = c.if-not-head in
-    let if2 = c.if-head-m in
-    let if3 = c.if-codes-n in
-    let if4 = c.if-ends-m in
-    let place = c.header_place-place in
-    let head = c.head_at-head in
-    let count = c.count in
-    let told = c.in-Whole in
-    let filled = c.fill in
-    let k = call_filled a.bytes.now a.codes.now a.ends.now place.result place.ensures.value head.result.found
-    head.result.variables head.result.clauses head.result.next head.ensures (not-false head.result.found if1.false)
-    told.n told.m (sym told.is ∙ count.ensures) place.ensures.s_len_bound if2.false if3.false
-    if4.false _ _ _ filled.ensures in
+    let found = c.head_at in
+    let head = c.in-Some.head in
+    let told = c.in-Ok in
+    let k = call_filled a.bytes.now a.codes.now a.ends.now place.result place.ensures.value found.result found.ensures head.variables head.clauses
+    head.next c.in-Some.is told.size.lits told.size.steps (sym told.is ∙ c.count.ensures) place.ensures.s_len_bound c.if-head-size.false
+    c.if-codes-size.false c.if-ends-size.false _ _ _ c.fill.ensures in
     record { value = k.answer; codes = k.codes_after; ends = k.ends_after }

@@ -1,25 +1,25 @@
-use mathlib.Core.Bool.{Bool}
-use mathlib.Core.Path.{sym, ap, ◌∙◌}
-use lib.ListN.{length}
+use mathlib.Core.Path.{ap, ◌∙◌}
+use lib.ListN.{length, length-append}
 use native.Mathlib.Omega.{arith}
-use Rattle.base.specs.Choice.{pick}
-use Rattle.drat_judge.proofs.RunsLaws.{starts_none, starts_first, starts_done}
+use Rattle.std.specs.Slice.Iter.{chunks_rest}
+use Rattle.drat_judge.specs.Local.{starts}
+use Rattle.drat_judge.proofs.RunsLaws.{starts_append, starts_none}
 use Rattle.drat_judge.proofs.starts_of.Goals as goal
 
-pub returns-then-s-eq0 : goal.returns-then-s-eq0
-returns-then-s-eq0 c =
+pub loop-part-preserved : goal.loop-part-preserved
+loop-part-preserved c =
     let a = c.args in
-    sym (starts_none a.lo a.hi a.s.now c.if-s-eq0.true)
-
-pub loop-i-init : goal.loop-i-init
-loop-i-init c =
-    let a = c.args in
-    let r = c.one-k.ensures.0 ∙ ap (λ (t : Bool). pick t 1 0) c.in_range.ensures in
-    let e = starts_first a.lo a.hi a.s.now (omega (arith, c.if-s-eq0.false)) in
-    (omega arith, omega (arith, c.if-s-eq0.false), omega (arith, c.one-k.ensures.1), omega (arith, r, e))
+    let l = c.loop-part in
+    let t = c.in-Some.ensures.steps in
+    let part = c.in-Some.part.now in
+    let rest = chunks_rest c.next.new.self in
+    let n = ap length t.1.0 ∙ length-append part rest in
+    let k = ap (starts a.lo a.hi l.p) t.1.0 ∙ starts_append a.lo a.hi l.p part rest (omega (arith, t.1, l.invariant.0)) in
+    (t.0 ∙ l.invariant.0, omega (arith, n, c.starts_block.ensures.1, l.invariant.1), omega (arith, k, c.starts_block.ensures.0, l.invariant.2))
 
 pub returns : goal.returns
 returns c =
     let a = c.args in
-    let s = a.s.now in
-    omega (arith, c.starts_block-2.ensures.0, starts_done a.lo a.hi s (length s) (omega arith), c.loop-i.invariant.3)
+    let l = c.loop-part in
+    let t = c.in-None.ensures.steps in
+    omega (arith, starts_none a.lo a.hi l.p (chunks_rest l.part-iterator) t.1.0, l.invariant.2)

@@ -1,11 +1,12 @@
-use Prim.Native.Nat.{◌+◌, ◌-◌, ◌≤◌}
+use Prim.Native.Nat.{◌+◌, ◌≤◌}
 use mathlib.Core.Path.{◌≡◌}
 use lib.ListN.{length}
-use Rattle.drat_judge.specs.Local.{starts, starts_at}
+use Rattle.std.specs.Slice.Iter.{chunks_rest, chunks_size}
+use Rattle.drat_judge.specs.Local.{starts}
 use Rattle.drat_judge.proofs.starts_of.Given as goal
 
-abbrev pub invariant-loop-i : goal.invariant-loop-i
-invariant-loop-i l = (1 ≤ l.i) × (l.i ≤ length l.s) × (l.k ≤ l.i) × (l.k + starts_at l.lo l.hi l.s l.i ≡ starts l.lo l.hi 10 l.s)
-
-abbrev pub decreases-loop-i : goal.decreases-loop-i
-decreases-loop-i l = length l.s - l.i
+abbrev pub invariant-loop-part : goal.invariant-loop-part
+invariant-loop-part l =
+    (chunks_size l.part-iterator ≡ 192)
+    × (l.k + length (chunks_rest l.part-iterator) ≤ length l.s)
+    × (l.k + starts l.lo l.hi l.p (chunks_rest l.part-iterator) ≡ starts l.lo l.hi 10 l.s)

@@ -13,7 +13,6 @@ returns-then-not-header_starts c =
     let a = c.args in
     let s = a.s.now in
     no_opening s a.at (sym c.header_starts.ensures ∙ c.if-not-header_starts.true)
-    c.headless.result.found c.headless.ensures c.headless.result.variables c.headless.result.clauses c.headless.result.next
 
 pub run_at-v-requires : goal.run_at-v-requires
 run_at-v-requires c =
@@ -29,8 +28,7 @@ returns-then-not-is_proper c =
     let p = c.run_at-v.result.next in
     let q = p + 1 + length (digits_at s (p + 1)) in
     let t₁ = sym c.header_starts.ensures ∙ c.if-not-header_starts.false in
-    no_first s a.at p q c.run_at-v.ensures.next_value refl t₁ (sym c.is_proper.ensures ∙ c.if-not-is_proper.true) c.headless-then-not-is_proper.result.found c.headless-then-not-is_proper.ensures c.headless-then-not-is_proper.result.variables c.headless-then-not-is_proper.result.clauses
-    c.headless-then-not-is_proper.result.next
+    no_first s a.at p q c.run_at-v.ensures.next_value refl t₁ (sym c.is_proper.ensures ∙ c.if-not-is_proper.true)
 
 pub returns-then-v-gt4096 : goal.returns-then-v-gt4096
 returns-then-v-gt4096 c =
@@ -42,8 +40,7 @@ returns-then-v-gt4096 c =
     let t₂ = sym c.is_proper.ensures ∙ c.if-not-is_proper.false in
     let t₃ = capped_above c.run_at-v.result.value (value_from 0 (digits_at s (a.at + 6))) c.run_at-v.ensures.capped
     c.if-v-gt4096.true in
-    too_large s a.at p q c.run_at-v.ensures.next_value refl t₁ t₂ t₃ c.headless-then-v-gt4096.result.found c.headless-then-v-gt4096.ensures c.headless-then-v-gt4096.result.variables
-    c.headless-then-v-gt4096.result.clauses c.headless-then-v-gt4096.result.next
+    too_large s a.at p q c.run_at-v.ensures.next_value refl t₁ t₂ t₃
 
 pub returns-then-not-stands : goal.returns-then-not-stands
 returns-then-not-stands c =
@@ -55,8 +52,7 @@ returns-then-not-stands c =
     let t₂ = sym c.is_proper.ensures ∙ c.if-not-is_proper.false in
     let t₃ = capped_small c.run_at-v.result.value (value_from 0 (digits_at s (a.at + 6)))
     c.run_at-v.ensures.capped c.if-v-gt4096.false in
-    no_blank s a.at p q c.run_at-v.ensures.next_value refl t₁ t₂ t₃.0 (sym c.stands.ensures ∙ c.if-not-stands.true) c.headless-then-not-stands.result.found c.headless-then-not-stands.ensures c.headless-then-not-stands.result.variables c.headless-then-not-stands.result.clauses
-    c.headless-then-not-stands.result.next
+    no_blank s a.at p q c.run_at-v.ensures.next_value refl t₁ t₂ t₃.0 (sym c.stands.ensures ∙ c.if-not-stands.true)
 
 pub returns-then-not-is_proper-2 : goal.returns-then-not-is_proper-2
 returns-then-not-is_proper-2 c =
@@ -69,8 +65,7 @@ returns-then-not-is_proper-2 c =
     let t₃ = capped_small c.run_at-v.result.value
     (value_from 0 (digits_at s (a.at + 6))) c.run_at-v.ensures.capped c.if-v-gt4096.false in
     let t₄ = sym c.stands.ensures ∙ c.if-not-stands.false in
-    no_second s a.at p q c.run_at-v.ensures.next_value c.run_at-c.ensures.next_value t₁ t₂ t₃.0 t₄ (sym c.is_proper-2.ensures ∙ c.if-not-is_proper-2.true) c.headless-then-not-is_proper-2.result.found c.headless-then-not-is_proper-2.ensures c.headless-then-not-is_proper-2.result.variables c.headless-then-not-is_proper-2.result.clauses
-    c.headless-then-not-is_proper-2.result.next
+    no_second s a.at p q c.run_at-v.ensures.next_value c.run_at-c.ensures.next_value t₁ t₂ t₃.0 t₄ (sym c.is_proper-2.ensures ∙ c.if-not-is_proper-2.true)
 
 pub returns-then-not-stands-2 : goal.returns-then-not-stands-2
 returns-then-not-stands-2 c =
@@ -86,8 +81,7 @@ returns-then-not-stands-2 c =
     (value_from 0 (digits_at s (a.at + 6))) c.run_at-v.ensures.capped c.if-v-gt4096.false in
     let t₄ = sym c.stands.ensures ∙ c.if-not-stands.false in
     let t₅ = sym c.is_proper-2.ensures ∙ c.if-not-is_proper-2.false in
-    no_feed s a.at p q c.run_at-v.ensures.next_value c.run_at-c.ensures.next_value t₁ t₂ t₃.0 t₄ t₅ (sym c.stands-2.ensures ∙ c.if-not-stands-2.true) c.headless-then-not-stands-2.result.found c.headless-then-not-stands-2.ensures c.headless-then-not-stands-2.result.variables c.headless-then-not-stands-2.result.clauses
-    c.headless-then-not-stands-2.result.next
+    no_feed s a.at p q c.run_at-v.ensures.next_value c.run_at-c.ensures.next_value t₁ t₂ t₃.0 t₄ t₅ (sym c.stands-2.ensures ∙ c.if-not-stands-2.true)
 
 pub returns : goal.returns
 returns c =

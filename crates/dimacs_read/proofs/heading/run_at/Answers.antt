@@ -1,3 +1,4 @@
+use native.Mathlib.Omega.{arith}
 use Rattle.dimacs_read.proofs.HeadingLaws.{run_start, run_more, run_over, run_end, no_digit_below, no_digit_above}
 use Rattle.dimacs_read.proofs.heading.run_at.Goals as goal
 
@@ -44,7 +45,7 @@ returns-clause-next_value c =
     let a = c.args in
     let l = c.loop-i in
     let q = run_end a.s.now a.from l.i l.value l.invariant c.loop-i-test.false in
-    q.0
+    omega (arith, q.0, q.1, c.loop-i-test.false)
 
 pub returns-clause-capped : goal.returns-clause-capped
 returns-clause-capped c =

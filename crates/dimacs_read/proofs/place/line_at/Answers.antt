@@ -1,6 +1,7 @@
 use Prim.Native.Nat.{◌+◌}
 use mathlib.Core.Path.{sym, ap, ◌∙◌}
 use lib.ListN.{drop}
+use Rattle.std.specs.Prelude.{Some}
 use native.Mathlib.Omega.{arith}
 use borrow.Author.Tests.{eq-eqb, ne_eqb}
 use Rattle.drat.proofs.Places.{signed_moves}
@@ -33,30 +34,30 @@ returns-then-b-eq48 c =
     ∙ simp (eq-eqb _ _ c.if-b-eq48.true)
     (end_here a.s.now (a.at + 1) c.if-s-j.false ∙ simp (ne_eqb _ _ c.if-s-j-eq10.false)))
 
-pub returns-in-Lit : goal.returns-in-Lit
-returns-in-Lit c =
+pub returns-in-Some-Lit : goal.returns-in-Some-Lit
+returns-in-Some-Lit c =
     let a = c.args in
     let s = a.s.now in
     let t = line_literal s a.at c.if-s-at.false
     c.if-b-eq48.false in
-    let e = sym c.signed_at.ensures ∙ c.in-Lit.is in
-    let code = c.in-Lit.code in
-    let end = c.in-Lit.end in
+    let e = sym c.signed_at.ensures ∙ c.in-Some-Lit.is ∙ ap Some c.in-Some-Lit.field-0-is in
+    let code = c.in-Some-Lit.code in
+    let end = c.in-Some-Lit.end in
     let after = (signed_moves a.at (drop a.at s) code end e).0 in
     c.spaced.ensures ∙ sym (t ∙ ap (then_blank a.at (drop a.at s)) e ∙ blank_after s a.at end (omega arith) code)
 
-pub returns-in-Stop : goal.returns-in-Stop
-returns-in-Stop c =
+pub returns-in-Some-Stop : goal.returns-in-Some-Stop
+returns-in-Some-Stop c =
     let a = c.args in
     let s = a.s.now in
     let t = line_literal s a.at c.if-s-at.false c.if-b-eq48.false in
-    sym (t ∙ ap (then_blank a.at (drop a.at s)) (sym c.signed_at.ensures ∙ c.in-Stop.is)
+    sym (t ∙ ap (then_blank a.at (drop a.at s)) (sym c.signed_at.ensures ∙ c.in-Some-Stop.is ∙ ap Some c.in-Some-Stop.field-0-is)
     ∙ blank_stop a.at (drop a.at s) _)
 
-pub returns-in-Bad : goal.returns-in-Bad
-returns-in-Bad c =
+pub returns-in-None : goal.returns-in-None
+returns-in-None c =
     let a = c.args in
     let s = a.s.now in
     let t = line_literal s a.at c.if-s-at.false c.if-b-eq48.false in
-    sym (t ∙ ap (then_blank a.at (drop a.at s)) (sym c.signed_at.ensures ∙ c.in-Bad.is)
+    sym (t ∙ ap (then_blank a.at (drop a.at s)) (sym c.signed_at.ensures ∙ c.in-None.is)
     ∙ blank_bad a.at (drop a.at s))

@@ -33,11 +33,10 @@ returns-then-b-lt45 c =
     let a = c.args in
     let pre = c.requires in
     let if1 = c.if-b-lt45 in
-    let r = c.found in
     let k = c.code_1 in
     let w = one_is a.s.now a.at pre if1.true in
-    lit_as _ pre.code pre.next _ _ pre.is (omega (arith, r.ensures.0, k.ensures, w.1))
-    (omega (arith, r.ensures.1, w.2))
+    lit_as _ pre.code pre.next _ _ pre.is (omega (arith, k.ensures, w.1))
+    (omega (arith, w.2))
 
 pub bounds-s-at-3 : goal.bounds-s-at-3
 bounds-s-at-3 c =
@@ -61,11 +60,10 @@ returns-then-c-lt45 c =
     let pre = c.requires in
     let if1 = c.if-b-lt45 in
     let if2 = c.if-c-lt45 in
-    let r = c.found-then-c-lt45 in
     let k = c.code_2 in
     let w = two_is a.s.now a.at pre if1.false if2.true in
-    lit_as _ pre.code pre.next _ _ pre.is (omega (arith, r.ensures.0, k.ensures, w.1))
-    (omega (arith, r.ensures.1, w.2))
+    lit_as _ pre.code pre.next _ _ pre.is (omega (arith, k.ensures, w.1))
+    (omega (arith, w.2))
 
 pub bounds-s-at-4 : goal.bounds-s-at-4
 bounds-s-at-4 c =
@@ -96,11 +94,10 @@ returns-then-d-lt45 c =
     let if1 = c.if-b-lt45 in
     let if2 = c.if-c-lt45 in
     let if3 = c.if-d-lt45 in
-    let r = c.found-then-d-lt45 in
     let k = c.code_3 in
     let w = three_is a.s.now a.at pre if1.false if2.false if3.true in
-    lit_as _ pre.code pre.next _ _ pre.is (omega (arith, r.ensures.0, k.ensures, w.1))
-    (omega (arith, r.ensures.1, w.2))
+    lit_as _ pre.code pre.next _ _ pre.is (omega (arith, k.ensures, w.1))
+    (omega (arith, w.2))
 
 pub bounds-s-at-5 : goal.bounds-s-at-5
 bounds-s-at-5 c =
@@ -136,11 +133,10 @@ returns-then-e-lt45 c =
     let if2 = c.if-c-lt45 in
     let if3 = c.if-d-lt45 in
     let if4 = c.if-e-lt45 in
-    let r = c.found-then-e-lt45 in
     let k = c.code_4 in
     let w = four_is a.s.now a.at pre if1.false if2.false if3.false if4.true in
-    lit_as _ pre.code pre.next _ _ pre.is (omega (arith, r.ensures.0, k.ensures, w.1))
-    (omega (arith, r.ensures.1, w.2))
+    lit_as _ pre.code pre.next _ _ pre.is (omega (arith, k.ensures, w.1))
+    (omega (arith, w.2))
 
 pub code_5-requires : goal.code_5-requires
 code_5-requires c =
@@ -167,8 +163,7 @@ returns c =
     let if2 = c.if-c-lt45 in
     let if3 = c.if-d-lt45 in
     let if4 = c.if-e-lt45 in
-    let r = c.found-2 in
     let k = c.code_5 in
     let w = five_is a.s.now a.at pre if1.false if2.false if3.false if4.false in
-    lit_as _ pre.code pre.next _ _ pre.is (omega (arith, r.ensures.0, k.ensures, w.1))
-    (omega (arith, r.ensures.1, w.2))
+    lit_as _ pre.code pre.next _ _ pre.is (omega (arith, k.ensures, w.1))
+    (omega (arith, w.2))

@@ -1,8 +1,10 @@
-use mathlib.Core.Path.{sym, ◌∙◌}
+use mathlib.Core.Path.{◌≡◌, sym, ap, ◌∙◌}
+use lib.ListN.{length}
 use native.Mathlib.Omega.{arith}
 use borrow.Author.Tests.{eq-eqb, ne_eqb, lt-ltb, le-ltb}
 use Rattle.drat.proofs.At.{digits_here, digits_past}
 use Rattle.drat.proofs.Numerals.{is_in_range, below_range, above_range}
+use Rattle.drat.specs.Reading.{numbered}
 use Rattle.drat_scan.proofs.place.decimal_at.Goals as goal
 
 pub returns-then-b-lt48 : goal.returns-then-b-lt48
@@ -56,4 +58,5 @@ pub returns : goal.returns
 returns c =
     let a = c.args in
     let l = c.loop-i in
-    c.literal-2.ensures ∙ sym (sym l.invariant.1 ∙ digits_past a.s.now l.i c.loop-i-test.false a.sign l.v)
+    let e : l.i ≡ length a.s.now = omega (arith, l.auto.i-end, c.requires.at_in_bounds) in
+    c.literal-2.ensures ∙ ap (numbered a.sign l.v) (sym e) ∙ sym (sym l.invariant.1 ∙ digits_past a.s.now l.i c.loop-i-test.false a.sign l.v)

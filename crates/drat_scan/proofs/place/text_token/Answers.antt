@@ -1,5 +1,6 @@
 use mathlib.Core.Path.{sym, ap, ◌∙◌}
 use lib.ListN.{drop}
+use Rattle.std.specs.Prelude.{Some}
 use native.Mathlib.Omega.{arith}
 use borrow.Author.Tests.{eq-eqb}
 use Rattle.drat.proofs.At.{text_here, token_past, gap_after, gap_stop, gap_bad}
@@ -19,30 +20,30 @@ returns-then-s-at-eq48 c =
     let a = c.args in
     c.close_at.ensures ∙ sym (text_here a.s.now a.at c.if-s-at.false ∙ simp (eq-eqb _ _ c.if-s-at-eq48.true))
 
-pub returns-in-Lit : goal.returns-in-Lit
-returns-in-Lit c =
+pub returns-in-Some-Lit : goal.returns-in-Some-Lit
+returns-in-Some-Lit c =
     let a = c.args in
     let s = a.s.now in
     let t = text_literal s a.at c.if-s-at.false
     c.if-s-at-eq48.false in
-    let e = sym c.signed_at.ensures ∙ c.in-Lit.is in
-    let code = c.in-Lit.code in
-    let end = c.in-Lit.end in
+    let e = sym c.signed_at.ensures ∙ c.in-Some-Lit.is ∙ ap Some c.in-Some-Lit.field-0-is in
+    let code = c.in-Some-Lit.code in
+    let end = c.in-Some-Lit.end in
     let after = (signed_moves a.at (drop a.at s) code end e).0 in
     c.gap_after.ensures ∙ sym (t ∙ ap (then_gap a.at (drop a.at s)) e ∙ gap_after s a.at end (omega (arith, after)) code)
 
-pub returns-in-Stop : goal.returns-in-Stop
-returns-in-Stop c =
+pub returns-in-Some-Stop : goal.returns-in-Some-Stop
+returns-in-Some-Stop c =
     let a = c.args in
     let s = a.s.now in
     let t = text_literal s a.at c.if-s-at.false c.if-s-at-eq48.false in
-    sym (t ∙ ap (then_gap a.at (drop a.at s)) (sym c.signed_at.ensures ∙ c.in-Stop.is)
+    sym (t ∙ ap (then_gap a.at (drop a.at s)) (sym c.signed_at.ensures ∙ c.in-Some-Stop.is ∙ ap Some c.in-Some-Stop.field-0-is)
     ∙ gap_stop a.at (drop a.at s) _)
 
-pub returns-in-Bad : goal.returns-in-Bad
-returns-in-Bad c =
+pub returns-in-None : goal.returns-in-None
+returns-in-None c =
     let a = c.args in
     let s = a.s.now in
     let t = text_literal s a.at c.if-s-at.false c.if-s-at-eq48.false in
-    sym (t ∙ ap (then_gap a.at (drop a.at s)) (sym c.signed_at.ensures ∙ c.in-Bad.is)
+    sym (t ∙ ap (then_gap a.at (drop a.at s)) (sym c.signed_at.ensures ∙ c.in-None.is)
     ∙ gap_bad a.at (drop a.at s))
