@@ -1,11 +1,13 @@
 -- Laws of `sets`, a run of stores.
-use Prim.Native.Nat.{ℕ, suc, ◌+◌}
+use Prim.Native.Nat.{ℕ, suc, ◌+◌, ◌≤◌}
 use mathlib.Core.Path.{◌≡◌, sym, ap, ◌∙◌}
-use mathlib.Core.List.{List, [], ◌∷◌, ◌++◌}
+use mathlib.Core.List.{List, [], ◌∷◌, ◌++◌, append_assoc}
 use native.Mathlib.Nat.{add-zero}
 use native.Mathlib.Omega.{arith}
-use lib.ListN.{length, set}
-use lib.Seq.{sets}
+use lib.ListN.{length, take, drop, set}
+use lib.Seq.{sets, drop-drop}
+use Rattle.std.proofs.lemmas.List.Edits.{sets-eq}
+use borrow.Rule.Slice.PartMut.{put_mid}
 
 -- one run of stores after another
 pub sets_append : (xs ys l : List ℕ) (i : ℕ) → sets l i (xs ++ ys) ≡ sets (sets l i xs) (i + length xs) ys
@@ -15,3 +17,10 @@ sets_append (x ∷ xs) ys l i = sets_append xs ys (set l i x) (suc i) ∙ ap (λ
 -- a store just past a run of stores makes the run one longer
 pub store_next : (l m xs : List ℕ) (i n x : ℕ) → m ≡ sets l i xs → n ≡ i + length xs → set m n x ≡ sets l i (xs ++ x ∷ [])
 store_next l m xs i n x a b = ap (λ (k : List ℕ). set k n x) a ∙ ap (λ (k : ℕ). set (sets l i xs) k x) b ∙ sym (sets_append xs (x ∷ []) l i)
+
+-- a part that is replaced by as many words is a run of stores
+pub part_sets : (a k : ℕ) (l xs : List ℕ) → k ≡ length xs → a + length xs ≤ length l → put_mid a k l xs ≡ sets l a xs
+part_sets a k l xs e h =
+    ap (λ (r : List ℕ). take a l ++ (xs ++ r)) (drop-drop k a l ∙ ap (λ (n : ℕ). drop (a + n) l) e)
+    ∙ sym (append_assoc (take a l) xs (drop (a + length xs) l))
+    ∙ sym (sets-eq xs l a h)
