@@ -258,7 +258,7 @@ fn put_each(f: Format, lits: &[u32], out: &mut [u8], at: usize) -> usize
     p
 }
 
-// Writes literals. In binary a code below 126 takes one byte: a long clause of such codes is copied without a test of each.
+// Writes literals. In binary a code below 126 takes one byte: where all are, they are copied without a test of each.
 fn put_lits(f: Format, lits: &[u32], out: &mut [u8], at: usize) -> usize
     requires codes { Codes lits.now }
     requires lits_in_bounds { at + length (numbers f lits.now) ≤ length out.old }
@@ -268,7 +268,7 @@ fn put_lits(f: Format, lits: &[u32], out: &mut [u8], at: usize) -> usize
     match f {
         Format::Text => put_each(Format::Text, lits, out, at),
         Format::Binary => {
-            if 16 <= lits.len() && all_below(lits, 126) {
+            if all_below(lits, 126) {
                 return put_short(lits, out, at);
             }
             put_each(Format::Binary, lits, out, at)
@@ -276,8 +276,7 @@ fn put_lits(f: Format, lits: &[u32], out: &mut [u8], at: usize) -> usize
     }
 }
 
-// Writes a step from the place `at` on, and gives the place after it.
-pub fn put_step(f: Format, k: Kind, lits: &[u32], out: &mut [u8], at: usize) -> usize
+fn put_any(f: Format, k: Kind, lits: &[u32], out: &mut [u8], at: usize) -> usize
     requires codes { Codes lits.now }
     requires lits_in_bounds { at + length (encode_step f (step_of k lits.now)) ≤ length out.old }
     ensures value { result ≡ at + length (encode_step f (step_of k lits.now)) }
@@ -286,6 +285,31 @@ pub fn put_step(f: Format, k: Kind, lits: &[u32], out: &mut [u8], at: usize) -> 
     let p = put_open(f, k, out, at);
     let q = put_lits(f, lits, out, p);
     put_end(f, out, q)
+}
+
+// In binary, with no pass over the literals before they are written.
+fn put_few(k: Kind, lits: &[u32], out: &mut [u8], at: usize) -> usize
+    requires codes { Codes lits.now }
+    requires lits_in_bounds { at + length (encode_step Binary (step_of k lits.now)) ≤ length out.old }
+    ensures value { result ≡ at + length (encode_step Binary (step_of k lits.now)) }
+    ensures fills { Fills (change out.old out.new) at (encode_step Binary (step_of k lits.now)) }
+{
+    let p = put_open(Format::Binary, k, out, at);
+    let q = put_each(Format::Binary, lits, out, p);
+    put_end(Format::Binary, out, q)
+}
+
+// Writes a step from the place `at` on, and gives the place after it. Short binary ones go apart, so that they are inlined.
+pub fn put_step(f: Format, k: Kind, lits: &[u32], out: &mut [u8], at: usize) -> usize
+    requires codes { Codes lits.now }
+    requires lits_in_bounds { at + length (encode_step f (step_of k lits.now)) ≤ length out.old }
+    ensures value { result ≡ at + length (encode_step f (step_of k lits.now)) }
+    ensures fills { Fills (change out.old out.new) at (encode_step f (step_of k lits.now)) }
+{
+    match f {
+        Format::Binary if lits.len() < 16 => put_few(k, lits, out, at),
+        _ => put_any(f, k, lits, out, at),
+    }
 }
 
 fn no_clause(buf: &[u32], a: usize, b: usize) -> bool

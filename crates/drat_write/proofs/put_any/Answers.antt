@@ -6,7 +6,7 @@ use lib.Seq.{sets}
 use lib.ListN.{length}
 use Rattle.drat.proofs.Steps.{step_length, step_sets}
 use Rattle.drat.specs.Grammar.{numbers, ends}
-use Rattle.drat_write.proofs.put_step.Goals as goal
+use Rattle.drat_write.proofs.put_any.Goals as goal
 
 pub put_open-p-requires : goal.put_open-p-requires
 put_open-p-requires c =
