@@ -276,6 +276,7 @@ fn put_lits(f: Format, lits: &[u32], out: &mut [u8], at: usize) -> usize
     }
 }
 
+#[inline(never)]
 fn put_any(f: Format, k: Kind, lits: &[u32], out: &mut [u8], at: usize) -> usize
     requires codes { Codes lits.now }
     requires lits_in_bounds { at + length (encode_step f (step_of k lits.now)) ≤ length out.old }
@@ -287,7 +288,8 @@ fn put_any(f: Format, k: Kind, lits: &[u32], out: &mut [u8], at: usize) -> usize
     put_end(f, out, q)
 }
 
-// In binary, with no pass over the literals before they are written.
+// In binary, with no pass over the literals before they are written. Apart from `put_any`, since one function for both takes 1.1 to 1.3 times as
+// long at 3 to 10 literals.
 fn put_few(k: Kind, lits: &[u32], out: &mut [u8], at: usize) -> usize
     requires codes { Codes lits.now }
     requires lits_in_bounds { at + length (encode_step Binary (step_of k lits.now)) ≤ length out.old }
@@ -299,7 +301,8 @@ fn put_few(k: Kind, lits: &[u32], out: &mut [u8], at: usize) -> usize
     put_end(Format::Binary, out, q)
 }
 
-// Writes a step from the place `at` on, and gives the place after it. Short binary ones go apart, so that they are inlined.
+// Writes a step from the place `at` on, and gives the place after it. Short binary ones are inlined in the loops that call this.
+#[inline(always)]
 pub fn put_step(f: Format, k: Kind, lits: &[u32], out: &mut [u8], at: usize) -> usize
     requires codes { Codes lits.now }
     requires lits_in_bounds { at + length (encode_step f (step_of k lits.now)) ≤ length out.old }
