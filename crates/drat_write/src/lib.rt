@@ -76,7 +76,7 @@ pub fn step_fits(f: Format, k: Kind, lits: &[u32], room: usize) -> bool
 }
 
 // Copies bytes to the place `at`, and gives the place after them.
-fn put_bytes(bytes: &[u8], out: &mut [u8], at: usize) -> usize
+pub fn put_bytes(bytes: &[u8], out: &mut [u8], at: usize) -> usize
     requires { at + length bytes.now ≤ length out.old }
     ensures value { result ≡ at + length bytes.now }
     ensures fills { Fills (change out.old out.new) at bytes.now }
