@@ -1,14 +1,12 @@
 -- A call that is done at once: it is accepted and there is nothing to do, so that it makes no note and leaves the table as it was. What it finds is
 -- then read off the lists ("held already" of Grant, "mapped already" of Map).
-use Rattle.std.specs.Prelude.{ℕ, zero, suc, ◌≡◌, List, [], ◌∷◌, length}
+use Rattle.std.specs.Prelude.{ℕ, zero, suc, ◌≡◌, List, [], ◌∷◌, length, Option, Some, None}
 use Rattle.base.specs.Answer.{Answer, accepted, refused}
+use Rattle.scope.specs.declared.Global.{Global}
+use Rattle.scope.specs.declared.Solver.{Solver}
 use Rattle.scope.specs.Table.{Table}
 use Rattle.scope.specs.Outcome.{Outcome}
 use Rattle.scope.specs.Contract.{Does}
-use Rattle.table.specs.declared.FoundGlobal.{FoundGlobal}
-use Rattle.table.specs.declared.FoundGlobal.TheVariants as G
-use Rattle.table.specs.declared.FoundSolver.{FoundSolver}
-use Rattle.table.specs.declared.FoundSolver.TheVariants as S
 
 -- the value of an accepted answer whose count of notes is 0, else nothing
 abbrev pub value_at_once : Answer → List ℕ
@@ -23,13 +21,13 @@ abbrev pub at_once : Outcome → List ℕ
 at_once o = value_at_once o.answer
 
 -- the index found, or nothing
-abbrev pub global_found : FoundGlobal → List ℕ
-global_found (G.At g) = g.0 ∷ []
-global_found G.Nothing = []
+abbrev pub global_found : Option Global → List ℕ
+global_found (Some g) = g.0 ∷ []
+global_found None = []
 
-abbrev pub solver_found : FoundSolver → List ℕ
-solver_found (S.At s) = s.0 ∷ []
-solver_found S.Nothing = []
+abbrev pub solver_found : Option Solver → List ℕ
+solver_found (Some s) = s.0 ∷ []
+solver_found None = []
 
 -- Of a call on the table t, by the room lent for notes, vs is what is said at once: its value, where it is accepted with no note, whatever the
 -- room; nothing, where it is refused or makes a note. In the first case the table and the words lent for notes stay as they were.

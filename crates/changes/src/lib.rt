@@ -1,4 +1,5 @@
 // What the calls that change a table share: what a change inside a call leaves, and the deletion of a global that is used no more.
+// Lists, notes and the place in them are parameters of their own: by their types each function lends by `&mut` only what it may change.
 #![tactic(auto)]
 
 ghost use Rattle.std.specs.Prelude.{ℕ, List, length};

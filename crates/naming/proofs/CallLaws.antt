@@ -1,4 +1,5 @@
 -- Laws of the calls Map and New user: refusals, and what an accepted call does.
+use Rattle.std.specs.Prelude.{Result, Ok, Err}
 use Prim.Native.Nat.{ℕ, zero, suc, ◌+◌, ◌-◌, ◌*◌, ◌/◌, ◌^◌, ◌≤◌, ◌<◌}
 use mathlib.Core.Path.{◌≡◌, refl, sym, ap, ◌∙◌, subst}
 use mathlib.Core.Bool.{Bool, true, false, ◌&&◌, not}
@@ -7,27 +8,30 @@ use native.Mathlib.Omega.{arith}
 use lib.Dec.{ltb, leb}
 use lib.ListN.{length, get_or}
 use borrow.Author.Tests.{lt-ltb, le-ltb, le-leb, lt-leb, leb-false, ltb-false, not-false}
-use Rattle.base.specs.Answer.{number_of, values_of}
+use Rattle.base.specs.Answer.{accepted, refused}
 use Rattle.scope.specs.declared.Counts.{Counts}
 use Rattle.scope.specs.declared.Global.{Global}
+use Rattle.scope.specs.declared.Refusal.{Refusal}
+use Rattle.scope.specs.declared.Refusal.TheVariants.{Unsound}
 use Rattle.scope.specs.declared.User.{User}
+use Rattle.scope.specs.Refusals.{number}
 use Rattle.scope.specs.Table.{Table, word, least_free, undeleted}
 use Rattle.scope.specs.Sound.{Sizes, soundb}
 use Rattle.scope.specs.Outcome.{short}
 use Rattle.scope.specs.Map.{map_user, next_user, new_user, to_map, unsampled, map_refusal, map_of, new_user_refusal, new_user_of}
 use Rattle.scope.specs.Contract.{Said, Does}
+use Rattle.scope.proofs.RefusedLaws.{number_not_0, refusal_at, refusal_back}
 use Rattle.scope.proofs.MoveLaws.{used_most}
 use Rattle.scope.proofs.SoundLaws.{sound_of}
 use Rattle.scope.proofs.MapLaws.{map_user_count, mapped_global, next_user_to_map, next_user_within}
 use Rattle.scope.proofs.PairLaws.{free_most}
 use Rattle.scope.proofs.ResultLaws.{past}
+use Rattle.table.proofs.AnswerLaws.{one_of}
 use Rattle.changes.specs.Leaves.{Leaves}
 use Rattle.changes.proofs.LeavesLaws.{leaves_giving}
 use Rattle.changes.proofs.CallLaws.{call_refused, call_accepted, call_noted}
 use Rattle.naming.specs.declared.UserMapped.{UserMapped}
-use Rattle.naming.specs.declared.UserMapped.TheVariants as Map
 use Rattle.naming.specs.declared.NewUser.{NewUser}
-use Rattle.naming.specs.declared.NewUser.TheVariants as New
 use Rattle.naming.specs.Parts.{is_unsampled, MapBelow}
 use Rattle.mapping.specs.Asks.{MapAsks}
 use Rattle.naming.specs.Answers.{user_mapped, new_user_mapped}
@@ -132,10 +136,10 @@ module _ (t : Table) (u : ℕ) (sampling : Bool) (room : ℕ) where
           map_0 r = rw (y, lt-leb t.counts.capacity u l, sampled, enough, words, le-ltb room (3 * n) r)
 
 -- no refusal is what the inner mapping asks
-pub map_asks : (t : Table) (u : ℕ) (sampling : Bool) (n room : ℕ) → n ≡ map_refusal t u sampling room → n ≡ 0 → MapAsks t u 0 room
+pub map_asks : (t : Table) (u : ℕ) (sampling : Bool) (room : ℕ) → 0 ≡ map_refusal t u sampling room → MapAsks t u 0 room
 unfolding map_refusal
-map_asks t u sampling n room q e =
-    let a = past (not (soundb t)) 1 _ (omega arith) (sym q ∙ e) in
+map_asks t u sampling room q =
+    let a = past (not (soundb t)) 1 _ (omega arith) (sym q) in
     let b = past (leb t.counts.capacity u) 3 _ (omega arith) a.1 in
     let c = past (sampling && unsampled t u) 4 _ (omega arith) b.1 in
     let d = past (ltb t.counts.capacity (undeleted t + to_map t u)) 5 _ (omega arith) c.1 in
@@ -155,22 +159,22 @@ map_few t u at room h =
     let r = h.enough in
     omega arith
 
-pub map_refused : (t : Table) (u : ℕ) (sampling : Bool) (n : ℕ) (words : List ℕ) → n ≡ map_refusal t u sampling (length words) → (n ≡ 0 → ⊥)
-    → Does (map_of t u sampling (length words)) (user_mapped (Map.Refused n) t.counts) t words words
+pub map_refused : (t : Table) (u : ℕ) (sampling : Bool) (r : Refusal) (words : List ℕ) → number r ≡ map_refusal t u sampling (length words)
+    → Does (map_of t u sampling (length words)) (user_mapped (Err r) t.counts) t words words
 unfolding map_of
-map_refused t u sampling n words q e = call_refused (map_refusal t u sampling (length words)) n t _ words q e
+map_refused t u sampling r words q = call_refused (map_refusal t u sampling (length words)) (number r) t _ words q (number_not_0 r)
 
 pub map_unsound : (t : Table) (u : ℕ) (sampling : Bool) (words : List ℕ) → soundb t ≡ false
-    → Does (map_of t u sampling (length words)) (user_mapped (Map.Refused 1) t.counts) t words words
-map_unsound t u sampling words n = map_refused t u sampling 1 words (map_1 t u sampling (length words) n) (omega arith)
+    → Does (map_of t u sampling (length words)) (user_mapped (Err Unsound) t.counts) t words words
+map_unsound t u sampling words n = map_refused t u sampling Unsound words (map_1 t u sampling (length words) n)
 
-pub map_done : (t : Table) (u : ℕ) (sampling : Bool) (n at : ℕ) (g : Global) (left : Table) (words words' : List ℕ)
-    → n ≡ map_refusal t u sampling (length words) → n ≡ 0
+pub map_done : (t : Table) (u : ℕ) (sampling : Bool) (at : ℕ) (g : Global) (left : Table) (words words' : List ℕ)
+    → 0 ≡ map_refusal t u sampling (length words)
     → (g.0 ≡ (map_user u t).value) × Leaves (map_user u t) 0 at left words words'
-    → Does (map_of t u sampling (length words)) (user_mapped (Map.Done g left.counts (at / 3)) t.counts) left words words'
+    → Does (map_of t u sampling (length words)) (user_mapped (Ok (record { global = g; counts = left.counts; notes = at / 3 })) t.counts) left words words'
 unfolding map_of
-map_done t u sampling n at g left words words' q e h =
-    call_accepted (map_refusal t u sampling (length words)) n t _ _ left words words' q e
+map_done t u sampling at g left words words' q h =
+    call_accepted (map_refusal t u sampling (length words)) 0 t _ _ left words words' q refl
     (call_noted (λ g. g ∷ []) (g.0 ∷ []) (map_user u t) at left.counts left words words' h.1 (ap (λ (i : ℕ). i ∷ []) h.0))
 
 -- ---- New user
@@ -211,10 +215,10 @@ pub record NewAsks (t : Table) (room : ℕ) : Type 0 where
   pub marked : t.counts.user ≤ length t.global_from_user
   pub asks : MapAsks t (next_user t) 0 room
 
-pub new_asks : (t : Table) (n room : ℕ) → n ≡ new_user_refusal t room → n ≡ 0 → NewAsks t room
+pub new_asks : (t : Table) (room : ℕ) → 0 ≡ new_user_refusal t room → NewAsks t room
 unfolding new_user_refusal
-new_asks t n room q e =
-    let a = past (not (soundb t)) 1 _ (omega arith) (sym q ∙ e) in
+new_asks t room q =
+    let a = past (not (soundb t)) 1 _ (omega arith) (sym q) in
     let d = past (ltb t.counts.capacity (undeleted t + 1)) 5 _ (omega arith) a.1 in
     let f = past (short room (new_user t).notes) 2 0 (omega arith) d.1 in
     let y = not-false (soundb t) a.0 in
@@ -241,41 +245,53 @@ found_asks t u room h e = subst (λ (k : ℕ). MapAsks t k 0 room) (sym (next_is
 pub found_low : (gu : List ℕ) (mark u : ℕ) → u ≡ least_free gu mark → u ≤ mark
 found_low gu mark u e = let m = free_most gu mark in omega arith
 
-pub new_refused : (t : Table) (n : ℕ) (words : List ℕ) → n ≡ new_user_refusal t (length words) → (n ≡ 0 → ⊥)
-    → Does (new_user_of t (length words)) (new_user_mapped (New.Refused n) t.counts) t words words
+pub new_refused : (t : Table) (r : Refusal) (words : List ℕ) → number r ≡ new_user_refusal t (length words)
+    → Does (new_user_of t (length words)) (new_user_mapped (Err r) t.counts) t words words
 unfolding new_user_of
-new_refused t n words q e = call_refused (new_user_refusal t (length words)) n t _ words q e
+new_refused t r words q = call_refused (new_user_refusal t (length words)) (number r) t _ words q (number_not_0 r)
 
 pub new_unsound : (t : Table) (words : List ℕ) → soundb t ≡ false
-    → Does (new_user_of t (length words)) (new_user_mapped (New.Refused 1) t.counts) t words words
-new_unsound t words n = new_refused t 1 words (new_1 t (length words) n) (omega arith)
+    → Does (new_user_of t (length words)) (new_user_mapped (Err Unsound) t.counts) t words words
+new_unsound t words n = new_refused t Unsound words (new_1 t (length words) n)
 
-pub new_done : (t : Table) (u : User) (n at : ℕ) (g : Global) (left : Table) (words words' : List ℕ) → n ≡ new_user_refusal t (length words) → n ≡ 0
+pub new_done : (t : Table) (u : User) (at : ℕ) (g : Global) (left : Table) (words words' : List ℕ) → 0 ≡ new_user_refusal t (length words)
     → u.0 ≡ least_free t.global_from_user t.counts.user
     → (g.0 ≡ (map_user u.0 t).value) × Leaves (map_user u.0 t) 0 at left words words'
-    → Does (new_user_of t (length words)) (new_user_mapped (New.Done u g left.counts (at / 3)) t.counts) left words words'
+    → Does (new_user_of t (length words)) (new_user_mapped (Ok (record { user = u; global = g; counts = left.counts; notes = at / 3 })) t.counts) left
+    words words'
 unfolding new_user_of new_user
-new_done t u n at g left words words' q e f h =
+new_done t u at g left words words' q f h =
     let i = next_is t u.0 f in
     let k = subst (λ (v : ℕ). Leaves (map_user v t) 0 at left words words') i h.1 in
     let w = subst (λ (v : ℕ). g.0 ≡ (map_user v t).value) i h.0 in
-    call_accepted (new_user_refusal t (length words)) n t _ _ left words words' q e
+    call_accepted (new_user_refusal t (length words)) 0 t _ _ left words words' q refl
     (call_noted (λ vs. vs) (u.0 ∷ g.0 ∷ []) (new_user t) at left.counts left words words' (leaves_giving k) (λ j. i j ∷ w j ∷ []))
 
 -- ---- the number and the values tell the answer
 
-pub user_mapped_one : (x y : UserMapped) (c : Counts) → user_mapped x c ≡ user_mapped y c → x ≡ y
-user_mapped_one (Map.Done g d n) (Map.Done g' d' n') c e =
-    let v = ap (λ (k : Said). values_of k.answer) e in
-    λ i. Map.Done (record { 0 = get_or (v i) 0 0 }) (e i).counts (get_or (v i) 1 0)
-user_mapped_one (Map.Done g d n) (Map.Refused m) c e = let z = ap (λ (k : Said). length (values_of k.answer)) e in absurd (omega arith)
-user_mapped_one (Map.Refused n) (Map.Done g d m) c e = let z = ap (λ (k : Said). length (values_of k.answer)) e in absurd (omega arith)
-user_mapped_one (Map.Refused n) (Map.Refused m) c e = λ i. Map.Refused (number_of (e i).answer)
+abbrev mapped_from : Said → Result UserMapped Refusal
+mapped_from s = elim s.answer [
+  | accepted vs ↦ Ok (record { global = record { 0 = get_or vs 0 0 }; counts = s.counts; notes = get_or vs 1 0 })
+  | refused n vs ↦ Err (refusal_at n)
+]
 
-pub new_user_mapped_one : (x y : NewUser) (c : Counts) → new_user_mapped x c ≡ new_user_mapped y c → x ≡ y
-new_user_mapped_one (New.Done u g d n) (New.Done u' g' d' n') c e =
-    let v = ap (λ (k : Said). values_of k.answer) e in
-    λ i. New.Done (record { 0 = get_or (v i) 0 0 }) (record { 0 = get_or (v i) 1 0 }) (e i).counts (get_or (v i) 2 0)
-new_user_mapped_one (New.Done u g d n) (New.Refused m) c e = let z = ap (λ (k : Said). length (values_of k.answer)) e in absurd (omega arith)
-new_user_mapped_one (New.Refused n) (New.Done u g d m) c e = let z = ap (λ (k : Said). length (values_of k.answer)) e in absurd (omega arith)
-new_user_mapped_one (New.Refused n) (New.Refused m) c e = λ i. New.Refused (number_of (e i).answer)
+mapped_back : (c : Counts) (x : Result UserMapped Refusal) → mapped_from (user_mapped x c) ≡ x
+mapped_back c (Ok m) = refl
+mapped_back c (Err r) = ap Err (refusal_back r)
+
+pub user_mapped_one : (x y : Result UserMapped Refusal) (c : Counts) → user_mapped x c ≡ user_mapped y c → x ≡ y
+user_mapped_one x y c = one_of (λ z. user_mapped z c) mapped_from (mapped_back c) x y
+
+abbrev new_from : Said → Result NewUser Refusal
+new_from s = elim s.answer [
+  | accepted vs ↦
+      Ok (record { user = record { 0 = get_or vs 0 0 }; global = record { 0 = get_or vs 1 0 }; counts = s.counts; notes = get_or vs 2 0 })
+  | refused n vs ↦ Err (refusal_at n)
+]
+
+new_back : (c : Counts) (x : Result NewUser Refusal) → new_from (new_user_mapped x c) ≡ x
+new_back c (Ok m) = refl
+new_back c (Err r) = ap Err (refusal_back r)
+
+pub new_user_mapped_one : (x y : Result NewUser Refusal) (c : Counts) → new_user_mapped x c ≡ new_user_mapped y c → x ≡ y
+new_user_mapped_one x y c = one_of (λ z. new_user_mapped z c) new_from (new_back c) x y

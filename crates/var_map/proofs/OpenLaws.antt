@@ -1,13 +1,10 @@
 -- Laws by which Open is what crates/scope/specs/Open.antt says.
-use Prim.Native.Nat.{ℕ, ◌+◌, ◌≤◌, ◌<◌}
-use mathlib.Core.Path.{◌≡◌, refl, sym, ap, ◌∙◌}
+use Prim.Native.Nat.{ℕ}
+use mathlib.Core.Path.{◌≡◌, ap, ◌∙◌}
 use mathlib.Core.Bool.{Bool, true, false}
 use mathlib.Core.List.{List, []}
-use mathlib.Core.Logic.{⊎_elim}
-use native.Mathlib.Nat.{eq-or-lt_of_le}
 use native.Mathlib.Omega.{arith}
-use lib.ListN.{length, get_or, set, replicate, length-replicate, length-set, get_or-replicate}
-use lib.Seq.{ext_get_or, get_or-set_same, get_or-set_other}
+use lib.ListN.{length, replicate}
 use Rattle.base.proofs.Truth.{truth}
 use Rattle.base.specs.Answer.{accepted, refused}
 use Rattle.table.proofs.CheckLaws.{yes_of, no_of}
@@ -18,33 +15,6 @@ use Rattle.scope.specs.Notes.{notes_words}
 use Rattle.scope.specs.Outcome.{unless}
 use Rattle.scope.specs.Contract.{Does}
 use Rattle.scope.specs.Open.{open_counts, empty_table, open_of}
-
--- ---- the loop of `blank`: the first i words are the value
-
-pub record Blanked (xs ys : List ℕ) (value i : ℕ) : Type 0 where
-  pub within : i ≤ length ys
-  pub length : length ys ≡ length xs
-  pub blank : (k : ℕ) → k < i → get_or ys k 0 ≡ value
-
-pub blank_start : (xs : List ℕ) (value : ℕ) → Blanked xs xs value 0
-blank_start xs value = record { within = omega arith; length = refl; blank = λ k l. absurd (omega arith) }
-
-pub blank_step : (xs ys : List ℕ) (value i : ℕ) → Blanked xs ys value i → i < length ys → Blanked xs (set ys i value) value (i + 1)
-blank_step xs ys value i h l =
-    record {
-      within = simp length-set (omega arith);
-      length = simp length-set h.length;
-      blank = λ k m. let q : k ≤ i = omega arith in ⊎_elim
-          (λ (e : k ≡ i). rw e (get_or-set_same ys i value 0 l))
-          (λ (e : k < i). get_or-set_other ys i k value 0 (λ z. omega arith) ∙ h.blank k e)
-          (eq-or-lt_of_le q);
-    }
-
-pub blank_end : (xs ys : List ℕ) (value i : ℕ) → Blanked xs ys value i → length ys ≤ i → ys ≡ replicate (length xs) value
-blank_end xs ys value i h l =
-    ext_get_or 0 ys (replicate (length xs) value)
-    (h.length ∙ sym (length-replicate (length xs) value))
-    (λ k m. h.blank k (omega arith) ∙ sym (get_or-replicate (length xs) k value 0 (omega (arith, h.length))))
 
 -- ---- the call
 

@@ -1,4 +1,3 @@
-use Rattle.std.specs.Prelude.{◌-◌}
 use Rattle.mapping.proofs.GapLaws.{GapWith}
 use Rattle.mapping.specs.Parts.{free}
 use Rattle.scope.specs.Cursor.{NoneFree}
@@ -11,6 +10,3 @@ abbrev pub invariant-loop-i : goal.invariant-loop-i
 invariant-loop-i l =
     GapWith l.capacity l.users l.globals l.used l.initial.gu l.initial.ug l.initial.records l.user.0 l.at l.i l.past l.a l.b l.n l.gu l.ug l.records l.initial.notes l.notes
     × NoneFree (free l.records) l.b l.k
-
-abbrev pub decreases-loop-i : goal.decreases-loop-i
-decreases-loop-i l = l.user.0 - l.i

@@ -1,3 +1,4 @@
+use native.Mathlib.Omega.{arith}
 use Rattle.mapping.proofs.FreeLaws.{deleted_found, deleted_more, deleted_end}
 use Rattle.mapping.proofs.least_deleted.Goals as goal
 
@@ -10,4 +11,4 @@ loop-i-preserved c = deleted_more _ _ _ c.requires.mark_in_bounds c.loop-i-test.
     c.if-records-i-ge36.false
 
 pub returns : goal.returns
-returns c = deleted_end _ _ _ c.loop-i.invariant c.loop-i-test.false
+returns c = let l = c.loop-i.invariant in omega (arith, deleted_end _ _ _ l c.loop-i-test.false)

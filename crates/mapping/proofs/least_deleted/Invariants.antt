@@ -1,10 +1,6 @@
-use Prim.Native.Nat.{◌-◌}
 use Rattle.scope.specs.Cursor.{NoneFree}
 use Rattle.mapping.specs.Parts.{free}
 use Rattle.mapping.proofs.least_deleted.Given as goal
 
 abbrev pub invariant-loop-i : goal.invariant-loop-i
 invariant-loop-i l = NoneFree (free l.records) l.mark l.i
-
-abbrev pub decreases-loop-i : goal.decreases-loop-i
-decreases-loop-i l = l.mark - l.i

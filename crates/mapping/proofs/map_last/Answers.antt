@@ -57,5 +57,5 @@ returns-in_default-clause-none_free_2 c =
 pub returns-clause-up_leaves : goal.returns-clause-up_leaves
 returns-clause-up_leaves c =
     record {
-      with = λ x h. last_kept _ _ _ _ _ ((global_word_lem _ _ c.global_of.ensures ∙ ap global_word c.in-At.is));
+      with = λ x h. last_kept _ _ _ _ _ ((global_word_lem _ _ c.global_of.ensures ∙ ap global_word c.in-Some.is));
     }

@@ -8,8 +8,8 @@ returns-in_default c = unsampled_none _ _ _ ((global_word_lem _ _ c.global_of.en
 
 pub bounds-records-g : goal.bounds-records-g
 bounds-records-g c = inside_below _ _ _ _ c.requires
-    ((global_word_lem _ _ c.global_of.ensures ∙ ap global_word c.in-At.is))
+    ((global_word_lem _ _ c.global_of.ensures ∙ ap global_word c.in-Some.is))
 
 pub returns : goal.returns
 returns c = unsampled_some _ _ _ _ c.requires
-    ((global_word_lem _ _ c.global_of.ensures ∙ ap global_word c.in-At.is))
+    ((global_word_lem _ _ c.global_of.ensures ∙ ap global_word c.in-Some.is))

@@ -1,8 +1,12 @@
+use Rattle.std.proofs.lemmas.Result.{err_from_is_err_and}
 use Rattle.scope.specs.Lookup.{user_from_global_of}
-use Rattle.table.proofs.CheckLaws.{no_of}
+use Rattle.table.proofs.CheckLaws.{refuses_1}
 use Rattle.var_map.proofs.LookupLaws.{lookup_1}
 use Rattle.var_map.proofs.get_user_from_global.Goals as goal
 
-pub returns-then-not-is_sound : goal.returns-then-not-is_sound
+pub returns-in_err-check_table : goal.returns-in_err-check_table
 unfolding user_from_global_of
-returns-then-not-is_sound c = lookup_1 _ _ _ (no_of c.is_sound.ensures c.if-not-is_sound.true)
+returns-in_err-check_table c =
+    let p = err_from_is_err_and c.from_residual.result c.from_residual.ensures.1 in
+    let q = refuses_1 _ _ _ c.check_table.ensures c.in_err-check_table.was in
+    rw (p.1, p.2, q.1) (lookup_1 _ _ _ q.0)

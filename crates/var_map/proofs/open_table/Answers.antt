@@ -6,6 +6,6 @@ returns-then-not-sizes_ok c = refused_10 _ _ _ c.sizes_ok.ensures c.if-not-sizes
 
 pub returns : goal.returns
 returns c =
-    opened_empty _ _ _ _ _ _ _ _ _ _ _ _ _ _ c.sizes_ok.ensures c.if-not-sizes_ok.false c.blank.ensures c.blank-2.ensures
-    c.blank-3.ensures c.blank-4.ensures c.blank-5.ensures
-    c.blank-6.ensures
+    opened_empty _ _ _ _ _ _ _ _ _ _ _ _ _ _ c.sizes_ok.ensures c.if-not-sizes_ok.false
+    (c.fill.ensures.after (λ y e. e)) (c.fill-2.ensures.after (λ y e. e)) (c.fill-3.ensures.after (λ y e. e))
+    (c.fill-4.ensures.after (λ y e. e)) (c.fill-5.ensures.after (λ y e. e)) (c.fill-6.ensures.after (λ y e. e))

@@ -1,18 +1,9 @@
-use mathlib.Core.Path.{sym, ◌∙◌}
+use mathlib.Core.Path.{refl}
 use Rattle.scope.specs.Lookup.{solver_from_global_of}
 use Rattle.scope.proofs.SoundLaws.{sound_of}
-use Rattle.table.proofs.FoundLaws.{solver_word_lem}
-use Rattle.var_map.proofs.LookupLaws.{in_none, in_one}
+use Rattle.var_map.proofs.LookupLaws.{in_found}
 use Rattle.var_map.proofs.solver_from_global_in.Goals as goal
-
-pub returns-in_default : goal.returns-in_default
-unfolding solver_from_global_of
-returns-in_default c =
-    let found = c.solver_of.ensures in
-    λ t k p. in_none t k _ _ _ _ (sound_of t k).solver.btail p (solver_word_lem _ _ (sym c.in_default.is ∙ found))
 
 pub returns : goal.returns
 unfolding solver_from_global_of
-returns c =
-    let found = c.solver_of.ensures in
-    λ t k p. in_one t k _ _ _ _ (sound_of t k).solver.btail p _ (solver_word_lem _ _ (sym c.in-At.is ∙ found))
+returns c = λ t k p. in_found _ _ (λ j. refl) t k _ _ _ _ (sound_of t k).solver.btail p _ c.solver_of.ensures
