@@ -1,28 +1,24 @@
 -- The number and the values tell the answer.
-use Prim.Native.Nat.{ℕ}
-use mathlib.Core.Path.{◌≡◌, ap}
+use Rattle.std.specs.Prelude.{Result, Ok, Err}
+use mathlib.Core.Path.{◌≡◌, refl, ap}
 use mathlib.Core.List.{[], ◌∷◌}
-use native.Mathlib.Omega.{arith}
 use Rattle.base.specs.Answer.{Answer, accepted, refused}
 use Rattle.scope.specs.declared.Counts.{Counts}
-use Rattle.scope.specs.Contract.{Said}
+use Rattle.scope.specs.declared.Refusal.{Refusal}
+use Rattle.scope.specs.declared.Refusal.TheVariants.{Unsound}
+use Rattle.scope.proofs.RefusedLaws.{refusal_at, refusal_back}
+use Rattle.table.proofs.AnswerLaws.{one_of}
 use Rattle.removal.specs.declared.Removed.{Removed}
-use Rattle.removal.specs.declared.Removed.TheVariants.{Done, Refused}
 use Rattle.removal.specs.Answers.{removed}
 
-pub removed_one : (a b : Removed) (c : Counts) → removed a c ≡ removed b c → a ≡ b
-removed_one (Done d n) (Done e m) c h =
-    let p : d ≡ e = ap (λ (s : Said). s.counts) h in
-    let q : ◌≡◌ {A = Answer} (accepted (n ∷ [])) (accepted (m ∷ [])) = ap (λ (s : Said). s.answer) h in
-    cc
-removed_one (Done d n) (Refused m) c h =
-    let q : ◌≡◌ {A = Answer} (accepted (n ∷ [])) (refused m []) = ap (λ (s : Said). s.answer) h in
-    let z : ◌≡◌ {A = ℕ} 0 1 = cc in
-    absurd (omega arith)
-removed_one (Refused m) (Done d n) c h =
-    let q : ◌≡◌ {A = Answer} (refused m []) (accepted (n ∷ [])) = ap (λ (s : Said). s.answer) h in
-    let z : ◌≡◌ {A = ℕ} 0 1 = cc in
-    absurd (omega arith)
-removed_one (Refused n) (Refused m) c h =
-    let q : ◌≡◌ {A = Answer} (refused n []) (refused m []) = ap (λ (s : Said). s.answer) h in
-    cc
+abbrev removed_from : Answer → Counts → Result Removed Refusal
+removed_from (accepted []) d = Err Unsound
+removed_from (accepted (n ∷ ns)) d = Ok (record { counts = d; notes = n })
+removed_from (refused n vs) d = Err (refusal_at n)
+
+removed_back : (c : Counts) (x : Result Removed Refusal) → removed_from (removed x c).answer (removed x c).counts ≡ x
+removed_back c (Ok x) = refl
+removed_back c (Err r) = ap Err (refusal_back r)
+
+pub removed_one : (a b : Result Removed Refusal) (c : Counts) → removed a c ≡ removed b c → a ≡ b
+removed_one a b c = one_of (λ x. removed x c) (λ s. removed_from s.answer s.counts) (removed_back c) a b

@@ -1,4 +1,6 @@
 -- The removal of a held solver index: S(g,-), then D if unused.
+use Rattle.std.specs.Prelude.{Some, Ok, Err}
+use Rattle.std.specs.Prelude as P
 use Prim.Native.Nat.{ℕ, ◌+◌, ◌*◌, ◌/◌, ◌≤◌, ◌<◌, ◌^◌}
 use mathlib.Core.Path.{◌≡◌, refl, sym, ap, ◌∙◌, subst}
 use mathlib.Core.Bool.{true, false, not}
@@ -7,7 +9,7 @@ use native.Mathlib.Omega.{arith}
 use lib.Dec.{eqb, ltb}
 use lib.ListN.{length, get_or, set, length-set}
 use lib.Seq.{sets}
-use borrow.Author.Tests.{eqb-false, ltb-false, not-false}
+use borrow.Author.Tests.{ltb-false, not-false}
 use Rattle.scope.specs.declared.Counts.{Counts}
 use Rattle.scope.specs.declared.Global.{Global}
 use Rattle.scope.specs.Table.{Table, table_of, record_of, assumed_of, fresh_record, take_solver, remove_counts}
@@ -19,7 +21,6 @@ use Rattle.scope.specs.Marks.{not_held, holder_of}
 use Rattle.scope.specs.Remove.{remove_held, remove, remove_refusal, remove_of}
 use Rattle.scope.specs.Contract.{Does}
 use Rattle.table.specs.Found.{found_global}
-use Rattle.table.specs.declared.FoundGlobal.TheVariants.{At, Nothing}
 use Rattle.scope.proofs.ResultLaws.{past}
 use Rattle.changes.specs.Leaves.{Leaves, Room}
 use Rattle.changes.specs.Live.{Live}
@@ -27,11 +28,13 @@ use Rattle.changes.proofs.LeavesLaws.{leaves_then}
 use Rattle.changes.proofs.DeletionLaws.{delete_any}
 use Rattle.changes.proofs.CallLaws.{call_refused, call_accepted, call_noted}
 use Rattle.removal.specs.Asks.{RemoveAsks}
-use Rattle.removal.specs.declared.Removed.TheVariants.{Done, Refused}
+use Rattle.scope.specs.declared.Refusal.{Refusal}
+use Rattle.scope.specs.declared.Refusal.TheVariants.{Unsound}
+use Rattle.scope.specs.Refusals.{number, refused_by}
+use Rattle.scope.proofs.RefusedLaws.{number_not_0, refused_err}
 use Rattle.removal.specs.Answers.{removed}
 use Rattle.removal.proofs.CountingLaws.{removal_notes_lem, removal_few, removal_some}
 use Rattle.scope.proofs.MarkLaws.{held_past}
-use Rattle.table.proofs.FoundLaws.{global_word_lem}
 use Rattle.removal.proofs.RefusalLaws.{remove_is, remove_holding, remove_1}
 
 -- S(g,-) alone
@@ -87,7 +90,6 @@ remove_room c ug sg gs records g s at room h = let a = h.words in let k = remova
 -- what an accepted call knows
 pub record Removable (t : Table) (s room : ℕ) : Type 0 where
   pub sound : soundb t ≡ true
-  pub held : get_or t.global_from_solver s 0 ≡ 0 → ⊥
   pub words : 3 * length (remove s t).notes ≤ room
 
 pub removable : (t : Table) (s room n : ℕ) → n ≡ remove_refusal t s room → n ≡ 0 → Removable t s room
@@ -97,14 +99,10 @@ removable t s room n e z =
     let b = held_past t s _ a.1 in
     let c = past (eqb (assumed_of (record_of t (holder_of t s))) 1) 16 _ (omega arith) b.1 in
     let k = past (ltb room (3 * length (remove s t).notes)) 2 0 (omega arith) c.1 in
-    record { sound = not-false (soundb t) a.0; held = eqb-false _ _ b.0; words = ltb-false _ _ k.0 }
+    record { sound = not-false (soundb t) a.0; words = ltb-false _ _ k.0 }
 
 module _ (t : Table) (s room : ℕ) (h : Removable t s room) where
-  -- nothing found is no case of it
-  pub never_nothing : Nothing ≡ found_global (get_or t.global_from_solver s 0) → ⊥
-  never_nothing e = h.held (global_word_lem _ Nothing e)
-
-  module _ (g : Global) (e : At g ≡ found_global (get_or t.global_from_solver s 0)) where
+  module _ (g : Global) (e : Some g ≡ found_global (get_or t.global_from_solver s 0)) where
     pub held_asks : RemoveAsks t.counts t.user_from_global t.solver_from_global t.global_from_solver t.records g.0 s 0 room
     held_asks =
         let k = remove_holding t s g e h.sound in
@@ -127,17 +125,20 @@ module _ (t : Table) (s room : ℕ) (h : Removable t s room) where
 
     pub remove_does : (n next : ℕ) (d : Counts) (left : Table) (words words2 : List ℕ) → n ≡ remove_refusal t s room → n ≡ 0
         → Leaves (remove_held g.0 s t) 0 next left words words2
-        → Does (remove_of t s room) (removed (Done d (next / 3)) d) left words words2
+        → Does (remove_of t s room) (removed (Ok (record { counts = d; notes = next / 3 })) d) left words words2
     unfolding remove_of
     remove_does n next d left words words2 p q k =
         call_accepted (remove_refusal t s room) n t _ _ left words words2 p q
         (call_noted (λ us. []) [] (remove s t) next d left words words2 (held_leaves next left words words2 k) refl)
 
-pub remove_refused : (t : Table) (s n : ℕ) (words : List ℕ) → n ≡ remove_refusal t s (length words) → (n ≡ 0 → ⊥)
-    → Does (remove_of t s (length words)) (removed (Refused n) t.counts) t words words
+pub remove_refused : {A : Type 0} (t : Table) (s : ℕ) (x : P.Result A Refusal) (r : Refusal) (words : List ℕ)
+    → refused_by x ≡ remove_refusal t s (length words) → x ≡ Err r
+    → Does (remove_of t s (length words)) (removed (Err r) t.counts) t words words
 unfolding remove_of
-remove_refused t s n words e z = call_refused (remove_refusal t s (length words)) n t _ words e z
+remove_refused t s x r words e w =
+    call_refused (remove_refusal t s (length words)) (number r) t _ words (sym (refused_err x r w) ∙ e) (number_not_0 r)
 
 pub remove_unsound : (t : Table) (s : ℕ) (words : List ℕ) → soundb t ≡ false
-    → Does (remove_of t s (length words)) (removed (Refused 1) t.counts) t words words
-remove_unsound t s words n = remove_refused t s 1 words (remove_1 t s (length words) n) (λ z. omega arith)
+    → Does (remove_of t s (length words)) (removed (Err Unsound) t.counts) t words words
+unfolding remove_of
+remove_unsound t s words n = call_refused _ 1 t _ words (remove_1 t s (length words) n) (λ z. omega arith)

@@ -1,6 +1,7 @@
 -- The loop of a sweep, and the call.
+use Rattle.std.specs.Prelude.{Ok, Err, Result}
 use Prim.Native.Nat.{ℕ, ◌+◌, ◌*◌, ◌/◌, ◌≤◌, ◌<◌, ◌^◌}
-use mathlib.Core.Path.{◌≡◌, refl, sym, ap, ◌∙◌, subst}
+use mathlib.Core.Path.{◌≡◌, refl, sym, ◌∙◌, subst}
 use mathlib.Core.Bool.{true, false, not}
 use mathlib.Core.List.{List, []}
 use native.Mathlib.Omega.{arith}
@@ -9,7 +10,7 @@ use lib.ListN.{length}
 use borrow.Author.Tests.{ltb-false, not-false, lt-ltb, le-ltb}
 use Rattle.scope.specs.declared.Counts.{Counts}
 use Rattle.scope.specs.Table.{Table}
-use Rattle.scope.specs.Sound.{soundb, Sizes, Sound}
+use Rattle.scope.specs.Sound.{soundb, Sound}
 use Rattle.scope.specs.Outcome.{each}
 use Rattle.scope.specs.Remove.{sweep_one, sweep, sweep_refusal, sweep_of}
 use Rattle.scope.specs.Contract.{Does}
@@ -17,11 +18,13 @@ use Rattle.scope.proofs.SoundLaws.{sound_of}
 use Rattle.scope.proofs.ResultLaws.{past}
 use Rattle.scope.proofs.RemoveLaws.{sweep_passed}
 use Rattle.changes.specs.Leaves.{Leaves, Room}
-use Rattle.changes.proofs.LeavesLaws.{leaves_length, SameSizes, same_sizes}
 use Rattle.changes.proofs.TurnLaws.{turns_none, turns_more, turns_room}
 use Rattle.changes.proofs.CallLaws.{call_refused, call_accepted, call_noted}
 use Rattle.removal.specs.Asks.{SweepAsks, SweepAllAsks}
-use Rattle.removal.specs.declared.Removed.TheVariants.{Done, Refused}
+use Rattle.scope.specs.declared.Refusal.{Refusal}
+use Rattle.scope.specs.declared.Refusal.TheVariants.{Unsound}
+use Rattle.scope.specs.Refusals.{number, refused_by}
+use Rattle.scope.proofs.RefusedLaws.{number_not_0, refused_err}
 use Rattle.removal.specs.Answers.{removed}
 use Rattle.removal.proofs.SweepLaws.{sweep_few, one_notes}
 use Rattle.removal.proofs.HeldLaws.{holding_of}
@@ -53,14 +56,6 @@ module _ (t : Table) (y : soundb t ≡ true) (s at : ℕ) (left : Table) (words 
       (subst (λ (m : ℕ). Room (each t.counts.solver sweep_one t) 0 m) e r) l h).words in
       record { sweepable = holding_of left p s; words = omega arith }
 
-  pub sweep_sizes : SameSizes t left words words2
-  sweep_sizes =
-      let a = sweep_passed t (sound_of t y) s in
-      let c = a.marks.capacity in
-      let k = ap (λ (u : Table). u.counts.capacity) h.table in
-      same_sizes t left words words2 (sound_of t y).sizes (subst (λ (u : Table). Sizes u) (sym h.table) a.sound.sizes) (omega arith)
-      (leaves_length (each s sweep_one t) 0 at left words words2 h)
-
 -- ---- the call
 
 module _ (t : Table) (room : ℕ) where
@@ -77,13 +72,15 @@ module _ (t : Table) (room : ℕ) where
     unfolding sweep_refusal
     sweep_0 l = rw (y, le-ltb room (3 * length (sweep t).notes) (omega arith))
 
-pub sweep_refused : (t : Table) (n : ℕ) (words : List ℕ) → n ≡ sweep_refusal t (length words) → (n ≡ 0 → ⊥)
-    → Does (sweep_of t (length words)) (removed (Refused n) t.counts) t words words
+pub sweep_refused : {A : Type 0} (t : Table) (x : Result A Refusal) (r : Refusal) (words : List ℕ)
+    → refused_by x ≡ sweep_refusal t (length words) → x ≡ Err r → Does (sweep_of t (length words)) (removed (Err r) t.counts) t words words
 unfolding sweep_of
-sweep_refused t n words e z = call_refused (sweep_refusal t (length words)) n t _ words e z
+sweep_refused t x r words e w =
+    call_refused (sweep_refusal t (length words)) (number r) t _ words (sym (refused_err x r w) ∙ e) (number_not_0 r)
 
-pub sweep_unsound : (t : Table) (words : List ℕ) → soundb t ≡ false → Does (sweep_of t (length words)) (removed (Refused 1) t.counts) t words words
-sweep_unsound t words n = sweep_refused t 1 words (sweep_1 t (length words) n) (λ z. omega arith)
+pub sweep_unsound : (t : Table) (words : List ℕ) → soundb t ≡ false → Does (sweep_of t (length words)) (removed (Err Unsound) t.counts) t words words
+unfolding sweep_of
+sweep_unsound t words n = call_refused _ 1 t _ words (sweep_1 t (length words) n) (λ z. omega arith)
 
 module _ (t : Table) (room n : ℕ) (e : n ≡ sweep_refusal t room) (z : n ≡ 0) where
   passed : (soundb t ≡ true) × (3 * length (sweep t).notes ≤ room)
@@ -104,7 +101,7 @@ module _ (t : Table) (room n : ℕ) (e : n ≡ sweep_refusal t room) (z : n ≡ 
       omega arith
 
   pub sweep_does : (next : ℕ) (d : Counts) (left : Table) (words words2 : List ℕ) → Leaves (sweep t) 0 next left words words2
-      → Does (sweep_of t room) (removed (Done d (next / 3)) d) left words words2
+      → Does (sweep_of t room) (removed (Ok (record { counts = d; notes = next / 3 })) d) left words words2
   unfolding sweep_of
   sweep_does next d left words words2 k =
       call_accepted (sweep_refusal t room) n t _ _ left words words2 e z (call_noted (λ us. []) [] (sweep t) next d left words words2 k refl)

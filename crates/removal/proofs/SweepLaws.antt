@@ -10,13 +10,14 @@ use lib.ListN.{length, get_or}
 use lib.Seq.{get_or-set_same}
 use Rattle.base.specs.Choice.{pick}
 use Rattle.scope.specs.Table.{Table, word, isolated_of, assumed_of, record_of, with_unit, put_record}
-use Rattle.scope.specs.Sound.{Sound}
+use Rattle.scope.specs.Sound.{Sound, soundb}
 use Rattle.scope.specs.Outcome.{Result, stay, choose, each}
 use Rattle.scope.specs.Remove.{remove_held, learn, sweep_held, sweep_one, sweep}
+use Rattle.scope.proofs.SoundLaws.{sound_of}
 use Rattle.scope.proofs.ResultLaws.{each_zero}
 use Rattle.scope.proofs.RemoveLaws.{Swept, sweep_passed, learn_same}
 use Rattle.changes.proofs.TurnLaws.{each_count}
-use Rattle.removal.specs.Counting.{learnt, is_loose, swept_notes, notes_at, notes_by, NotesCounted}
+use Rattle.removal.specs.Counting.{learnt, is_loose, swept_notes, notes_at, notes_by}
 use Rattle.removal.proofs.CountingLaws.{removal_notes_lem, removal_few}
 use Rattle.removal.proofs.HeldLaws.{holding_of}
 
@@ -79,17 +80,6 @@ swept_more t h s n k p q =
 pub swept_none : (t : Table) → 0 ≡ length (each 0 sweep_one t).notes
 swept_none t = ap (λ (x : Result (List ℕ)). length x.notes) (sym (each_zero sweep_one t))
 
-pub notes_counted_none : (ug gs assignment records : List ℕ) → NotesCounted ug gs assignment records 0 0
-notes_counted_none ug gs assignment records t h e = swept_none t
-
-pub notes_counted_more : (ug gs assignment records : List ℕ) (s n k : ℕ) → NotesCounted ug gs assignment records s n → k ≡ notes_by ug gs assignment records s
-    → NotesCounted ug gs assignment records (s + 1) (n + k)
-notes_counted_more ug gs assignment records s n k p q t h e = swept_more t h s n k (p t h e) (rw (e.0, e.1, e.2, e.3) q)
-
-pub notes_counted_end : (ug gs assignment records : List ℕ) (s mark n : ℕ) → s ≡ mark → NotesCounted ug gs assignment records s n
-    → NotesCounted ug gs assignment records mark n
-notes_counted_end ug gs assignment records s mark n e p t h q = p t h q ∙ ap (λ (i : ℕ). length (each i sweep_one t).notes) e
-
 pub swept_end : (t : Table) (s n : ℕ) → s ≡ t.counts.solver → n ≡ length (each s sweep_one t).notes → n ≡ length (sweep t).notes
 unfolding sweep
 swept_end t s n e p = p ∙ ap (λ (i : ℕ). length (each i sweep_one t).notes) e
@@ -107,22 +97,24 @@ notes_few ug gs assignment records s = go (get_or gs s 0)
     go zero = omega arith
     go (suc g) = few (is_loose (learnt (get_or records g 47) (get_or assignment s 0))) _ (removal_few (get_or ug g 0) _)
 
--- so that their number fits
-pub count_small : (ug gs assignment records : List ℕ) (s n k : ℕ) → n ≤ 2 * s → k ≡ notes_by ug gs assignment records s → n + k ≤ 2 * (s + 1)
-count_small ug gs assignment records s n k l e = let w = notes_few ug gs assignment records s in omega arith
-
-pub count_fits : (ug gs assignment records : List ℕ) (mark s n k : ℕ) → s < mark → mark ≤ 4096 → n ≤ 2 * s → k ≡ notes_by ug gs assignment records s
-    → n + k < 2 ^ 32
-count_fits ug gs assignment records mark s n k l z m e = let w = count_small ug gs assignment records s n k m e in omega arith
-
 -- a sweep makes two notes at most of each index
-turns_few : (t : Table) → Sound t → (s : ℕ) → length (each s sweep_one t).notes ≤ 2 * s
+pub turns_few : (t : Table) → Sound t → (s : ℕ) → length (each s sweep_one t).notes ≤ 2 * s
 turns_few t h zero = let e = swept_none t in omega arith
 turns_few t h (suc s) =
     let x = turns_few t h s in
     let y = swept_more t h s _ _ refl refl in
     let w = notes_few t.user_from_global t.global_from_solver t.assignment t.records s in
     rw (← add-one s) (omega arith)
+
+-- so that their number fits
+pub count_fits : (t : Table) → soundb t ≡ true → (s n k : ℕ) → s < t.counts.solver → n ≡ length (each s sweep_one t).notes → k ≡ notes_at t s
+    → n + k < 2 ^ 32
+count_fits t y s n k l p q =
+    let h = sound_of t y in
+    let z = h.sizes in
+    let x = turns_few t h s in
+    let w = notes_few t.user_from_global t.global_from_solver t.assignment t.records s in
+    omega arith
 
 pub sweep_few : (t : Table) → Sound t → length (sweep t).notes ≤ 2 * t.counts.solver
 unfolding sweep

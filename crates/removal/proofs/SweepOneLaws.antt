@@ -1,13 +1,11 @@
 -- The sweep of one solver index, and its notes, by the tests that the code makes.
+use Rattle.std.specs.Prelude.{Some, None}
 use Prim.Native.Nat.{ℕ, zero, suc, ◌+◌, ◌*◌, ◌/◌, ◌%◌, ◌≤◌, ◌<◌}
 use mathlib.Core.Path.{◌≡◌, refl, sym, ap, ◌∙◌, subst}
-use mathlib.Core.Bool.{true, false, ◌&&◌}
-use mathlib.Core.Logic.{⊎_elim}
+use mathlib.Core.Bool.{true, false}
 use mathlib.Core.List.{List, []}
 use native.Mathlib.Numerals.{add-one}
 use native.Mathlib.Omega.{arith}
-use lib.Dec.{ltb, leb}
-use borrow.Author.Tests.{lt-ltb, le-ltb, le-leb, lt-leb, eq-eqb, ne_eqb}
 use lib.ListN.{length, get_or, set, length-set}
 use lib.Seq.{set-get_or, get_or-set_same}
 use Rattle.scope.specs.declared.Counts.{Counts}
@@ -16,15 +14,13 @@ use Rattle.scope.specs.Table.{Table, table_of, word, record_of, with_unit, put_r
 use Rattle.scope.specs.Outcome.{Result, stay}
 use Rattle.scope.specs.Remove.{remove_held, learn, sweep_held, sweep_one}
 use Rattle.scope.proofs.ResultLaws.{choose_then, choose_else}
-use Rattle.base.proofs.Truth.{split}
 use Rattle.base.proofs.MemberLaws.{get_d_default}
 use Rattle.table.specs.Found.{found_global}
 use Rattle.table.proofs.FoundLaws.{global_word_lem}
-use Rattle.table.specs.declared.FoundGlobal.TheVariants.{At, Nothing}
 use Rattle.changes.specs.Leaves.{Leaves}
 use Rattle.changes.proofs.LeavesLaws.{leaves_stay}
 use Rattle.removal.specs.Counting.{removal_notes, learnt, is_loose, swept_notes, notes_by}
-use Rattle.removal.specs.Asks.{Holding, RemoveAsks, SlotReadable}
+use Rattle.removal.specs.Asks.{Holding, RemoveAsks}
 
 -- ---- a record
 
@@ -42,26 +38,16 @@ unfolding learnt word
 learnt_small w zero l k = l
 learnt_small w (suc v) l k = omega arith
 
--- isolated and not assumed is a range
-pub loose_range : (w : ℕ) → w < 36 → (leb 9 w && ltb w 18) ≡ is_loose w
-loose_range w l = ⊎_elim (λ (k : w < 9). rw (lt-leb 9 w k, ne_eqb (w / 9 % 2) 1 (omega arith)))
-    (λ (k : 9 ≤ w). ⊎_elim (λ (m : w < 18). rw (le-leb 9 w k, lt-ltb w 18 m, eq-eqb (w / 9 % 2) 1 (omega arith), eq-eqb (w / 18 % 2) 0 (omega arith)))
-    (λ (m : 18 ≤ w). ⊎_elim (λ (n : w < 27). rw (le-leb 9 w k, le-ltb w 18 m, ne_eqb (w / 9 % 2) 1 (omega arith)))
-    (λ (n : 27 ≤ w). rw (le-leb 9 w k, le-ltb w 18 m, eq-eqb (w / 9 % 2) 1 (omega arith), ne_eqb (w / 18 % 2) 0 (omega arith))) (split w 27)) (split w 18)) (split w 9)
-
 -- the global of a held index, as the code reads it
-module _ (c : Counts) (ug sg gs assignment records : List ℕ) (g s : ℕ) (h : Holding c ug sg gs assignment records g s) where
-  pub readable : SlotReadable ug assignment records g s
-  readable =
-      let e = get_d_default records g 0 47 h.held.live.words in
-      let l = h.held.live.undeleted in
-      record { user = h.held.live.user; words = h.held.live.words; undeleted = omega arith; value = h.value; small = h.small }
+pub learn_asks : (c : Counts) (ug sg gs assignment records : List ℕ) (g s : ℕ) → Holding c ug sg gs assignment records g s
+    → (get_or records g 0 < 36) × (get_or assignment s 0 ≤ 2)
+learn_asks c ug sg gs assignment records g s h =
+    let e = get_d_default records g 0 47 h.held.live.words in
+    let l = h.held.live.undeleted in
+    (omega arith, h.small)
 
-  pub learn_asks : (get_or records g 0 < 36) × (get_or assignment s 0 ≤ 2)
-  learn_asks = (readable.undeleted, readable.small)
-
-held : (gs : List ℕ) (s : ℕ) (g : Global) → At g ≡ found_global (get_or gs s 0) → get_or gs s 0 ≡ suc g.0
-held gs s g e = global_word_lem _ (At g) e ∙ add-one g.0
+held : (gs : List ℕ) (s : ℕ) (g : Global) → Some g ≡ found_global (get_or gs s 0) → get_or gs s 0 ≡ suc g.0
+held gs s g e = global_word_lem _ (Some g) e ∙ add-one g.0
 
 learnt_is : (assignment records : List ℕ) (g s w : ℕ) → g < length records → w ≡ learnt (get_or records g 0) (get_or assignment s 0)
     → learnt (get_or records g 47) (get_or assignment s 0) ≡ w
@@ -70,22 +56,22 @@ learnt_is assignment records g s w l p = ap (λ (r : ℕ). learnt r (get_or assi
 -- ---- notes
 
 module _ (ug gs assignment records : List ℕ) (s : ℕ) where
-  pub notes_none : Nothing ≡ found_global (get_or gs s 0) → 0 ≡ notes_by ug gs assignment records s
+  pub notes_none : None ≡ found_global (get_or gs s 0) → 0 ≡ notes_by ug gs assignment records s
   unfolding notes_by word
-  notes_none e = rw (global_word_lem (get_or gs s 0) Nothing e)
+  notes_none e = rw (global_word_lem (get_or gs s 0) None e)
 
-  module _ (g : Global) (e : At g ≡ found_global (get_or gs s 0)) (h : SlotReadable ug assignment records g.0 s)
+  module _ (g : Global) (e : Some g ≡ found_global (get_or gs s 0)) (l : g.0 < length records)
       (w : ℕ) (p : w ≡ learnt (get_or records g.0 0) (get_or assignment s 0)) where
     pub notes_kept : is_loose w ≡ false → 0 ≡ notes_by ug gs assignment records s
     unfolding notes_by swept_notes word
-    notes_kept b = rw (held gs s g e, learnt_is assignment records g.0 s w h.words p, b)
+    notes_kept b = rw (held gs s g e, learnt_is assignment records g.0 s w l p, b)
 
     pub notes_removed : is_loose w ≡ true → (n : ℕ) → n ≡ removal_notes (get_or ug g.0 0) w → n ≡ notes_by ug gs assignment records s
     unfolding notes_by swept_notes word
-    notes_removed b n q = rw (held gs s g e, learnt_is assignment records g.0 s w h.words p, b) q
+    notes_removed b n q = rw (held gs s g e, learnt_is assignment records g.0 s w l p, b) q
 
 -- what the removal asks once the value is learnt
-pub one_asks : (c : Counts) (ug sg gs assignment records : List ℕ) (s : ℕ) (g : Global) → At g ≡ found_global (get_or gs s 0)
+pub one_asks : (c : Counts) (ug sg gs assignment records : List ℕ) (s : ℕ) (g : Global) → Some g ≡ found_global (get_or gs s 0)
     → Holding c ug sg gs assignment records g.0 s → (w : ℕ) → w ≡ learnt (get_or records g.0 0) (get_or assignment s 0) → is_loose w ≡ true
     → (at room : ℕ) → at + 3 * notes_by ug gs assignment records s ≤ room → RemoveAsks c ug sg gs (set records g.0 w) g.0 s at room
 one_asks c ug sg gs assignment records s g e h w p b at room r =
@@ -94,7 +80,7 @@ one_asks c ug sg gs assignment records s g e h w p b at room r =
     let q = get_or-set_same records g.0 w 47 l.words in
     let i = learnt_is assignment records g.0 s w l.words p in
     let f = learnt_small (get_or records g.0 47) (get_or assignment s 0) l.undeleted h.small in
-    let n = notes_removed ug gs assignment records s g e (readable c ug sg gs assignment records g.0 s h) w p b (removal_notes (get_or ug g.0 0) w) refl in
+    let n = notes_removed ug gs assignment records s g e l.words w p b (removal_notes (get_or ug g.0 0) w) refl in
     record {
       held = record {
         live = record { user = l.user; solver = l.solver; words = omega arith; small = l.small; undeleted = omega arith; used = l.used };
@@ -108,11 +94,11 @@ one_asks c ug sg gs assignment records s g e h w p b at room r =
 -- ---- the sweep
 
 module _ (t : Table) (s at : ℕ) where
-  pub one_none : (words : List ℕ) → Nothing ≡ found_global (get_or t.global_from_solver s 0) → Leaves (sweep_one s t) at at t words words
+  pub one_none : (words : List ℕ) → None ≡ found_global (get_or t.global_from_solver s 0) → Leaves (sweep_one s t) at at t words words
   unfolding sweep_one word
-  one_none words e = rw (global_word_lem (get_or t.global_from_solver s 0) Nothing e) (leaves_stay t at words)
+  one_none words e = rw (global_word_lem (get_or t.global_from_solver s 0) None e) (leaves_stay t at words)
 
-  module _ (g : Global) (e : At g ≡ found_global (get_or t.global_from_solver s 0))
+  module _ (g : Global) (e : Some g ≡ found_global (get_or t.global_from_solver s 0))
       (h : Holding t.counts t.user_from_global t.solver_from_global t.global_from_solver t.assignment t.records g.0 s)
       (w : ℕ) (p : w ≡ learnt (get_or t.records g.0 0) (get_or t.assignment s 0)) where
     mid : Table

@@ -40,11 +40,3 @@ pub record SweepAllAsks (c : Counts) (ug sg gs assignment records : List ℕ) (r
   pub gu : List ℕ
   pub sound : soundb (table_of c gu ug sg gs assignment records) ≡ true
   pub words : Room (sweep (table_of c gu ug sg gs assignment records)) 0 room
-
--- What is read of a solver index s that the global g holds: the words are there, and g is undeleted.
-pub record SlotReadable (ug assignment records : List ℕ) (g s : ℕ) : Type 0 where
-  pub user : g < length ug
-  pub words : g < length records
-  pub undeleted : get_or records g 0 < 36
-  pub value : s < length assignment
-  pub small : get_or assignment s 0 ≤ 2

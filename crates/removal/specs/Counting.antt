@@ -1,10 +1,7 @@
 -- How many notes a removal and a sweep make, told before anything is written.
-use Rattle.std.specs.Prelude.{ℕ, ◌≡◌, Bool, ◌&&◌, List, eqb, length, get_or}
+use Rattle.std.specs.Prelude.{ℕ, Bool, ◌&&◌, List, eqb, get_or}
 use Rattle.base.specs.Choice.{pick}
 use Rattle.scope.specs.Table.{Table, word, isolated_of, assumed_of, with_unit}
-use Rattle.scope.specs.Sound.{Sound}
-use Rattle.scope.specs.Outcome.{each}
-use Rattle.scope.specs.Remove.{sweep_one}
 
 -- Of the removal of a solver index, by the user word and the record of its global: S, and D if there is no user and it is isolated.
 unfoldable pub removal_notes : ℕ → ℕ → ℕ
@@ -28,9 +25,3 @@ notes_by ug gs assignment records s = word 0 (λ g. swept_notes (get_or ug g 0) 
 
 abbrev pub notes_at : Table → ℕ → ℕ
 notes_at t s = notes_by t.user_from_global t.global_from_solver t.assignment t.records s
-
--- So many are made of the solver indices below s, of every sound table with these lists.
-abbrev pub NotesCounted : List ℕ → List ℕ → List ℕ → List ℕ → ℕ → ℕ → Type 0
-NotesCounted ug gs assignment records s n =
-    (t : Table) → Sound t → (t.user_from_global ≡ ug) × (t.global_from_solver ≡ gs) × (t.assignment ≡ assignment) × (t.records ≡ records)
-    → n ≡ length (each s sweep_one t).notes

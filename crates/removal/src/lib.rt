@@ -1,89 +1,79 @@
 // Remove and Sweep. How the contracts read: crates/scope/specs/Contract.antt, and inside a call crates/changes/specs/Leaves.antt.
+// Lists of which some are written stay parameters of their own: a `&mut` lends only what may change, and by type the rest stays.
 #![tactic(auto)]
 
-ghost use Rattle.std.specs.Prelude.{◌≡◌, true, List, ℕ, ◌+◌, ◌≤◌, ◌<◌, length, get_or};
+ghost use Rattle.std.specs.Prelude.{◌≡◌, true, List, ℕ, Some, Ok, ◌≤◌, ◌<◌, length, get_or};
 ghost use Rattle.base.specs.Lent.{change, constant};
 ghost use Rattle.scope.specs.Contract.{given, lent, Meets};
+ghost use Rattle.scope.specs.Refusals.{refused_by};
 ghost use Rattle.scope.specs.Table.{table_of};
 ghost use Rattle.scope.specs.Sound.{soundb};
 ghost use Rattle.scope.specs.Remove.{remove_held, remove_refusal, remove_of, sweep_one, sweep, sweep_refusal, sweep_of};
 ghost use Rattle.changes.specs.Leaves.{Leaves};
-ghost use Rattle.removal.specs.Counting.{removal_notes, learnt, is_loose, notes_by, NotesCounted};
-ghost use Rattle.removal.specs.Asks.{RemoveAsks, SlotReadable, SweepAsks, SweepAllAsks};
+ghost use Rattle.table.specs.Found.{found_global};
+ghost use Rattle.table.specs.Lists.{seen};
+ghost use Rattle.removal.specs.Counting.{removal_notes, learnt, is_loose, notes_at};
+ghost use Rattle.removal.specs.Asks.{RemoveAsks, SweepAsks, SweepAllAsks};
 ghost use Rattle.removal.specs.Answers.{removed};
 
 use changes::{Passed, delete_global_if_unused};
-use scope::{Counts, Global, Note, Solver};
-use table::{FoundGlobal, held_refusal, holder, is_sound, put_note};
+use scope::{Counts, Global, Note, Refusal, Solver};
+use table::{Lists, holder, put_note};
 
-// The counts after, and how many notes were made; or the number of the refusal.
+// The counts after, and how many notes were made.
 #[derive(Clone, Copy)]
-pub enum Removed {
-    Done(Counts, u32),
-    Refused(u32),
+pub struct Removed {
+    pub counts: Counts,
+    pub notes: u32,
 }
 
 // S(g,-), then D if unused. The assignment word stays. The lists that are not lent, gu and a, may be any.
 fn remove_held(
-    c: Counts,
+    p: Passed,
     ug: &[u32],
     sg: &mut [u32],
     gs: &mut [u32],
     records: &mut [u32],
     global: Global,
     solver: Solver,
-    at: usize,
     notes: &mut [u32],
 ) -> Passed
-    requires { RemoveAsks c ug.now sg.old gs.old records.old global.0 solver.0 at (length notes.old) }
-    ensures { (gu a : List ℕ) → Leaves (remove_held global.0 solver.0 (table_of c gu ug.now sg.old gs.old a records.old)) at result.at
+    requires { RemoveAsks p.counts ug.now sg.old gs.old records.old global.0 solver.0 p.at (length notes.old) }
+    ensures { (gu a : List ℕ) → Leaves (remove_held global.0 solver.0 (table_of p.counts gu ug.now sg.old gs.old a records.old)) p.at result.at
         (table_of result.counts gu ug.now sg.new gs.new a records.new) notes.old notes.new }
 {
-    let next = at + 3;
-    let counts = c.remove(sg, gs, global, solver);
-    put_note(notes, at, Note::SolverWithdrawn(global));
-    delete_global_if_unused(counts, ug, sg, records, global, next, notes)
+    let counts = p.counts.remove(sg, gs, global, solver);
+    put_note(notes, p.at, Note::SolverWithdrawn(global));
+    delete_global_if_unused(counts, ug, sg, records, global, p.at + 3, notes)
 }
 
 // How many notes a removal makes, by the user word and the record of the global.
 fn removal_notes(user: u32, w: u32) -> u32
     ensures { result ≡ removal_notes user w }
 {
-    if (user == 0) & (w / 9 % 2 == 1) {
-        return 2;
-    }
-    1
+    if (user == 0) & (w / 9 % 2 == 1) { 2 } else { 1 }
 }
 
-// The first refusal of Remove that applies to a sound table, 0 for none.
-fn remove_refusal(
-    c: Counts,
-    gu: &[u32],
-    ug: &[u32],
-    sg: &[u32],
-    gs: &[u32],
-    assignment: &[u32],
-    records: &[u32],
-    solver: Solver,
-    room: usize,
-) -> u32
-    requires { soundb (given c gu.now ug.now sg.now gs.now assignment.now records.now) ≡ true }
-    ensures { result ≡ remove_refusal (given c gu.now ug.now sg.now gs.now assignment.now records.now) solver.0 room }
+// The first refusal of Remove that applies to a sound table, else the global that holds the index.
+fn remove_refusal(t: &Lists, solver: Solver, room: usize) -> Result<Global, Refusal>
+    requires { soundb (seen t.now) ≡ true }
+    ensures value { refused_by result ≡ remove_refusal (seen t.now) solver.0 room }
+    ensures held { (g : Global) → result ≡ Ok g → Some g ≡ found_global (get_or t.now.gs.now solver.0 0) }
 {
-    let FoundGlobal::At(global) = holder(gs, solver) else {
-        return held_refusal(gs, solver);
+    let Some(global) = holder(t.gs, solver) else {
+        return Err(Refusal::NotHeld);
     };
-    let user = ug[global.0 as usize];
-    let w = records[global.0 as usize];
+    let user = t.ug[global.0 as usize];
+    let w = t.records[global.0 as usize];
     let words = 3 * removal_notes(user, w) as usize;
     let assumed = w / 18 % 2 == 1;
     if assumed {
-        return 16;
+        return Err(Refusal::StillAssumed);
     }
     if room < words {
-        return 2;
+        return Err(Refusal::Short);
     }
-    0
+    Ok(global)
 }
 
 // Remove (01, `remove_solver_var`; refusals 1, 8, 16, 2): the solver index is withdrawn, and its global deleted if unused.
@@ -98,14 +88,21 @@ pub fn remove_solver_var(
     records: &mut [u32],
     solver: Solver,
     notes: &mut [u32],
-) -> Removed
+) -> Result<Removed, Refusal>
     ensures { Meets (λ t room. remove_of t solver.0 room) (removed result c)
         (lent c (constant gu.now) (constant ug.now) (change sg.old sg.new) (change gs.old gs.new)
         (constant assignment.now) (change records.old records.new) (change notes.old notes.new)) }
 {
-    if !is_sound(c, gu, ug, sg, gs, assignment, records) {
-        return Removed::Refused(1);
-    }
+    let t = Lists {
+        counts: c,
+        gu,
+        ug,
+        sg,
+        gs,
+        assignment,
+        records,
+    };
+    t.check_sound()?;
     known_remove_solver_var(c, gu, ug, sg, gs, assignment, records, solver, notes)
 }
 
@@ -121,22 +118,28 @@ pub fn known_remove_solver_var(
     records: &mut [u32],
     solver: Solver,
     notes: &mut [u32],
-) -> Removed
+) -> Result<Removed, Refusal>
     requires { soundb (given c gu.now ug.now sg.old gs.old assignment.now records.old) ≡ true }
     ensures { Meets (λ t room. remove_of t solver.0 room) (removed result c)
         (lent c (constant gu.now) (constant ug.now) (change sg.old sg.new) (change gs.old gs.new)
         (constant assignment.now) (change records.old records.new) (change notes.old notes.new)) }
 {
-    let n = remove_refusal(c, gu, ug, sg, gs, assignment, records, solver, notes.len());
-    if n != 0 {
-        return Removed::Refused(n);
-    }
-    let FoundGlobal::At(global) = holder(gs, solver) else {
-        return Removed::Refused(held_refusal(gs, solver));
+    let t = Lists {
+        counts: c,
+        gu,
+        ug,
+        sg,
+        gs,
+        assignment,
+        records,
     };
-    let p = remove_held(c, ug, sg, gs, records, global, solver, 0, notes);
-    let counts = p.counts;
-    Removed::Done(counts, (p.at / 3) as u32)
+    let global = remove_refusal(&t, solver, notes.len())?;
+    let start = Passed { counts: c, at: 0 };
+    let p = remove_held(start, ug, sg, gs, records, global, solver, notes);
+    Ok(Removed {
+        counts: p.counts,
+        notes: (p.at / 3) as u32,
+    })
 }
 
 // The record w after the value v was learnt: it becomes the unit and sets isolated.
@@ -147,9 +150,10 @@ fn learnt_record(w: u32, v: u32) -> u32
     ensures upper_bound { result < 36 }
 {
     if v == 0 {
-        return w;
+        w
+    } else {
+        w / 18 * 18 + 9 + 3 * v + w % 3
     }
-    w / 18 * 18 + 9 + 3 * v + w % 3
 }
 
 // Isolated and not assumed, of the record of an undeleted global.
@@ -157,87 +161,74 @@ fn is_loose(w: u32) -> bool
     requires { w < 36 }
     ensures { result ≡ is_loose w }
 {
-    (9 <= w) & (w < 18)
+    (9..18).contains(&w)
 }
 
 // How many notes the sweep of a solver index makes.
-fn notes_at(ug: &[u32], gs: &[u32], assignment: &[u32], records: &[u32], solver: Solver) -> u32
-    requires { (g : ℕ) → get_or gs.now solver.0 0 ≡ g + 1 → SlotReadable ug.now assignment.now records.now g solver.0 }
-    ensures { result ≡ notes_by ug.now gs.now assignment.now records.now solver.0 }
+fn notes_at(t: &Lists, solver: Solver) -> u32
+    requires { soundb (seen t.now) ≡ true }
+    ensures { result ≡ notes_at (seen t.now) solver.0 }
 {
-    let FoundGlobal::At(global) = holder(gs, solver) else {
+    let Some(global) = holder(t.gs, solver) else {
         return 0;
     };
     let g = global.0 as usize;
-    let w = learnt_record(records[g], assignment[solver.0 as usize]);
-    if !is_loose(w) {
-        return 0;
+    let w = learnt_record(t.records[g], t.assignment[solver.0 as usize]);
+    if is_loose(w) {
+        removal_notes(t.ug[g], w)
+    } else {
+        0
     }
-    removal_notes(ug[g], w)
 }
 
-// How many notes a sweep makes of the solver indices below the mark. Nothing is written.
-fn count_notes(mark: u32, ug: &[u32], gs: &[u32], assignment: &[u32], records: &[u32]) -> u32
-    requires mark_bound { mark ≤ 4096 }
-    requires by_index { (g s : ℕ) → get_or gs.now s 0 ≡ g + 1 → SlotReadable ug.now assignment.now records.now g s }
-    ensures { NotesCounted ug.now gs.now assignment.now records.now mark result }
+// How many notes a sweep makes. Nothing is written.
+fn count_notes(t: &Lists) -> u32
+    requires { soundb (seen t.now) ≡ true }
+    ensures { result ≡ length (sweep (seen t.now)).notes }
 {
     let mut n: u32 = 0;
-    let mut s: u32 = 0;
-    while s < mark {
-        n += notes_at(ug, gs, assignment, records, Solver(s));
-        s += 1;
+    for s in 0..t.counts.solver {
+        n += notes_at(t, Solver(s));
     }
     n
 }
 
-// The first refusal of Sweep that applies to a sound table, 0 for none.
-fn sweep_refusal(
-    c: Counts,
-    gu: &[u32],
-    ug: &[u32],
-    sg: &[u32],
-    gs: &[u32],
-    assignment: &[u32],
-    records: &[u32],
-    room: usize,
-) -> u32
-    requires { soundb (given c gu.now ug.now sg.now gs.now assignment.now records.now) ≡ true }
-    ensures { result ≡ sweep_refusal (given c gu.now ug.now sg.now gs.now assignment.now records.now) room }
+// The first refusal of Sweep that applies to a sound table.
+fn sweep_refusal(t: &Lists, room: usize) -> Result<(), Refusal>
+    requires { soundb (seen t.now) ≡ true }
+    ensures { refused_by result ≡ sweep_refusal (seen t.now) room }
 {
-    let n = count_notes(c.solver, ug, gs, assignment, records) as usize;
-    if room < 3 * n {
-        return 2;
+    if room < 3 * count_notes(t) as usize {
+        return Err(Refusal::Short);
     }
-    0
+    Ok(())
 }
 
 // A solver index that is held: a value becomes the unit; then isolated and not assumed is removed. The list gu is not lent and may be any.
 fn sweep_one(
-    c: Counts,
+    p: Passed,
     ug: &[u32],
     sg: &mut [u32],
     gs: &mut [u32],
     assignment: &[u32],
     records: &mut [u32],
     solver: Solver,
-    at: usize,
     notes: &mut [u32],
 ) -> Passed
-    requires { SweepAsks c ug.now sg.old gs.old assignment.now records.old solver.0 at (length notes.old) }
-    ensures { (gu : List ℕ) → Leaves (sweep_one solver.0 (table_of c gu ug.now sg.old gs.old assignment.now records.old)) at result.at
+    requires { SweepAsks p.counts ug.now sg.old gs.old assignment.now records.old solver.0 p.at (length notes.old) }
+    ensures { (gu : List ℕ) → Leaves (sweep_one solver.0 (table_of p.counts gu ug.now sg.old gs.old assignment.now records.old)) p.at result.at
         (table_of result.counts gu ug.now sg.new gs.new assignment.now records.new) notes.old notes.new }
 {
-    let FoundGlobal::At(global) = holder(gs, solver) else {
-        return Passed { counts: c, at };
+    let Some(global) = holder(gs, solver) else {
+        return p;
     };
     let g = global.0 as usize;
     let w = learnt_record(records[g], assignment[solver.0 as usize]);
     records[g] = w;
     if !is_loose(w) {
-        return Passed { counts: c, at };
+        return p;
     }
-    remove_held(c, ug, sg, gs, records, global, solver, at, notes)
+    remove_held(p, ug, sg, gs, records, global, solver, notes)
 }
 
 // Every solver index in ascending order, on a sound table with room for the notes. The list gu is not lent and may be any.
@@ -254,23 +245,9 @@ fn sweep_all(
     ensures { (gu : List ℕ) → Leaves (sweep (table_of c gu ug.now sg.old gs.old assignment.now records.old)) 0 result.at
         (table_of result.counts gu ug.now sg.new gs.new assignment.now records.new) notes.old notes.new }
 {
-    let last = c.solver;
     let mut p = Passed { counts: c, at: 0 };
-    let mut s: u32 = 0;
-    while s < last {
-        let counts = p.counts;
-        p = sweep_one(
-            counts,
-            ug,
-            sg,
-            gs,
-            assignment,
-            records,
-            Solver(s),
-            p.at,
-            notes,
-        );
-        s += 1;
+    for s in 0..c.solver {
+        p = sweep_one(p, ug, sg, gs, assignment, records, Solver(s), notes);
     }
     p
 }
@@ -286,14 +263,21 @@ pub fn sweep(
     assignment: &[u32],
     records: &mut [u32],
     notes: &mut [u32],
-) -> Removed
+) -> Result<Removed, Refusal>
     ensures { Meets (λ t room. sweep_of t room) (removed result c)
         (lent c (constant gu.now) (constant ug.now) (change sg.old sg.new) (change gs.old gs.new)
         (constant assignment.now) (change records.old records.new) (change notes.old notes.new)) }
 {
-    if !is_sound(c, gu, ug, sg, gs, assignment, records) {
-        return Removed::Refused(1);
-    }
+    let t = Lists {
+        counts: c,
+        gu,
+        ug,
+        sg,
+        gs,
+        assignment,
+        records,
+    };
+    t.check_sound()?;
     known_sweep(c, gu, ug, sg, gs, assignment, records, notes)
 }
 
@@ -308,17 +292,25 @@ pub fn known_sweep(
     assignment: &[u32],
     records: &mut [u32],
     notes: &mut [u32],
-) -> Removed
+) -> Result<Removed, Refusal>
     requires { soundb (given c gu.now ug.now sg.old gs.old assignment.now records.old) ≡ true }
     ensures { Meets (λ t room. sweep_of t room) (removed result c)
         (lent c (constant gu.now) (constant ug.now) (change sg.old sg.new) (change gs.old gs.new)
         (constant assignment.now) (change records.old records.new) (change notes.old notes.new)) }
 {
-    let n = sweep_refusal(c, gu, ug, sg, gs, assignment, records, notes.len());
-    if n != 0 {
-        return Removed::Refused(n);
-    }
+    let t = Lists {
+        counts: c,
+        gu,
+        ug,
+        sg,
+        gs,
+        assignment,
+        records,
+    };
+    sweep_refusal(&t, notes.len())?;
     let p = sweep_all(c, ug, sg, gs, assignment, records, notes);
-    let counts = p.counts;
-    Removed::Done(counts, (p.at / 3) as u32)
+    Ok(Removed {
+        counts: p.counts,
+        notes: (p.at / 3) as u32,
+    })
 }

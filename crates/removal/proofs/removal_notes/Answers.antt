@@ -6,5 +6,5 @@ use Rattle.removal.proofs.removal_notes.Goals as goal
 pub returns-then-user-w : goal.returns-then-user-w
 returns-then-user-w c = let k = simp truth at c.if-user-w.true in removal_two _ _ (simp truth (omega arith))
 
-pub returns : goal.returns
-returns c = removal_one _ _ (false_of _ _ (λ h. let k = simp truth at h in simp truth (omega arith)) c.if-user-w.false)
+pub returns-else-user-w : goal.returns-else-user-w
+returns-else-user-w c = removal_one _ _ (false_of _ _ (λ h. let k = simp truth at h in simp truth (omega arith)) c.if-user-w.false)
