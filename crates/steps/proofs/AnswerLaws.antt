@@ -1,5 +1,5 @@
 -- The number and the values of an answer tell the answer.
-use Rattle.std.specs.Prelude.{Some, None}
+use Rattle.std.specs.Prelude.{Some, None, Result, Ok, Err}
 use Prim.Native.Nat.{ℕ}
 use mathlib.Core.Path.{◌≡◌, refl, sym, ap, ◌∙◌}
 use mathlib.Core.Bool.{true, false}
@@ -15,9 +15,9 @@ use Rattle.scope.specs.Table.{word}
 use Rattle.scope.specs.Steps.{step_words}
 use Rattle.scope.proofs.WordLaws.{found_index}
 use Rattle.steps.specs.declared.rename.Renamed.{Renamed}
-use Rattle.steps.specs.declared.rename.Renamed.TheVariants.{Done, Refused}
-use Rattle.steps.specs.declared.write.Recorded.{Recorded}
-use Rattle.steps.specs.declared.write.Recorded.TheVariants as W
+use Rattle.scope.specs.declared.Refusal.{Refusal}
+use Rattle.scope.specs.Refusals.{number}
+use Rattle.scope.proofs.RefusedLaws.{refusal_at, refusal_back}
 use Rattle.steps.specs.Answers.{renamed, recorded}
 
 -- a step from its words
@@ -63,22 +63,24 @@ from_words (ChangeSamplingMode g false) = refl
 from_words (ChangeHashBits b) = refl
 from_words End = refl
 
+number_one : (r q : Refusal) → number r ≡ number q → r ≡ q
+number_one r q e = sym (refusal_back r) ∙ ap refusal_at e ∙ refusal_back q
+
 pub words_one : (s r : ProofStep) → step_words s ≡ step_words r → s ≡ r
 words_one s r e = sym (from_words s) ∙ ap step_from e ∙ from_words r
 
-pub renamed_one : (r q : Renamed) (c : Counts) → (renamed r c).answer ≡ (renamed q c).answer → r ≡ q
-renamed_one (Done a b s) (Done d e r) c h =
-    let p : a ≡ d = cc in
-    let q : b ≡ e = cc in
-    let w : step_words s ≡ step_words r = cc in
-    let z = words_one s r w in
-    cc
-renamed_one (Done a b s) (Refused n) c h = cc
-renamed_one (Refused n) (Done a b s) c h = cc
-renamed_one (Refused n) (Refused m) c h = let p : n ≡ m = cc in cc
+pub renamed_one : (r q : Result Renamed Refusal) (c : Counts) → (renamed r c).answer ≡ (renamed q c).answer → r ≡ q
+renamed_one (Ok x) (Ok y) c h =
+    let p : x.lits ≡ y.lits = cc in
+    let q : x.hashes ≡ y.hashes = cc in
+    let w : step_words x.step ≡ step_words y.step = cc in
+    rw (p, q, words_one x.step y.step w)
+renamed_one (Ok x) (Err r) c h = cc
+renamed_one (Err r) (Ok x) c h = cc
+renamed_one (Err r) (Err q) c h = let p : number r ≡ number q = cc in ap Err (number_one r q p)
 
-pub recorded_one : (r q : Recorded) (c : Counts) → (recorded r c).answer ≡ (recorded q c).answer → r ≡ q
-recorded_one (W.Done a) (W.Done b) c h = let p : a ≡ b = cc in cc
-recorded_one (W.Done a) (W.Refused n) c h = cc
-recorded_one (W.Refused n) (W.Done a) c h = cc
-recorded_one (W.Refused n) (W.Refused m) c h = let p : n ≡ m = cc in cc
+pub recorded_one : (r q : Result ℕ Refusal) (c : Counts) → (recorded r c).answer ≡ (recorded q c).answer → r ≡ q
+recorded_one (Ok a) (Ok b) c h = let p : a ≡ b = cc in cc
+recorded_one (Ok a) (Err r) c h = cc
+recorded_one (Err r) (Ok a) c h = cc
+recorded_one (Err r) (Err q) c h = let p : number r ≡ number q = cc in ap Err (number_one r q p)

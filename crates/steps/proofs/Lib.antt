@@ -1,4 +1,3 @@
-pub mod KindLaws
 pub mod LiteralLaws
 pub mod ChainLaws
 pub mod StepLaws

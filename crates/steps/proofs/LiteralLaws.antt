@@ -1,5 +1,5 @@
 -- Literals: what they are refused for, and their global names.
-use Prim.Native.Nat.{ℕ, zero, suc, ◌+◌, ◌-◌, ◌*◌, ◌/◌, ◌%◌, ◌≤◌, ◌<◌}
+use Prim.Native.Nat.{ℕ, zero, suc, ◌+◌, ◌-◌, ◌/◌, ◌≤◌, ◌<◌}
 use mathlib.Core.Path.{◌≡◌, refl, sym, ap, ap₂, ◌∙◌, subst}
 use mathlib.Core.Bool.{Bool, true, false, ◌&&◌, ◌||◌, not, true≢false}
 use mathlib.Core.Logic.{⊎_elim, ◌≢◌}
@@ -9,9 +9,10 @@ use lib.Dec.{eqb, ltb, leb}
 use lib.ListN.{length, get_or, take, length-map}
 use lib.Seq.{sets, length-sets}
 use borrow.Author.Tests.{ne_eqb, lt-ltb, le-ltb, ltb-false, eqb-false, leb-false}
+use Rattle.std.specs.List.{list_any}
 use Rattle.base.specs.Bounded.{any_of}
 use Rattle.base.proofs.Truth.{same}
-use Rattle.base.proofs.MemberLaws.{any_none, or_left, or_right, or_none, word_inside}
+use Rattle.base.proofs.MemberLaws.{any_none, or_left, or_right, or_none}
 use Rattle.drat.specs.Grammar.{Codes}
 use Rattle.scope.specs.declared.Counts.{Counts}
 use Rattle.scope.specs.Table.{Table}
@@ -23,7 +24,7 @@ use Rattle.scope.proofs.SoundLaws.{sound_of}
 use Rattle.scope.proofs.PairLaws.{below_mark, pair_flip}
 use Rattle.scope.proofs.ResultLaws.{past}
 use Rattle.scope.proofs.MarkLaws.{lits_past, lits_else}
-use Rattle.steps.specs.Names.{names_by, Nameable, unnamed}
+use Rattle.steps.specs.Names.{names_by, Nameable, Named, lacks, unnamed}
 use Rattle.steps.specs.Refusals.{literal_refusal}
 use Rattle.base.proofs.StoreLaws.{stored_part}
 
@@ -68,6 +69,12 @@ clear t s lits e =
 
 -- ---- names
 
+-- `any_of` as std has it
+pub any_is : {A : Type 0} (p : A → Bool) (xs : List A) → list_any p xs ≡ any_of p xs
+unfolding any_of
+any_is p [] = refl
+any_is p (x ∷ xs) = ap (λ (b : Bool). p x || b) (any_is p xs)
+
 pub word_filled : (w g : ℕ) → w ≡ g + 1 → eqb w 0 ≡ false
 word_filled w g e = ne_eqb w 0 (λ z. omega arith)
 
@@ -88,13 +95,6 @@ word_small t h s = ⊎_elim
     omega arith)
     (same (get_or t.global_from_solver s 0) 0)
 
--- a literal has no name by the map: what `unnamed` asks of each, and the same of its word
-abbrev pub lacks : List ℕ → ℕ → Bool
-lacks gs c = eqb (get_or gs (index_of c) 0) 0 || ltb 4096 (get_or gs (index_of c) 0)
-
-pub lacks_by : (gs : List ℕ) (c w : ℕ) (b : Bool) → w ≡ get_or gs (c / 2) 0 → (eqb w 0 || ltb 4096 w) ≡ b → lacks gs c ≡ b
-lacks_by gs c w b e q = sym (ap (λ (x : ℕ). eqb x 0 || ltb 4096 x) e) ∙ q
-
 -- on a sound table a literal has no name where its index has no holder
 pub unnamed_sound : (t : Table) (gs lits : List ℕ) → soundb t ≡ true → t.global_from_solver ≡ gs
     → unnamed gs lits ≡ any_of (λ c. eqb (get_or gs (index_of c) 0) 0) lits
@@ -103,13 +103,15 @@ unnamed_sound t gs lits h e = any_same _ _ (λ c. plain (get_or gs (c / 2) 0) (s
     plain : (w : ℕ) → w ≤ 4096 → eqb w 0 || ltb 4096 w ≡ eqb w 0
     plain w l = rw (le-ltb 4096 w l) (or_none (eqb w 0))
 
--- the word of a literal that has a name
-pub named_at : (gs lits : List ℕ) (i : ℕ) → unnamed gs lits ≡ false → i < length lits
-    → (get_or gs (get_or lits i 0 / 2) 0 ≤ 4096) × (true ≡ true → get_or gs (get_or lits i 0 / 2) 0 ≢ 0)
-named_at gs lits i u l =
+-- the words of literals that have names
+pub named : (gs lits : List ℕ) → unnamed gs lits ≡ false → Named gs true lits
+named gs lits u i l =
     let w = get_or gs (get_or lits i 0 / 2) 0 in
     let n = any_none (lacks gs) lits i 0 u l in
     (ltb-false 4096 w (or_right (eqb w 0) (ltb 4096 w) n), λ q. eqb-false w 0 (or_left (eqb w 0) (ltb 4096 w) n))
+
+pub nameable_named : (gs lits : List ℕ) (s : Bool) → Nameable gs s lits → Named gs s lits
+nameable_named gs lits s n i l = (n.small (get_or lits i 0 / 2), λ e. n.held e i l)
 
 -- the index of a held literal has a holder
 held_at : (t : Table) (s : Bool) (lits : List ℕ) (i : ℕ) → unheld t s lits ≡ false → i < length lits → s ≡ true
@@ -144,15 +146,6 @@ nameable t s lits h c =
         let b = any_none (λ x. leb t.counts.capacity (index_of x)) lits i 0 (or_right (ltb 8192 (length lits)) _ p) l in
         let x = leb-false t.counts.capacity (get_or lits i 0 / 2) b in
         omega (arith, z)
-
-pub word_there : (l : List ℕ) (s : Bool) (i : ℕ) → (s ≡ true → get_or l i 0 ≢ 0) → s ≡ true → i < length l
-word_there l s i n e = word_inside l i (n e)
-
-pub name_global : (h : ℕ → ℕ) (s : Bool) (c : ℕ) → s ≡ false → c ≡ rename_lit h s c
-name_global h s c e = rw e
-
-pub name_solver : (h : ℕ → ℕ) (s : Bool) (c : ℕ) → s ≡ true → 2 * (h (c / 2) - 1) + c % 2 ≡ rename_lit h s c
-name_solver h s c e = rw e
 
 get_d_map : (f : ℕ → ℕ) (xs : List ℕ) (i : ℕ) → i < length xs → get_or (map f xs) i 0 ≡ f (get_or xs i 0)
 get_d_map f [] i h = absurd (omega arith)

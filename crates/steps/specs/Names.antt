@@ -16,6 +16,14 @@ pub record Nameable (gs : List ℕ) (solver_vars : Bool) (lits : List ℕ) : Typ
   pub held : solver_vars ≡ true → (i : ℕ) → i < length lits → get_or gs (index_of (get_or lits i 0)) 0 ≢ 0
   pub codes : solver_vars ≡ false → Codes lits
 
--- Some solver literal has no name by the map: the word of its index is 0, or over 4,096, which no sound table has.
+-- Literals whose names can be found: no word of the map at their indices is over 4,096, nor 0 where they are solver literals.
+abbrev pub Named : List ℕ → Bool → List ℕ → Type 0
+Named gs solver_vars lits = (i : ℕ) → i < length lits → (get_or gs (index_of (get_or lits i 0)) 0 ≤ 4096)
+    × (solver_vars ≡ true → get_or gs (index_of (get_or lits i 0)) 0 ≢ 0)
+
+-- A solver literal has no name by the map: the word of its index is 0, or over 4,096, which no sound table has. Some literal has none.
+abbrev pub lacks : List ℕ → ℕ → Bool
+lacks gs c = eqb (get_or gs (index_of c) 0) 0 || ltb 4096 (get_or gs (index_of c) 0)
+
 abbrev pub unnamed : List ℕ → List ℕ → Bool
-unnamed gs lits = any_of (λ c. eqb (get_or gs (index_of c) 0) 0 || ltb 4096 (get_or gs (index_of c) 0)) lits
+unnamed gs lits = any_of (lacks gs) lits

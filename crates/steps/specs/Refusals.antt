@@ -1,8 +1,8 @@
 -- The refusals of a step, one by one: 3 and 8 for its literals, 2 for its bytes.
-use Rattle.std.specs.Prelude.{ℕ, Bool, List, [], ltb, length}
+use Rattle.std.specs.Prelude.{ℕ, Bool, List, [], ltb, length, Result, Ok, Err}
 use Rattle.base.specs.Choice.{pick}
-use Rattle.steps.specs.declared.write.Recorded.{Recorded}
-use Rattle.steps.specs.declared.write.Recorded.TheVariants.{Done, Refused}
+use Rattle.scope.specs.declared.Refusal.{Refusal}
+use Rattle.scope.specs.declared.Refusal.TheVariants.{Short}
 use Rattle.scope.specs.Table.{Table}
 use Rattle.scope.specs.Marks.{lits_held_else}
 use Rattle.scope.specs.Write.{outside}
@@ -12,8 +12,8 @@ unfoldable pub literal_refusal : Table → Bool → List ℕ → ℕ
 literal_refusal t solver_vars lits = pick (outside t solver_vars lits) 3 (lits_held_else t solver_vars lits 0)
 
 -- Bytes with room for so many: what is answered, 2 or their number, and what is filled.
-abbrev pub laid : List ℕ → ℕ → Recorded
-laid bytes room = pick (ltb room (length bytes)) (Refused 2) (Done (length bytes))
+abbrev pub laid : List ℕ → ℕ → Result ℕ Refusal
+laid bytes room = pick (ltb room (length bytes)) (Err Short) (Ok (length bytes))
 
 abbrev pub laid_bytes : List ℕ → ℕ → List ℕ
 laid_bytes bytes room = pick (ltb room (length bytes)) [] bytes

@@ -1,7 +1,7 @@
 // The thirteen step kinds in a table (document 01, "Rename and write").
-ghost use Rattle.std.specs.Prelude.{◌≡◌, ◌<◌};
-ghost use Rattle.base.specs.Choice.{pick};
-ghost use Rattle.scope.specs.Steps.{rule_of, kind_of, has_hashes};
+ghost use Rattle.std.specs.Prelude.{◌≡◌, ◌<◌, eqb};
+ghost use Rattle.scope.specs.declared.ProofStep.TheVariants.{UnitClauses};
+ghost use Rattle.scope.specs.Steps.{rule_of, kind_of, has_hashes, literals_of, hashes_of};
 ghost use Rattle.scope.specs.Write.{unmatched, lacked};
 ghost use Rattle.steps.specs.Kinds.{rule_at};
 
@@ -63,7 +63,7 @@ const RULES: [KindRule; 13] = [
     },
 ];
 
-// The kind's place in the table.
+// The kind's place in the table. A step carries values, so that a cast can't give it.
 fn kind(step: ProofStep) -> usize
     ensures { result ≡ kind_of step }
 {
@@ -98,56 +98,45 @@ pub fn rule_of(step: ProofStep) -> KindRule
     rule_at(kind(step))
 }
 
-// How many of the n literals passed beside a step of this rule it carries: all or none.
-pub fn carried(rule: KindRule, n: usize) -> usize
-    ensures { result ≡ pick rule.renamed n 0 }
+// The literals that a step carries, of those passed beside it: all or none.
+pub fn literals_of(step: ProofStep, lits: &[u32]) -> &[u32]
+    ensures { result.now ≡ literals_of step lits.now }
 {
-    if rule.renamed { n } else { 0 }
+    if rule_of(step).renamed { lits } else { &[] }
 }
 
 fn has_hashes(step: ProofStep) -> bool
     ensures { result ≡ has_hashes step }
 {
-    match step {
-        ProofStep::AddClause => false,
-        ProofStep::AtClause(_) => true,
-        ProofStep::UnitClauses => true,
-        ProofStep::DeleteClause(_) => false,
-        ProofStep::Model => false,
-        ProofStep::Assumptions => false,
-        ProofStep::FailedAssumptions => true,
-        ProofStep::SolverVarName(_, _) => false,
-        ProofStep::UserVarName(_, _) => false,
-        ProofStep::DeleteVar(_) => false,
-        ProofStep::ChangeSamplingMode(_, _) => false,
-        ProofStep::ChangeHashBits(_) => false,
-        ProofStep::End => false,
-    }
+    matches!(
+        step,
+        ProofStep::AtClause(_) | ProofStep::UnitClauses | ProofStep::FailedAssumptions
+    )
 }
 
-// How many of the n hashes passed beside a step it carries: all or none.
-pub fn hashed(step: ProofStep, n: usize) -> usize
-    ensures { result ≡ pick (has_hashes step) n 0 }
+// The hashes that a step carries, of those passed beside it: all or none.
+pub fn hashes_of(step: ProofStep, hashes: &[u64]) -> &[u64]
+    ensures { result.now ≡ hashes_of step hashes.now }
 {
-    if has_hashes(step) { n } else { 0 }
+    if has_hashes(step) { hashes } else { &[] }
+}
+
+fn is_units(step: ProofStep) -> bool
+    ensures { result ≡ eqb (kind_of step) (kind_of UnitClauses) }
+{
+    matches!(step, ProofStep::UnitClauses)
 }
 
 // Units and hashes differ in number.
 pub fn differ(step: ProofStep, lits: &[u32], hashes: &[u64]) -> bool
     ensures { result ≡ unmatched step lits.now hashes.now }
 {
-    (kind(step) == 2) & (lits.len() != hashes.len())
+    is_units(step) & (lits.len() != hashes.len())
 }
 
 // A kind that DRAT lacks.
 pub fn is_lacked(writes: Writes) -> bool
     ensures { result ≡ lacked writes }
 {
-    match writes {
-        Writes::Add => false,
-        Writes::AddEach => false,
-        Writes::Delete => false,
-        Writes::Nothing => false,
-        Writes::Refused => true,
-    }
+    matches!(writes, Writes::Refused)
 }

@@ -1,4 +1,5 @@
 // Write: the DRAT bytes of a step, its literals under global names (`add_step` of src/proof.rs, src/proof/drat.rs).
+// The calls take each list, the step and what stands beside it apart, as the C interface lends them.
 ghost use Rattle.std.specs.Prelude.{◌≡◌, true, ◌+◌, ◌≤◌, length};
 ghost use Rattle.base.specs.Lent.{Fills, change};
 ghost use Rattle.drat.specs.Grammar.{encode, Codes};
@@ -11,14 +12,14 @@ ghost use Rattle.steps.specs.Names.{names_by, Nameable};
 ghost use Rattle.steps.specs.Refusals.{laid, laid_bytes};
 ghost use Rattle.steps.specs.Answers.{recorded};
 
-use crate::kinds::{carried, is_lacked, rule_of};
+use crate::kinds::{is_lacked, literals_of, rule_of};
 use crate::rename::{rename_lits, step_refusal};
 use drat::{Format, Kind};
 use drat_write::{put_step, step_len};
-use scope::{Counts, ProofStep, Writes};
-use table::is_sound;
+use scope::{Counts, ProofStep, Refusal, Writes};
+use table::Lists;
 
-// How many bytes one add per unit takes.
+// How many bytes one add per unit takes, each a part of the buffer (document 01).
 fn units_len(f: Format, lits: &[u32]) -> usize
     requires codes { Codes lits.now }
     requires lits_len_bound { length lits.now ≤ 8192 }
@@ -26,15 +27,13 @@ fn units_len(f: Format, lits: &[u32]) -> usize
     ensures upper_bound { result ≤ 402685952 }
 {
     let mut n = 0;
-    let mut i = 0;
-    while i < lits.len() {
+    for i in 0..lits.len() {
         n += step_len(f, Kind::Add, &lits[i..i + 1]);
-        i += 1;
     }
     n
 }
 
-// One add per unit, each a part of the buffer; the place after them.
+// One add per unit, each a part of the buffer (document 01); the place after them.
 fn put_units(f: Format, lits: &[u32], out: &mut [u8], at: usize) -> usize
     requires codes { Codes lits.now }
     requires lits_in_bounds { at + length (encode f (written AddEach lits.now)) ≤ length out.old }
@@ -42,10 +41,8 @@ fn put_units(f: Format, lits: &[u32], out: &mut [u8], at: usize) -> usize
     ensures fills { Fills (change out.old out.new) at (encode f (written AddEach lits.now)) }
 {
     let mut p = at;
-    let mut i = 0;
-    while i < lits.len() {
+    for i in 0..lits.len() {
         p = put_step(f, Kind::Add, &lits[i..i + 1], out, p);
-        i += 1;
     }
     p
 }
@@ -82,14 +79,7 @@ pub fn put_bytes(f: Format, writes: Writes, lits: &[u32], out: &mut [u8], at: us
     }
 }
 
-// How many bytes were filled.
-#[derive(Clone, Copy)]
-pub enum Recorded {
-    Done(usize),
-    Refused(u32),
-}
-
-// A step of which all but the room is judged, with a place for its literals' names: 2.
+// A step of which all but the room is judged, with a place for its literals' names (2); how many bytes were filled.
 fn write_over(
     gs: &[u32],
     f: Format,
@@ -98,7 +88,7 @@ fn write_over(
     lits: &[u32],
     names: &mut [u32],
     out: &mut [u8],
-) -> Recorded
+) -> Result<usize, Refusal>
     requires nameable { Nameable gs.now solvervars lits.now }
     requires lits_in_bounds { length lits.now ≤ length names.old }
     ensures value { let bytes = encode f (written writes (names_by gs.now solvervars lits.now)) in
@@ -110,10 +100,10 @@ fn write_over(
     let k = lits.len();
     let n = bytes_len(f, writes, &names[..k]);
     if out.len() < n {
-        return Recorded::Refused(2);
+        return Err(Refusal::Short);
     }
     put_bytes(f, writes, &names[..k], out, 0);
-    Recorded::Done(n)
+    Ok(n)
 }
 
 // The same, the place lent: a short one for few literals, since it is cleared at each call.
@@ -124,7 +114,7 @@ pub fn write_judged(
     solvervars: bool,
     lits: &[u32],
     out: &mut [u8],
-) -> Recorded
+) -> Result<usize, Refusal>
     requires { Nameable gs.now solvervars lits.now }
     ensures value { let bytes = encode f (written writes (names_by gs.now solvervars lits.now)) in
         result ≡ laid bytes (length out.old) }
@@ -159,15 +149,22 @@ pub fn write_step(
     lits: &[u32],
     hashes: &[u64],
     out: &mut [u8],
-) -> Recorded
+) -> Result<usize, Refusal>
     ensures meets { Meets (λ t room. write_of f t step solvervars lits.now hashes.now (length out.old)) (recorded result c)
         (reads c gu.now ug.now sg.now gs.now assignment.now records.now) }
     ensures out { Fills (change out.old out.new) 0
         (write_of f (given c gu.now ug.now sg.now gs.now assignment.now records.now) step solvervars lits.now hashes.now (length out.old)).bytes }
 {
-    if !is_sound(c, gu, ug, sg, gs, assignment, records) {
-        return Recorded::Refused(1);
-    }
+    let t = Lists {
+        counts: c,
+        gu,
+        ug,
+        sg,
+        gs,
+        assignment,
+        records,
+    };
+    t.check_sound()?;
     known_write_step(
         c, gu, ug, sg, gs, assignment, records, f, step, solvervars, lits, hashes, out,
     )
@@ -189,24 +186,26 @@ pub fn known_write_step(
     lits: &[u32],
     hashes: &[u64],
     out: &mut [u8],
-) -> Recorded
+) -> Result<usize, Refusal>
     requires { soundb (given c gu.now ug.now sg.now gs.now assignment.now records.now) ≡ true }
     ensures meets { Meets (λ t room. write_of f t step solvervars lits.now hashes.now (length out.old)) (recorded result c)
         (reads c gu.now ug.now sg.now gs.now assignment.now records.now) }
     ensures out { Fills (change out.old out.new) 0
         (write_of f (given c gu.now ug.now sg.now gs.now assignment.now records.now) step solvervars lits.now hashes.now (length out.old)).bytes }
 {
-    let rule = rule_of(step);
-    let k = carried(rule, lits.len());
-    let n = step_refusal(
-        c, gu, ug, sg, gs, assignment, records, step, solvervars, lits, hashes, k,
-    );
-    if n != 0 {
-        return Recorded::Refused(n);
-    }
-    let writes = rule.writes;
+    let t = Lists {
+        counts: c,
+        gu,
+        ug,
+        sg,
+        gs,
+        assignment,
+        records,
+    };
+    step_refusal(&t, step, solvervars, lits, hashes)?;
+    let writes = rule_of(step).writes;
     if is_lacked(writes) {
-        return Recorded::Refused(11);
+        return Err(Refusal::NotInDrat);
     }
-    write_judged(gs, f, writes, solvervars, &lits[..k], out)
+    write_judged(gs, f, writes, solvervars, literals_of(step, lits), out)
 }

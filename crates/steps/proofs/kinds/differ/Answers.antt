@@ -1,5 +1,7 @@
-use Rattle.steps.proofs.KindLaws.{differ_is}
+use mathlib.Core.Path.{refl}
+use Rattle.scope.specs.Write.{unmatched}
 use Rattle.steps.proofs.kinds.differ.Goals as goal
 
 pub returns : goal.returns
-returns c = differ_is c.args.step _ _ _ c.kind.ensures
+unfolding unmatched
+returns c = rw c.is_units.ensures refl

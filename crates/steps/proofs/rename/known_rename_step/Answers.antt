@@ -1,74 +1,89 @@
-use Rattle.steps.proofs.StepLaws.{carried_by, rename_clear, step_nameable, literals_fit, hashes_fit}
+use mathlib.Core.Path.{refl, sym, ap, subst, ◌∙◌}
+use mathlib.Core.List.{List, ◌++◌}
+use Prim.Native.Nat.{ℕ, ◌≤◌}
+use lib.ListN.{length, drop, length-take}
+use lib.Seq.{sets}
+use native.Mathlib.Omega.{arith}
+use Rattle.std.proofs.lemmas.Result.{err_from_is_err_and}
+use Rattle.base.proofs.SetsLaws.{sets_front}
+use Rattle.scope.proofs.RefusedLaws.{refused_err, refused_ok}
+use Rattle.steps.specs.Names.{Named, names_by}
+use Rattle.steps.proofs.LiteralLaws.{nameable_named}
+use Rattle.steps.proofs.StepLaws.{rename_clear, step_nameable}
 use Rattle.steps.proofs.RenameLaws.{rename_refused, rename_done}
 use Rattle.steps.proofs.rename.known_rename_step.Goals as goal
 
-pub returns-then-n-ne0-clause-meets : goal.returns-then-n-ne0-clause-meets
-returns-then-n-ne0-clause-meets c =
-    let z = rename_refused _ c.args.step c.args.solvervars c.args.lits.now c.args.hashes.now c.args.out.now
-    c.args.hashout.now _ c.rename_refusal-n.ensures c.if-n-ne0.true in
-    z.does
+pub returns-in_err-rename_refusal-clause-meets : goal.returns-in_err-rename_refusal-clause-meets
+returns-in_err-rename_refusal-clause-meets c =
+    let a = c.args in
+    let p = err_from_is_err_and c.from_residual.result c.from_residual.ensures.1 in
+    let n = sym (refused_err _ _ c.in_err-rename_refusal.was) ∙ c.rename_refusal.ensures in
+    rw (p.1, p.2) (rename_refused _ a.step a.solvervars a.lits.now a.hashes.now a.out.now a.hashout.now _ n).does
 
-pub returns-then-n-ne0-clause-out : goal.returns-then-n-ne0-clause-out
-returns-then-n-ne0-clause-out c =
-    let z = rename_refused _ c.args.step c.args.solvervars c.args.lits.now c.args.hashes.now c.args.out.now
-    c.args.hashout.now _ c.rename_refusal-n.ensures c.if-n-ne0.true in
-    z.words
+pub returns-in_err-rename_refusal-clause-out : goal.returns-in_err-rename_refusal-clause-out
+returns-in_err-rename_refusal-clause-out c =
+    let a = c.args in
+    let n = sym (refused_err _ _ c.in_err-rename_refusal.was) ∙ c.rename_refusal.ensures in
+    (rename_refused _ a.step a.solvervars a.lits.now a.hashes.now a.out.now a.hashout.now _ n).words
 
-pub returns-then-n-ne0-clause-hashout : goal.returns-then-n-ne0-clause-hashout
-returns-then-n-ne0-clause-hashout c =
-    let z = rename_refused _ c.args.step c.args.solvervars c.args.lits.now c.args.hashes.now c.args.out.now
-    c.args.hashout.now _ c.rename_refusal-n.ensures c.if-n-ne0.true in
-    z.more
+pub returns-in_err-rename_refusal-clause-hashout : goal.returns-in_err-rename_refusal-clause-hashout
+returns-in_err-rename_refusal-clause-hashout c =
+    let a = c.args in
+    let n = sym (refused_err _ _ c.in_err-rename_refusal.was) ∙ c.rename_refusal.ensures in
+    (rename_refused _ a.step a.solvervars a.lits.now a.hashes.now a.out.now a.hashout.now _ n).more
 
-pub rename_lits-requires-clause-nameable : goal.rename_lits-requires-clause-nameable
-rename_lits-requires-clause-nameable c =
-    let k = carried_by c.args.step _ _ _ c.rule_of-rule.ensures
-    c.carried-k.ensures in
-    let r = rename_clear _ c.args.step c.args.solvervars c.args.lits.now c.args.hashes.now _ _ _
-    c.rename_refusal-n.ensures c.if-n-ne0.false in
-    step_nameable _ c.args.step c.args.solvervars c.args.lits.now c.args.hashes.now _ r.clear k
+pub rename_lits-requires-clause-named : goal.rename_lits-requires-clause-named
+rename_lits-requires-clause-named c =
+    let a = c.args in
+    let r = rename_clear _ a.step a.solvervars a.lits.now a.hashes.now _ _ _ c.rename_refusal.ensures (refused_ok _ _ c.in_ok-rename_refusal.was) in
+    subst (λ (ls : List ℕ). Named a.gs.now a.solvervars ls) (sym c.literals_of-carried.ensures)
+    (nameable_named _ _ _ (step_nameable _ a.step a.solvervars a.lits.now a.hashes.now r.clear))
 
 pub rename_lits-requires-clause-lits_in_bounds : goal.rename_lits-requires-clause-lits_in_bounds
 rename_lits-requires-clause-lits_in_bounds c =
-    let k = carried_by c.args.step _ _ _ c.rule_of-rule.ensures
-    c.carried-k.ensures in
-    let r = rename_clear _ c.args.step c.args.solvervars c.args.lits.now c.args.hashes.now _ _ _
-    c.rename_refusal-n.ensures c.if-n-ne0.false in
-    literals_fit c.args.step c.args.lits.now _ _ k r.room
+    let a = c.args in
+    let r = rename_clear _ a.step a.solvervars a.lits.now a.hashes.now _ _ _ c.rename_refusal.ensures (refused_ok _ _ c.in_ok-rename_refusal.was) in
+    omega (arith, ap length c.literals_of-carried.ensures, r.room)
 
-pub copy_hashes-requires : goal.copy_hashes-requires
-copy_hashes-requires c =
-    hashes_fit c.args.step c.args.hashes.now _ _ c.hashed-m.ensures
-    (rename_clear _ c.args.step c.args.solvervars c.args.lits.now c.args.hashes.now _ _ _
-    c.rename_refusal-n.ensures
-    c.if-n-ne0.false).hashroom
+pub slice_bounds-copy_from_slice-end : goal.slice_bounds-copy_from_slice-end
+slice_bounds-copy_from_slice-end c =
+    let a = c.args in
+    let r = rename_clear _ a.step a.solvervars a.lits.now a.hashes.now _ _ _ c.rename_refusal.ensures (refused_ok _ _ c.in_ok-rename_refusal.was) in
+    omega (arith, ap length c.hashes_of-hashed.ensures, r.hashroom)
+
+pub slice_bounds-copy_from_slice-end-2 : goal.slice_bounds-copy_from_slice-end-2
+slice_bounds-copy_from_slice-end-2 c =
+    let a = c.args in
+    let r = rename_clear _ a.step a.solvervars a.lits.now a.hashes.now _ _ _ c.rename_refusal.ensures (refused_ok _ _ c.in_ok-rename_refusal.was) in
+    omega (arith, ap length c.hashes_of-hashed.ensures, r.hashroom, length-take (length c.hashes_of-hashed.result.now) a.hashout.now)
+
+pub copy_from_slice-requires : goal.copy_from_slice-requires
+copy_from_slice-requires c = sym (slice_bounds-copy_from_slice-end-2 c)
 
 pub returns-clause-meets : goal.returns-clause-meets
 returns-clause-meets c =
-    let k = carried_by c.args.step _ _ _ c.rule_of-rule.ensures c.carried-k.ensures
-    in
-    let z = rename_done _ c.args.step c.args.solvervars c.args.lits.now c.args.hashes.now c.args.out.now
-    c.args.hashout.now _ _ _ _ _ c.rename_refusal-n.ensures c.if-n-ne0.false k
-    c.hashed-m.ensures
-    c.rename_lits.ensures c.copy_hashes.ensures in
-    z.does
+    let a = c.args in
+    let e = c.rename_refusal.ensures in
+    let z = refused_ok _ _ c.in_ok-rename_refusal.was in
+    rw (c.literals_of-carried.ensures, c.hashes_of-hashed.ensures)
+    (rename_done _ a.step a.solvervars a.lits.now a.hashes.now a.out.now a.hashout.now _ _ _ e z refl refl).does
 
 pub returns-clause-out : goal.returns-clause-out
 returns-clause-out c =
-    let k = carried_by c.args.step _ _ _ c.rule_of-rule.ensures c.carried-k.ensures
-    in
-    let z = rename_done _ c.args.step c.args.solvervars c.args.lits.now c.args.hashes.now c.args.out.now
-    c.args.hashout.now _ _ _ _ _ c.rename_refusal-n.ensures c.if-n-ne0.false k
-    c.hashed-m.ensures
-    c.rename_lits.ensures c.copy_hashes.ensures in
-    z.words
+    let a = c.args in
+    let e = c.rename_refusal.ensures in
+    let z = refused_ok _ _ c.in_ok-rename_refusal.was in
+    let w = c.rename_lits.ensures ∙ ap (λ (ls : List ℕ). sets a.out.now 0 (names_by a.gs.now a.solvervars ls)) c.literals_of-carried.ensures in
+    (rename_done _ a.step a.solvervars a.lits.now a.hashes.now a.out.now a.hashout.now _ _ _ e z w refl).words
 
 pub returns-clause-hashout : goal.returns-clause-hashout
 returns-clause-hashout c =
-    let k = carried_by c.args.step _ _ _ c.rule_of-rule.ensures c.carried-k.ensures
-    in
-    let z = rename_done _ c.args.step c.args.solvervars c.args.lits.now c.args.hashes.now c.args.out.now
-    c.args.hashout.now _ _ _ _ _ c.rename_refusal-n.ensures c.if-n-ne0.false k
-    c.hashed-m.ensures
-    c.rename_lits.ensures c.copy_hashes.ensures in
-    z.more
+    let a = c.args in
+    let e = c.rename_refusal.ensures in
+    let z = refused_ok _ _ c.in_ok-rename_refusal.was in
+    let h = c.hashes_of-hashed.result.now in
+    let r = rename_clear _ a.step a.solvervars a.lits.now a.hashes.now _ _ _ e z in
+    let l : length h ≤ length a.hashout.now = omega (arith, ap length c.hashes_of-hashed.ensures, r.hashroom) in
+    let w = ap (λ (hs : List ℕ). hs ++ drop (length h) a.hashout.now) c.copy_from_slice.ensures.after
+    ∙ sets_front h a.hashout.now l ∙ ap (sets a.hashout.now 0) c.hashes_of-hashed.ensures in
+    (rename_done _ a.step a.solvervars a.lits.now a.hashes.now a.out.now a.hashout.now _ _ _ e z refl w).more

@@ -1,4 +1,4 @@
-use Rattle.steps.proofs.LiteralLaws.{refuse_many, refuse_beyond, pass_global, refuse_unheld, pass_solver}
+use Rattle.steps.proofs.LiteralLaws.{refuse_many, refuse_beyond, pass_global, refuse_unheld, pass_solver, any_is}
 use mathlib.Core.Path.{sym, ◌∙◌}
 use Rattle.steps.proofs.rename.literal_refusal.Goals as goal
 
@@ -22,10 +22,10 @@ pub returns-then-any_unheld : goal.returns-then-any_unheld
 returns-then-any_unheld c =
     λ t p q. refuse_unheld t _ c.args.solvervars _ q c.if-lits-gt8192.false
     c.if-not-solvervars.false
-    (sym c.any_unheld.ensures ∙ c.if-any_unheld.true)
+    (sym (any_is _ _) ∙ sym c.any_unheld.ensures ∙ c.if-any_unheld.true)
 
 pub returns : goal.returns
 returns c =
     λ t p q. pass_solver t _ c.args.solvervars _ q c.if-lits-gt8192.false
     c.if-not-solvervars.false
-    (sym c.any_unheld.ensures ∙ c.if-any_unheld.false)
+    (sym (any_is _ _) ∙ sym c.any_unheld.ensures ∙ c.if-any_unheld.false)

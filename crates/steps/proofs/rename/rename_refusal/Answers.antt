@@ -1,24 +1,24 @@
-use Rattle.steps.proofs.StepLaws.{rename_first, rename_short_literals, rename_short_hashes, rename_pass}
+use mathlib.Core.Path.{sym, ◌∙◌}
+use Rattle.std.proofs.lemmas.Result.{err_from_is_err_and}
+use Rattle.scope.proofs.RefusedLaws.{number_not_0, refused_err, refused_ok}
+use Rattle.steps.proofs.StepLaws.{rename_first, rename_short, rename_pass}
 use Rattle.steps.proofs.rename.rename_refusal.Goals as goal
 
-pub returns-then-n-ne0 : goal.returns-then-n-ne0
-returns-then-n-ne0 c =
-    rename_first _ c.args.step c.args.solvervars c.args.lits.now c.args.hashes.now _ _ _
-    c.step_refusal-n.ensures c.if-n-ne0.true
+pub returns-in_err-step_refusal : goal.returns-in_err-step_refusal
+returns-in_err-step_refusal c =
+    let a = c.args in
+    let p = err_from_is_err_and c.from_residual.result c.from_residual.ensures.1 in
+    let n = sym (refused_err _ _ c.in_err-step_refusal.was) ∙ c.step_refusal.ensures in
+    rw (p.1, p.2) (rename_first _ a.step a.solvervars a.lits.now a.hashes.now _ _ _ n (number_not_0 _))
 
-pub returns-then-room-k : goal.returns-then-room-k
-returns-then-room-k c =
-    rename_short_literals _ c.args.step c.args.solvervars c.args.lits.now c.args.hashes.now _ _ _ _
-    c.step_refusal-n.ensures c.if-n-ne0.false c.requires.k_value c.if-room-k.true
-
-pub returns-then-hashroom-m : goal.returns-then-hashroom-m
-returns-then-hashroom-m c =
-    rename_short_hashes _ c.args.step c.args.solvervars c.args.lits.now c.args.hashes.now _ _ _ _ _
-    c.step_refusal-n.ensures c.if-n-ne0.false c.requires.k_value c.if-room-k.false
-    c.hashed-m.ensures c.if-hashroom-m.true
+pub returns-then-room-literals_of : goal.returns-then-room-literals_of
+returns-then-room-literals_of c =
+    let a = c.args in
+    rename_short _ a.step a.solvervars a.lits.now a.hashes.now _ _ _ c.step_refusal.ensures (refused_ok _ _ c.in_ok-step_refusal.was)
+    (rw (sym c.literals_of.ensures, sym c.hashes_of.ensures) c.if-room-literals_of.true)
 
 pub returns : goal.returns
 returns c =
-    rename_pass _ c.args.step c.args.solvervars c.args.lits.now c.args.hashes.now _ _ _ _ _
-    c.step_refusal-n.ensures c.if-n-ne0.false c.requires.k_value c.if-room-k.false
-    c.hashed-m.ensures c.if-hashroom-m.false
+    let a = c.args in
+    rename_pass _ a.step a.solvervars a.lits.now a.hashes.now _ _ _ c.step_refusal.ensures (refused_ok _ _ c.in_ok-step_refusal.was)
+    (rw (sym c.literals_of.ensures, sym c.hashes_of.ensures) c.if-room-literals_of.false)

@@ -9,41 +9,27 @@ pub put_step-p-requires-clause-lits_in_bounds : goal.put_step-p-requires-clause-
 put_step-p-requires-clause-lits_in_bounds c =
     omega (
       arith,
-      units_length c.args.f c.args.lits.now
-          c.loop-i.i c.loop-i-test.true,
+      units_length c.args.f c.args.lits.now c.loop-i.i c.loop-i-test.true,
       c.requires.lits_in_bounds,
+      c.loop-i.invariant.0,
       c.loop-i.invariant.1,
-      c.loop-i.invariant.2,
     )
 
 pub loop-i-preserved : goal.loop-i-preserved
-loop-i-preserved c = (
-  omega arith,
-  c.put_step-p.auto.out
-      ∙ c.loop-i.invariant.1,
-  omega (
-    arith,
-    c.put_step-p.ensures.value,
-    units_length c.args.f
-        c.args.lits.now
-        c.loop-i.i
-        c.loop-i-test.true,
-  ),
-  units_put
-      c.args.f
-      c.args.lits.now _ _ _ _
-      c.loop-i.i c.loop-i-test.true
-      c.put_step-p.ensures.fills c.put_step-p.ensures.value ∙ c.loop-i.invariant.3,
-)
+loop-i-preserved c =
+    let a = c.args in
+    let i = c.loop-i.i in (
+      c.put_step-p.auto.out ∙ c.loop-i.invariant.0,
+      omega (arith, c.put_step-p.ensures.value, units_length a.f a.lits.now i c.loop-i-test.true),
+      units_put a.f a.lits.now _ _ _ _ i c.loop-i-test.true c.put_step-p.ensures.fills c.put_step-p.ensures.value ∙ c.loop-i.invariant.2,
+    )
 
 pub returns-clause-value : goal.returns-clause-value
 returns-clause-value c =
-    let d = units_done c.args.f c.args.lits.now c.loop-i.i
-    c.loop-i-test.false in
+    let d = units_done c.args.f c.args.lits.now c.loop-i.i c.loop-i-test.false in
     omega (arith, ap length d)
 
 pub returns-clause-fills : goal.returns-clause-fills
 returns-clause-fills c =
-    let d = units_done c.args.f c.args.lits.now c.loop-i.i
-    c.loop-i-test.false in
-    sym (ap (sets c.loop-i.out c.loop-i.p) d) ∙ c.loop-i.invariant.3
+    let d = units_done c.args.f c.args.lits.now c.loop-i.i c.loop-i-test.false in
+    sym (ap (sets c.loop-i.out c.loop-i.p) d) ∙ c.loop-i.invariant.2

@@ -1,4 +1,4 @@
-use Prim.Native.Nat.{◌+◌, ◌-◌, ◌*◌, ◌≤◌}
+use Prim.Native.Nat.{◌+◌, ◌*◌, ◌≤◌}
 use mathlib.Core.Path.{◌≡◌}
 use lib.ListN.{length}
 use Rattle.scope.specs.Steps.{written}
@@ -9,9 +9,5 @@ use Rattle.steps.proofs.write.units_len.Given as goal
 
 abbrev pub invariant-loop-i : goal.invariant-loop-i
 invariant-loop-i l =
-    (l.i ≤ length l.lits)
-    × (l.n + length (units_from l.f l.lits l.i) ≡ length (encode l.f (written AddEach l.lits)))
+    (l.n + length (units_from l.f l.lits l.i) ≡ length (encode l.f (written AddEach l.lits)))
     × (l.n ≤ 49156 * l.i)
-
-abbrev pub decreases-loop-i : goal.decreases-loop-i
-decreases-loop-i l = length l.lits - l.i

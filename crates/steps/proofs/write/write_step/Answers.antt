@@ -1,17 +1,20 @@
+use Rattle.std.proofs.lemmas.Result.{err_from_is_err_and}
+use Rattle.table.proofs.CheckLaws.{refuses_1, passes_1}
 use Rattle.steps.proofs.WriteLaws.{write_unsound}
-use Rattle.table.proofs.CheckLaws.{no_of}
 use Rattle.steps.proofs.write.write_step.Goals as goal
 
-pub returns-then-not-is_sound-clause-meets : goal.returns-then-not-is_sound-clause-meets
-returns-then-not-is_sound-clause-meets c =
-    let args = c.args in
-    let z = write_unsound args.f _ args.step args.solvervars args.lits.now args.hashes.now args.out.now
-    (no_of c.is_sound.ensures c.if-not-is_sound.true) in
-    z.does
+pub returns-in_err-check_sound-clause-meets : goal.returns-in_err-check_sound-clause-meets
+returns-in_err-check_sound-clause-meets c =
+    let a = c.args in
+    let p = err_from_is_err_and c.from_residual.result c.from_residual.ensures.1 in
+    let q = refuses_1 _ _ _ c.check_sound.ensures c.in_err-check_sound.was in
+    rw (p.1, p.2, q.1) (write_unsound a.f _ a.step a.solvervars a.lits.now a.hashes.now a.out.now q.0).does
 
-pub returns-then-not-is_sound-clause-out : goal.returns-then-not-is_sound-clause-out
-returns-then-not-is_sound-clause-out c =
-    let args = c.args in
-    let z = write_unsound args.f _ args.step args.solvervars args.lits.now args.hashes.now args.out.now
-    (no_of c.is_sound.ensures c.if-not-is_sound.true) in
-    z.bytes
+pub returns-in_err-check_sound-clause-out : goal.returns-in_err-check_sound-clause-out
+returns-in_err-check_sound-clause-out c =
+    let a = c.args in
+    let q = refuses_1 _ _ _ c.check_sound.ensures c.in_err-check_sound.was in
+    (write_unsound a.f _ a.step a.solvervars a.lits.now a.hashes.now a.out.now q.0).bytes
+
+pub known_write_step-requires : goal.known_write_step-requires
+known_write_step-requires c = passes_1 _ _ _ c.check_sound.ensures c.in_ok-check_sound.was
