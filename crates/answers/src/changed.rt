@@ -4,8 +4,7 @@ ghost use Rattle.marks.specs.Answers.{changed};
 ghost use Rattle.numbers.specs.Surface.{plain};
 ghost use Rattle.numbers.specs.Flat.{Numbered};
 
-use marks::Changed;
-use scope::Counts;
+use scope::{Counts, Refusal};
 
 #[repr(C)]
 #[derive(Clone, Copy)]
@@ -14,16 +13,16 @@ pub struct HzChanged {
     pub counts: Counts,
 }
 
-pub fn changed_out(r: Changed, c: Counts) -> HzChanged
+pub fn changed_out(r: Result<(), Refusal>, c: Counts) -> HzChanged
     ensures { Numbered (changed r c) (plain 0) (result.refusal ∷ []) result.counts }
 {
     match r {
-        Changed::Done => HzChanged {
+        Ok(()) => HzChanged {
             refusal: 0,
             counts: c,
         },
-        Changed::Refused(n) => HzChanged {
-            refusal: n,
+        Err(e) => HzChanged {
+            refusal: u32::from(e),
             counts: c,
         },
     }

@@ -6,7 +6,7 @@ ghost use Rattle.scope.specs.Steps.{flag};
 ghost use Rattle.numbers.specs.Surface.{optional};
 ghost use Rattle.numbers.specs.Flat.{Numbered};
 
-use var_map::{GotGlobal, GotSolver, GotUser, GotWord};
+use scope::{Global, Refusal, Solver, User};
 
 // Whether there is something, and what.
 #[repr(C)]
@@ -15,6 +15,16 @@ pub struct HzFound {
     pub refusal: u32,
     pub found: bool,
     pub value: u32,
+}
+
+fn present(value: u32) -> HzFound
+    ensures { result.refusal ∷ flag result.found ∷ result.value ∷ [] ≡ 0 ∷ 1 ∷ value ∷ [] }
+{
+    HzFound {
+        refusal: 0,
+        found: true,
+        value,
+    }
 }
 
 fn absent(n: u32) -> HzFound
@@ -27,58 +37,42 @@ fn absent(n: u32) -> HzFound
     }
 }
 
-pub fn user_out(r: GotUser) -> HzFound
+pub fn user_out(r: Result<Option<User>, Refusal>) -> HzFound
     ensures { (c : Counts) → Numbered (got_user r c) (optional 0) (result.refusal ∷ flag result.found ∷ result.value ∷ []) c }
 {
     match r {
-        GotUser::At(u) => HzFound {
-            refusal: 0,
-            found: true,
-            value: u.0,
-        },
-        GotUser::Nothing => absent(0),
-        GotUser::Refused(n) => absent(n),
+        Ok(Some(u)) => present(u.0),
+        Ok(None) => absent(0),
+        Err(e) => absent(u32::from(e)),
     }
 }
 
-pub fn global_out(r: GotGlobal) -> HzFound
+pub fn global_out(r: Result<Option<Global>, Refusal>) -> HzFound
     ensures { (c : Counts) → Numbered (got_global r c) (optional 0) (result.refusal ∷ flag result.found ∷ result.value ∷ []) c }
 {
     match r {
-        GotGlobal::At(g) => HzFound {
-            refusal: 0,
-            found: true,
-            value: g.0,
-        },
-        GotGlobal::Nothing => absent(0),
-        GotGlobal::Refused(n) => absent(n),
+        Ok(Some(g)) => present(g.0),
+        Ok(None) => absent(0),
+        Err(e) => absent(u32::from(e)),
     }
 }
 
-pub fn solver_out(r: GotSolver) -> HzFound
+pub fn solver_out(r: Result<Option<Solver>, Refusal>) -> HzFound
     ensures { (c : Counts) → Numbered (got_solver r c) (optional 0) (result.refusal ∷ flag result.found ∷ result.value ∷ []) c }
 {
     match r {
-        GotSolver::At(s) => HzFound {
-            refusal: 0,
-            found: true,
-            value: s.0,
-        },
-        GotSolver::Nothing => absent(0),
-        GotSolver::Refused(n) => absent(n),
+        Ok(Some(s)) => present(s.0),
+        Ok(None) => absent(0),
+        Err(e) => absent(u32::from(e)),
     }
 }
 
-pub fn word_out(r: GotWord) -> HzFound
+pub fn word_out(r: Result<Option<u32>, Refusal>) -> HzFound
     ensures { (c : Counts) → Numbered (got_word r c) (optional 0) (result.refusal ∷ flag result.found ∷ result.value ∷ []) c }
 {
     match r {
-        GotWord::Word(w) => HzFound {
-            refusal: 0,
-            found: true,
-            value: w,
-        },
-        GotWord::Nothing => absent(0),
-        GotWord::Refused(n) => absent(n),
+        Ok(Some(w)) => present(w),
+        Ok(None) => absent(0),
+        Err(e) => absent(u32::from(e)),
     }
 }

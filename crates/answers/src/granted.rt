@@ -5,7 +5,7 @@ ghost use Rattle.numbers.specs.Surface.{plain};
 ghost use Rattle.numbers.specs.Flat.{Numbered};
 
 use granting::Granted;
-use scope::Counts;
+use scope::{Counts, Refusal};
 
 #[repr(C)]
 #[derive(Clone, Copy)]
@@ -16,18 +16,18 @@ pub struct HzGranted {
     pub notes: u32,
 }
 
-pub fn granted_out(r: Granted, c: Counts) -> HzGranted
+pub fn granted_out(r: Result<Granted, Refusal>, c: Counts) -> HzGranted
     ensures { Numbered (granted r c) (plain 2) (result.refusal ∷ result.solver ∷ result.notes ∷ []) result.counts }
 {
     match r {
-        Granted::Done(s, d, k) => HzGranted {
+        Ok(g) => HzGranted {
             refusal: 0,
-            counts: d,
-            solver: s.0,
-            notes: k,
+            counts: g.counts,
+            solver: g.solver.0,
+            notes: g.notes,
         },
-        Granted::Refused(n) => HzGranted {
-            refusal: n,
+        Err(e) => HzGranted {
+            refusal: u32::from(e),
             counts: c,
             solver: 0,
             notes: 0,

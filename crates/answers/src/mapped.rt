@@ -5,7 +5,7 @@ ghost use Rattle.numbers.specs.Surface.{plain};
 ghost use Rattle.numbers.specs.Flat.{Numbered};
 
 use naming::UserMapped;
-use scope::Counts;
+use scope::{Counts, Refusal};
 
 #[repr(C)]
 #[derive(Clone, Copy)]
@@ -16,18 +16,18 @@ pub struct HzMapped {
     pub notes: u32,
 }
 
-pub fn mapped_out(r: UserMapped, c: Counts) -> HzMapped
+pub fn mapped_out(r: Result<UserMapped, Refusal>, c: Counts) -> HzMapped
     ensures { Numbered (user_mapped r c) (plain 2) (result.refusal ∷ result.global ∷ result.notes ∷ []) result.counts }
 {
     match r {
-        UserMapped::Done(g, d, k) => HzMapped {
+        Ok(m) => HzMapped {
             refusal: 0,
-            counts: d,
-            global: g.0,
-            notes: k,
+            counts: m.counts,
+            global: m.global.0,
+            notes: m.notes,
         },
-        UserMapped::Refused(n) => HzMapped {
-            refusal: n,
+        Err(e) => HzMapped {
+            refusal: u32::from(e),
             counts: c,
             global: 0,
             notes: 0,

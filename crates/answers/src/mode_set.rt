@@ -6,7 +6,7 @@ ghost use Rattle.numbers.specs.Surface.{optional};
 ghost use Rattle.numbers.specs.Flat.{Numbered};
 
 use modes::ModeSet;
-use scope::Counts;
+use scope::{Counts, Refusal};
 
 // Whether a user was granted, and which.
 #[repr(C)]
@@ -19,26 +19,19 @@ pub struct HzModeSet {
     pub notes: u32,
 }
 
-pub fn mode_set_out(r: ModeSet, c: Counts) -> HzModeSet
+pub fn mode_set_out(r: Result<ModeSet, Refusal>, c: Counts) -> HzModeSet
     ensures { Numbered (mode_set r c) (optional 1) (result.refusal ∷ flag result.granted ∷ result.user ∷ result.notes ∷ []) result.counts }
 {
     match r {
-        ModeSet::Done(d, k) => HzModeSet {
+        Ok(m) => HzModeSet {
             refusal: 0,
-            counts: d,
-            granted: false,
-            user: 0,
-            notes: k,
+            counts: m.counts,
+            granted: m.user.is_some(),
+            user: m.user.map_or(0, |u| u.0),
+            notes: m.notes,
         },
-        ModeSet::Shown(u, d, k) => HzModeSet {
-            refusal: 0,
-            counts: d,
-            granted: true,
-            user: u.0,
-            notes: k,
-        },
-        ModeSet::Refused(n) => HzModeSet {
-            refusal: n,
+        Err(e) => HzModeSet {
+            refusal: u32::from(e),
             counts: c,
             granted: false,
             user: 0,

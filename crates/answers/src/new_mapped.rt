@@ -5,7 +5,7 @@ ghost use Rattle.numbers.specs.Surface.{plain};
 ghost use Rattle.numbers.specs.Flat.{Numbered};
 
 use naming::NewUser;
-use scope::Counts;
+use scope::{Counts, Refusal};
 
 #[repr(C)]
 #[derive(Clone, Copy)]
@@ -17,19 +17,19 @@ pub struct HzNewMapped {
     pub notes: u32,
 }
 
-pub fn new_mapped_out(r: NewUser, c: Counts) -> HzNewMapped
+pub fn new_mapped_out(r: Result<NewUser, Refusal>, c: Counts) -> HzNewMapped
     ensures { Numbered (new_user_mapped r c) (plain 3) (result.refusal ∷ result.user ∷ result.global ∷ result.notes ∷ []) result.counts }
 {
     match r {
-        NewUser::Done(u, g, d, k) => HzNewMapped {
+        Ok(m) => HzNewMapped {
             refusal: 0,
-            counts: d,
-            user: u.0,
-            global: g.0,
-            notes: k,
+            counts: m.counts,
+            user: m.user.0,
+            global: m.global.0,
+            notes: m.notes,
         },
-        NewUser::Refused(n) => HzNewMapped {
-            refusal: n,
+        Err(e) => HzNewMapped {
+            refusal: u32::from(e),
             counts: c,
             user: 0,
             global: 0,

@@ -5,7 +5,7 @@ ghost use Rattle.numbers.specs.Surface.{plain};
 ghost use Rattle.numbers.specs.Flat.{Numbered};
 
 use removal::Removed;
-use scope::Counts;
+use scope::{Counts, Refusal};
 
 #[repr(C)]
 #[derive(Clone, Copy)]
@@ -15,17 +15,17 @@ pub struct HzNoted {
     pub notes: u32,
 }
 
-pub fn removed_out(r: Removed, c: Counts) -> HzNoted
+pub fn removed_out(r: Result<Removed, Refusal>, c: Counts) -> HzNoted
     ensures { Numbered (removed r c) (plain 1) (result.refusal ∷ result.notes ∷ []) result.counts }
 {
     match r {
-        Removed::Done(d, k) => HzNoted {
+        Ok(m) => HzNoted {
             refusal: 0,
-            counts: d,
-            notes: k,
+            counts: m.counts,
+            notes: m.notes,
         },
-        Removed::Refused(n) => HzNoted {
-            refusal: n,
+        Err(e) => HzNoted {
+            refusal: u32::from(e),
             counts: c,
             notes: 0,
         },

@@ -5,19 +5,18 @@ ghost use Rattle.numbers.specs.Surface.{plain};
 ghost use Rattle.numbers.specs.Flat.{Numbered};
 
 use crate::changed::HzChanged;
-use scope::Counts;
-use var_map::Opened;
+use scope::{Counts, Refusal};
 
-pub fn opened_out(r: Opened, c: Counts) -> HzChanged
+pub fn opened_out(r: Result<Counts, Refusal>, c: Counts) -> HzChanged
     ensures { Numbered (opened r c) (plain 0) (result.refusal ∷ []) result.counts }
 {
     match r {
-        Opened::Done(d) => HzChanged {
+        Ok(d) => HzChanged {
             refusal: 0,
             counts: d,
         },
-        Opened::Refused(n) => HzChanged {
-            refusal: n,
+        Err(e) => HzChanged {
+            refusal: u32::from(e),
             counts: c,
         },
     }

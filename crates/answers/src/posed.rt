@@ -5,7 +5,7 @@ ghost use Rattle.numbers.specs.Surface.{plain};
 ghost use Rattle.numbers.specs.Flat.{Numbered};
 
 use posing::PosedLits;
-use scope::Counts;
+use scope::{Counts, Refusal};
 
 // How many literals, or users, were filled.
 #[repr(C)]
@@ -17,18 +17,18 @@ pub struct HzPosed {
     pub notes: u32,
 }
 
-pub fn posed_out(r: PosedLits, c: Counts) -> HzPosed
+pub fn posed_out(r: Result<PosedLits, Refusal>, c: Counts) -> HzPosed
     ensures { Numbered (posed r c) (plain 2) (result.refusal ∷ result.filled ∷ result.notes ∷ []) result.counts }
 {
     match r {
-        PosedLits::Done(k, d, m) => HzPosed {
+        Ok(p) => HzPosed {
             refusal: 0,
-            counts: d,
-            filled: k,
-            notes: m,
+            counts: p.counts,
+            filled: p.filled,
+            notes: p.notes,
         },
-        PosedLits::Refused(n) => HzPosed {
-            refusal: n,
+        Err(e) => HzPosed {
+            refusal: u32::from(e),
             counts: c,
             filled: 0,
             notes: 0,

@@ -4,6 +4,7 @@ ghost use Rattle.distinct.specs.Users.{users_counted};
 ghost use Rattle.numbers.specs.Surface.{plain};
 
 use distinct::UsersCounted;
+use scope::Refusal;
 
 // How many users are to be mapped, and how many to be granted a solver index.
 #[repr(C)]
@@ -14,17 +15,17 @@ pub struct HzUsers {
     pub grants: u32,
 }
 
-pub fn users_out(r: UsersCounted) -> HzUsers
+pub fn users_out(r: Result<UsersCounted, Refusal>) -> HzUsers
     ensures { result.refusal ∷ result.users ∷ result.grants ∷ [] ≡ plain 2 (users_counted r) }
 {
     match r {
-        UsersCounted::Done(users, grants) => HzUsers {
+        Ok(k) => HzUsers {
             refusal: 0,
-            users,
-            grants,
+            users: k.users,
+            grants: k.grants,
         },
-        UsersCounted::Refused(n) => HzUsers {
-            refusal: n,
+        Err(e) => HzUsers {
+            refusal: u32::from(e),
             users: 0,
             grants: 0,
         },

@@ -5,7 +5,7 @@
 
 ghost use Rattle.std.specs.Prelude.{◌≤◌};
 
-use dimacs::CnfRead;
+use dimacs::{CnfError, CnfSize};
 use dimacs_read::read_cnf;
 use dimacs_write::write_cnf;
 use drat::WriteError;
@@ -18,119 +18,77 @@ struct Score {
     wrong: u64,
 }
 
-fn told(rt: &impl Print, t: Score, ok: bool) -> io::Result<Score> {
-    let run = t.run.wrapping_add(1);
-    if ok {
-        return Ok(Score {
-            run,
-            wrong: t.wrong,
-        });
+impl Score {
+    fn none() -> Score {
+        Score { run: 0, wrong: 0 }
     }
-    println!(rt; "wrong: vector {run}")?;
-    Ok(Score {
-        run,
-        wrong: t.wrong.wrapping_add(1),
+
+    fn told(&mut self, rt: &impl Print, ok: bool) -> io::Result<()> {
+        self.run = self.run.wrapping_add(1);
+        if ok {
+            return Ok(());
+        }
+        self.wrong = self.wrong.wrapping_add(1);
+        let run = self.run;
+        println!(rt; "wrong: vector {run}")
+    }
+
+    fn summary(&self, rt: &impl Print, name: &str) -> io::Result<()> {
+        let run = self.run;
+        let wrong = self.wrong;
+        println!(rt; "{name}: {run} vectors, {wrong} wrong")
+    }
+}
+
+// Whether the words lent are those wanted, and past them each is what it was before the call.
+fn holds<T: Copy + PartialEq>(lent: &[T], want: &[T], before: T) -> bool {
+    for i in 0..lent.len() {
+        let word = if i < want.len() { want[i] } else { before };
+        if lent[i] != word {
+            return false;
+        }
+    }
+    true
+}
+
+// What Read CNF answers where it fills.
+fn filled(variables: u32, lits: usize, clauses: usize) -> Result<CnfSize, CnfError> {
+    Ok(CnfSize {
+        variables,
+        lits,
+        clauses,
     })
 }
 
-fn summary(rt: &impl Print, name: &str, t: Score) -> io::Result<()> {
-    let run = t.run;
-    let wrong = t.wrong;
-    println!(rt; "{name}: {run} vectors, {wrong} wrong")
-}
-
-// Word i of what was to be filled; past it each word is what it was before the call.
-fn word32(want: &[u32], i: usize) -> u32 {
-    if i < want.len() { want[i] } else { 7 }
-}
-
-fn word64(want: &[u64], i: usize) -> u64 {
-    if i < want.len() { want[i] } else { 7 }
-}
-
-fn word8(want: &[u8], i: usize) -> u8 {
-    if i < want.len() { want[i] } else { 7 }
-}
-
-fn holds32(lent: &[u32; 32], want: &[u32]) -> bool {
-    for i in 0..32 {
-        if lent[i] != word32(want, i) {
-            return false;
-        }
-    }
-    true
-}
-
-fn holds64(lent: &[u64; 32], want: &[u64]) -> bool {
-    for i in 0..32 {
-        if lent[i] != word64(want, i) {
-            return false;
-        }
-    }
-    true
-}
-
-fn holds8(lent: &[u8; 128], want: &[u8]) -> bool {
-    for i in 0..128 {
-        if lent[i] != word8(want, i) {
-            return false;
-        }
-    }
-    true
-}
-
-fn same_answer(a: CnfRead, b: CnfRead) -> bool {
-    match a {
-        CnfRead::Filled(v, n, m) => match b {
-            CnfRead::Filled(w, x, y) => (v == w) & (n == x) & (m == y),
-            CnfRead::Wrong(_) => false,
-            CnfRead::Short => false,
-        },
-        CnfRead::Wrong(p) => match b {
-            CnfRead::Filled(_, _, _) => false,
-            CnfRead::Wrong(q) => p == q,
-            CnfRead::Short => false,
-        },
-        CnfRead::Short => match b {
-            CnfRead::Filled(_, _, _) => false,
-            CnfRead::Wrong(_) => false,
-            CnfRead::Short => true,
-        },
-    }
-}
-
 // Whether Read CNF with a and b words lent gives the answer and these words.
-fn gives(bytes: &[u8], a: usize, b: usize, answer: CnfRead, codes: &[u32], ends: &[u64]) -> bool
+fn gives(bytes: &[u8], a: usize, b: usize, answer: Result<CnfSize, CnfError>, codes: &[u32], ends: &[u64]) -> bool
     requires a_bound { a ≤ 32 }
     requires b_bound { b ≤ 32 }
 {
     let mut words = [7u32; 32];
     let mut places = [7u64; 32];
     let r = read_cnf(bytes, &mut words[..a], &mut places[..b]);
-    same_answer(r, answer) & holds32(&words, codes) & holds64(&places, ends)
+    r == answer && holds(&words, codes, 7) && holds(&places, ends, 7)
 }
 
 // A file of V variables and these clauses.
 fn file(
     rt: &impl Print,
-    t: Score,
+    t: &mut Score,
     bytes: &[u8],
     v: u32,
     codes: &[u32],
     ends: &[u64],
-) -> io::Result<Score> {
-    let answer = CnfRead::Filled(v, codes.len(), ends.len());
-    told(rt, t, gives(bytes, 32, 32, answer, codes, ends))
+) -> io::Result<()> {
+    let answer = filled(v, codes.len(), ends.len());
+    t.told(rt, gives(bytes, 32, 32, answer, codes, ends))
 }
 
 // A file that is wrong at the place.
-fn wrong(rt: &impl Print, t: Score, bytes: &[u8], place: usize) -> io::Result<Score> {
+fn wrong(rt: &impl Print, t: &mut Score, bytes: &[u8], place: usize) -> io::Result<()> {
     let none = [0u32; 0];
     let nowhere = [0u64; 0];
-    told(
-        rt,
-        t,
-        gives(bytes, 32, 32, CnfRead::Wrong(place), &none, &nowhere),
+    t.told(rt, gives(bytes, 32, 32, Err(CnfError::WrongLine(place)), &none, &nowhere),
     )
 }
 
@@ -149,50 +107,51 @@ fn puts(codes: &[u32], ends: &[u64], room: usize, answer: usize, bytes: &[u8]) -
 {
     let mut out = [7u8; 128];
     let w = write_cnf(codes, ends, &mut out[..room]);
-    (number(w) == answer) & holds8(&out, bytes)
+    number(w) == answer && holds(&out, bytes, 7)
 }
 
 fn written(
     rt: &impl Print,
-    t: Score,
+    t: &mut Score,
     codes: &[u32],
     ends: &[u64],
     bytes: &[u8],
-) -> io::Result<Score> {
+) -> io::Result<()> {
     let answer = 100 + bytes.len() % 1000;
-    told(rt, t, puts(codes, ends, 128, answer, bytes))
+    t.told(rt, puts(codes, ends, 128, answer, bytes))
 }
 
 // The lists give the file, and the file the lists, with V variables.
 fn both(
     rt: &impl Print,
-    t: Score,
+    t: &mut Score,
     bytes: &[u8],
     v: u32,
     codes: &[u32],
     ends: &[u64],
-) -> io::Result<Score> {
-    written(rt, file(rt, t, bytes, v, codes, ends)?, codes, ends, bytes)
+) -> io::Result<()> {
+    file(rt, t, bytes, v, codes, ends)?;
+    written(rt, t, codes, ends, bytes)
 }
 
 fn unwritten(
     rt: &impl Print,
-    t: Score,
+    t: &mut Score,
     codes: &[u32],
     ends: &[u64],
     room: usize,
     answer: usize,
-) -> io::Result<Score>
+) -> io::Result<()>
     requires { room ≤ 128 }
 {
-    told(rt, t, puts(codes, ends, room, answer, b""))
+    t.told(rt, puts(codes, ends, room, answer, b""))
 }
 
 // The example of the SAT competitions, with its comments, and what is written for its clauses.
-fn competition(rt: &impl Print, t: Score) -> io::Result<Score> {
+fn competition(rt: &impl Print, t: &mut Score) -> io::Result<()> {
     let codes = [0u32, 9, 6, 1, 8, 4, 6, 5, 7];
     let ends = [3u64, 7, 9];
-    let t = file(
+    file(
         rt,
         t,
         b"c\nc start with comments\nc\nc \np cnf 5 3\n1 -5 4 0\n-1 5 3 4 0\n-3 -4 0\n",
@@ -211,8 +170,8 @@ fn competition(rt: &impl Print, t: Score) -> io::Result<Score> {
 }
 
 // The example of the DIMACS challenge breaks its clauses otherwise: it is wrong where the second stands, and right a clause a line.
-fn challenge(rt: &impl Print, t: Score) -> io::Result<Score> {
-    let t = wrong(
+fn challenge(rt: &impl Print, t: &mut Score) -> io::Result<()> {
+    wrong(
         rt,
         t,
         b"c Example CNF format file\nc\np cnf 4 3\n1 3 -4 0\n4 0 2\n-3\n",
@@ -231,7 +190,7 @@ fn challenge(rt: &impl Print, t: Score) -> io::Result<Score> {
 }
 
 // DRAT-trim's example of four variables: the blanks that align it are wrong.
-fn aligned(rt: &impl Print, t: Score) -> io::Result<Score> {
+fn aligned(rt: &impl Print, t: &mut Score) -> io::Result<()> {
     wrong(
         rt,
         t,
@@ -241,7 +200,7 @@ fn aligned(rt: &impl Print, t: Score) -> io::Result<Score> {
 }
 
 // Without them it is right.
-fn four_variables(rt: &impl Print, t: Score) -> io::Result<Score> {
+fn four_variables(rt: &impl Print, t: &mut Score) -> io::Result<()> {
     let codes = [
         0u32, 2, 5, 1, 3, 4, 2, 4, 7, 3, 5, 6, 1, 5, 7, 0, 4, 6, 1, 2, 6, 0, 3, 7,
     ];
@@ -257,8 +216,8 @@ fn four_variables(rt: &impl Print, t: Score) -> io::Result<Score> {
 }
 
 // The files of SATLIB have blanks too many in the header, and an end of their own.
-fn satlib(rt: &impl Print, t: Score) -> io::Result<Score> {
-    let t = wrong(
+fn satlib(rt: &impl Print, t: &mut Score) -> io::Result<()> {
+    wrong(
         rt,
         t,
         b"c This Formular is generated by mcnf\nc\np cnf 20  91 \n 4 -18 19 0\n",
@@ -268,8 +227,8 @@ fn satlib(rt: &impl Print, t: Score) -> io::Result<Score> {
 }
 
 // Two pigeons and one hole; a full set of two variables.
-fn small(rt: &impl Print, t: Score) -> io::Result<Score> {
-    let t = both(
+fn small(rt: &impl Print, t: &mut Score) -> io::Result<()> {
+    both(
         rt,
         t,
         b"p cnf 2 3\n1 0\n2 0\n-1 -2 0\n",
@@ -288,13 +247,13 @@ fn small(rt: &impl Print, t: Score) -> io::Result<Score> {
 }
 
 // No clauses, empty ones, V of a negative literal and of a repeated one, ten and a hundred as V, the largest.
-fn plain(rt: &impl Print, t: Score) -> io::Result<Score> {
+fn plain(rt: &impl Print, t: &mut Score) -> io::Result<()> {
     let none = [0u32; 0];
     let nowhere = [0u64; 0];
-    let t = both(rt, t, b"p cnf 0 0\n", 0, &none, &nowhere)?;
-    let t = both(rt, t, b"p cnf 0 1\n0\n", 0, &none, &[0u64])?;
-    let t = both(rt, t, b"p cnf 0 3\n0\n0\n0\n", 0, &none, &[0u64, 0, 0])?;
-    let t = both(
+    both(rt, t, b"p cnf 0 0\n", 0, &none, &nowhere)?;
+    both(rt, t, b"p cnf 0 1\n0\n", 0, &none, &[0u64])?;
+    both(rt, t, b"p cnf 0 3\n0\n0\n0\n", 0, &none, &[0u64, 0, 0])?;
+    both(
         rt,
         t,
         b"p cnf 2 3\n1 0\n0\n-2 0\n",
@@ -302,10 +261,10 @@ fn plain(rt: &impl Print, t: Score) -> io::Result<Score> {
         &[0u32, 3],
         &[1u64, 1, 2],
     )?;
-    let t = both(rt, t, b"p cnf 3 1\n-3 0\n", 3, &[5u32], &[1u64])?;
-    let t = both(rt, t, b"p cnf 5 1\n5 5 -5 0\n", 5, &[8u32, 8, 9], &[3u64])?;
-    let t = both(rt, t, b"p cnf 10 1\n-10 9 0\n", 10, &[19u32, 16], &[2u64])?;
-    let t = both(
+    both(rt, t, b"p cnf 3 1\n-3 0\n", 3, &[5u32], &[1u64])?;
+    both(rt, t, b"p cnf 5 1\n5 5 -5 0\n", 5, &[8u32, 8, 9], &[3u64])?;
+    both(rt, t, b"p cnf 10 1\n-10 9 0\n", 10, &[19u32, 16], &[2u64])?;
+    both(
         rt,
         t,
         b"p cnf 100 1\n99 100 0\n",
@@ -324,13 +283,13 @@ fn plain(rt: &impl Print, t: Score) -> io::Result<Score> {
 }
 
 // Read, though not written here: a larger V, lines that start with `c` before the header.
-fn comments(rt: &impl Print, t: Score) -> io::Result<Score> {
+fn comments(rt: &impl Print, t: &mut Score) -> io::Result<()> {
     let none = [0u32; 0];
     let nowhere = [0u64; 0];
-    let t = file(rt, t, b"p cnf 4096 0\n", 4096, &none, &nowhere)?;
-    let t = file(rt, t, b"p cnf 9 1\n-2 0\n", 9, &[3u32], &[1u64])?;
-    let t = file(rt, t, b"c\np cnf 0 0\n", 0, &none, &nowhere)?;
-    let t = file(
+    file(rt, t, b"p cnf 4096 0\n", 4096, &none, &nowhere)?;
+    file(rt, t, b"p cnf 9 1\n-2 0\n", 9, &[3u32], &[1u64])?;
+    file(rt, t, b"c\np cnf 0 0\n", 0, &none, &nowhere)?;
+    file(
         rt,
         t,
         b"cnf 1\ncp cnf 9 9\np cnf 1 1\n1 0\n",
@@ -338,7 +297,7 @@ fn comments(rt: &impl Print, t: Score) -> io::Result<Score> {
         &[0u32],
         &[1u64],
     )?;
-    let t = file(
+    file(
         rt,
         t,
         b"c \xff\x00\r\nc\tx\np cnf 0 1\n0\n",
@@ -346,153 +305,150 @@ fn comments(rt: &impl Print, t: Score) -> io::Result<Score> {
         &none,
         &[0u64],
     )?;
-    let t = wrong(rt, t, b"p cnf 1 1\nc\n1 0\n", 10)?;
-    let t = wrong(rt, t, b"p cnf 1 1\n1 0\nc\n", 14)?;
-    let t = wrong(rt, t, b"c\n\np cnf 0 0\n", 2)?;
-    let t = wrong(rt, t, b"c\n c\np cnf 0 0\n", 2)?;
+    wrong(rt, t, b"p cnf 1 1\nc\n1 0\n", 10)?;
+    wrong(rt, t, b"p cnf 1 1\n1 0\nc\n", 14)?;
+    wrong(rt, t, b"c\n\np cnf 0 0\n", 2)?;
+    wrong(rt, t, b"c\n c\np cnf 0 0\n", 2)?;
     wrong(rt, t, b"C\np cnf 0 0\n", 0)
 }
 
 // A header of another form, or with a number that is none or too large.
-fn headers(rt: &impl Print, t: Score) -> io::Result<Score> {
-    let t = wrong(rt, t, b"p cnf 4097 0\n", 0)?;
-    let t = wrong(rt, t, b"c\np cnf 5000 0\n", 2)?;
-    let t = wrong(rt, t, b"p cnf 12345678901234567890123 0\n", 0)?;
-    let t = wrong(rt, t, b"p cnf 01 0\n", 0)?;
-    let t = wrong(rt, t, b"p cnf 00 0\n", 0)?;
-    let t = wrong(rt, t, b"p cnf 0 00\n", 0)?;
-    let t = wrong(rt, t, b"p cnf 1 01\n1 0\n", 0)?;
-    let t = wrong(rt, t, b"p cnf -1 0\n", 0)?;
-    let t = wrong(rt, t, b"p cnf 1 -0\n", 0)?;
-    let t = wrong(rt, t, b"p cnf +1 0\n", 0)?;
-    let t = wrong(rt, t, b"p cnf 1\n", 0)?;
-    let t = wrong(rt, t, b"p cnf 1 \n", 0)?;
-    let t = wrong(rt, t, b"p cnf  0\n", 0)?;
+fn headers(rt: &impl Print, t: &mut Score) -> io::Result<()> {
+    wrong(rt, t, b"p cnf 4097 0\n", 0)?;
+    wrong(rt, t, b"c\np cnf 5000 0\n", 2)?;
+    wrong(rt, t, b"p cnf 12345678901234567890123 0\n", 0)?;
+    wrong(rt, t, b"p cnf 01 0\n", 0)?;
+    wrong(rt, t, b"p cnf 00 0\n", 0)?;
+    wrong(rt, t, b"p cnf 0 00\n", 0)?;
+    wrong(rt, t, b"p cnf 1 01\n1 0\n", 0)?;
+    wrong(rt, t, b"p cnf -1 0\n", 0)?;
+    wrong(rt, t, b"p cnf 1 -0\n", 0)?;
+    wrong(rt, t, b"p cnf +1 0\n", 0)?;
+    wrong(rt, t, b"p cnf 1\n", 0)?;
+    wrong(rt, t, b"p cnf 1 \n", 0)?;
+    wrong(rt, t, b"p cnf  0\n", 0)?;
     wrong(rt, t, b"p cnf\n", 0)
 }
 
-fn openings(rt: &impl Print, t: Score) -> io::Result<Score> {
-    let t = wrong(rt, t, b"p cnf 1  0\n", 0)?;
-    let t = wrong(rt, t, b"p cnf 1 0 \n", 0)?;
-    let t = wrong(rt, t, b"p cnf 1 0\r\n", 0)?;
-    let t = wrong(rt, t, b"p cnf 1 0", 0)?;
-    let t = wrong(rt, t, b"p cnf 1 0 0\n", 0)?;
-    let t = wrong(rt, t, b"p  cnf 1 0\n", 0)?;
-    let t = wrong(rt, t, b"p\tcnf 1 0\n", 0)?;
-    let t = wrong(rt, t, b" p cnf 1 0\n", 0)?;
-    let t = wrong(rt, t, b"P CNF 1 0\n", 0)?;
-    let t = wrong(rt, t, b"p dnf 1 0\n", 0)?;
-    let t = wrong(rt, t, b"p cnf1 0\n", 0)?;
-    let t = wrong(rt, t, b"p", 0)?;
+fn openings(rt: &impl Print, t: &mut Score) -> io::Result<()> {
+    wrong(rt, t, b"p cnf 1  0\n", 0)?;
+    wrong(rt, t, b"p cnf 1 0 \n", 0)?;
+    wrong(rt, t, b"p cnf 1 0\r\n", 0)?;
+    wrong(rt, t, b"p cnf 1 0", 0)?;
+    wrong(rt, t, b"p cnf 1 0 0\n", 0)?;
+    wrong(rt, t, b"p  cnf 1 0\n", 0)?;
+    wrong(rt, t, b"p\tcnf 1 0\n", 0)?;
+    wrong(rt, t, b" p cnf 1 0\n", 0)?;
+    wrong(rt, t, b"P CNF 1 0\n", 0)?;
+    wrong(rt, t, b"p dnf 1 0\n", 0)?;
+    wrong(rt, t, b"p cnf1 0\n", 0)?;
+    wrong(rt, t, b"p", 0)?;
     wrong(rt, t, b"1 0\n", 0)
 }
 
 // A line of another form, after one that is right.
-fn numbers(rt: &impl Print, t: Score) -> io::Result<Score> {
-    let t = wrong(rt, t, b"p cnf 2 2\n1 0\n3 0\n", 14)?;
-    let t = wrong(rt, t, b"p cnf 2 2\n1 0\n-3 0\n", 14)?;
-    let t = wrong(rt, t, b"p cnf 0 1\n1 0\n", 10)?;
-    let t = wrong(rt, t, b"p cnf 4096 2\n1 0\n4097 0\n", 17)?;
-    let t = wrong(rt, t, b"p cnf 4096 1\n4294967297 0\n", 13)?;
-    let t = wrong(rt, t, b"p cnf 2 2\n1 0\n01 0\n", 14)?;
-    let t = wrong(rt, t, b"p cnf 2 2\n1 0\n-0 0\n", 14)?;
-    let t = wrong(rt, t, b"p cnf 2 2\n1 0\n+1 0\n", 14)?;
-    let t = wrong(rt, t, b"p cnf 2 2\n1 0\n--1 0\n", 14)?;
-    let t = wrong(rt, t, b"p cnf 2 2\n1 0\n1 - 0\n", 14)?;
-    let t = wrong(rt, t, b"p cnf 2 2\n1 0\n1 -0\n", 14)?;
+fn numbers(rt: &impl Print, t: &mut Score) -> io::Result<()> {
+    wrong(rt, t, b"p cnf 2 2\n1 0\n3 0\n", 14)?;
+    wrong(rt, t, b"p cnf 2 2\n1 0\n-3 0\n", 14)?;
+    wrong(rt, t, b"p cnf 0 1\n1 0\n", 10)?;
+    wrong(rt, t, b"p cnf 4096 2\n1 0\n4097 0\n", 17)?;
+    wrong(rt, t, b"p cnf 4096 1\n4294967297 0\n", 13)?;
+    wrong(rt, t, b"p cnf 2 2\n1 0\n01 0\n", 14)?;
+    wrong(rt, t, b"p cnf 2 2\n1 0\n-0 0\n", 14)?;
+    wrong(rt, t, b"p cnf 2 2\n1 0\n+1 0\n", 14)?;
+    wrong(rt, t, b"p cnf 2 2\n1 0\n--1 0\n", 14)?;
+    wrong(rt, t, b"p cnf 2 2\n1 0\n1 - 0\n", 14)?;
+    wrong(rt, t, b"p cnf 2 2\n1 0\n1 -0\n", 14)?;
     wrong(rt, t, b"p cnf 2 2\n1 0\n1 00\n", 14)
 }
 
-fn lines(rt: &impl Print, t: Score) -> io::Result<Score> {
-    let t = wrong(rt, t, b"p cnf 2 2\n1 0\n1  0\n", 14)?;
-    let t = wrong(rt, t, b"p cnf 2 2\n1 0\n 1 0\n", 14)?;
-    let t = wrong(rt, t, b"p cnf 2 2\n1 0\n1 0 \n", 14)?;
-    let t = wrong(rt, t, b"p cnf 2 2\n1 0\n1\t0\n", 14)?;
-    let t = wrong(rt, t, b"p cnf 2 2\n1 0\n1 0\r\n", 14)?;
-    let t = wrong(rt, t, b"p cnf 2 2\n1 0\n1 0", 14)?;
-    let t = wrong(rt, t, b"p cnf 2 2\n1 0\n1", 14)?;
-    let t = wrong(rt, t, b"p cnf 2 2\n1 0\n-", 14)?;
-    let t = wrong(rt, t, b"p cnf 2 2\n1 0\n1\n", 14)?;
-    let t = wrong(rt, t, b"p cnf 2 2\n1 0\n\n2 0\n", 14)?;
-    let t = wrong(rt, t, b"p cnf 2 2\n1 0\n2 0\n\n", 18)?;
-    let t = wrong(rt, t, b"p cnf 2 2\n1 0 2 0\n", 10)?;
-    let t = wrong(rt, t, b"p cnf 2 1\n1\n2 0\n", 10)?;
-    let t = wrong(rt, t, b"p cnf 2 2\n1 0\nd 1 0\n", 14)?;
+fn lines(rt: &impl Print, t: &mut Score) -> io::Result<()> {
+    wrong(rt, t, b"p cnf 2 2\n1 0\n1  0\n", 14)?;
+    wrong(rt, t, b"p cnf 2 2\n1 0\n 1 0\n", 14)?;
+    wrong(rt, t, b"p cnf 2 2\n1 0\n1 0 \n", 14)?;
+    wrong(rt, t, b"p cnf 2 2\n1 0\n1\t0\n", 14)?;
+    wrong(rt, t, b"p cnf 2 2\n1 0\n1 0\r\n", 14)?;
+    wrong(rt, t, b"p cnf 2 2\n1 0\n1 0", 14)?;
+    wrong(rt, t, b"p cnf 2 2\n1 0\n1", 14)?;
+    wrong(rt, t, b"p cnf 2 2\n1 0\n-", 14)?;
+    wrong(rt, t, b"p cnf 2 2\n1 0\n1\n", 14)?;
+    wrong(rt, t, b"p cnf 2 2\n1 0\n\n2 0\n", 14)?;
+    wrong(rt, t, b"p cnf 2 2\n1 0\n2 0\n\n", 18)?;
+    wrong(rt, t, b"p cnf 2 2\n1 0 2 0\n", 10)?;
+    wrong(rt, t, b"p cnf 2 1\n1\n2 0\n", 10)?;
+    wrong(rt, t, b"p cnf 2 2\n1 0\nd 1 0\n", 14)?;
     wrong(rt, t, b"p cnf 0 0\np cnf 0 0\n", 10)
 }
 
 // A wrong count is at the header, and only where every line is right; a file without a header is wrong at its end.
-fn counts(rt: &impl Print, t: Score) -> io::Result<Score> {
-    let t = wrong(rt, t, b"c\np cnf 2 1\n1 0\n2 0\n", 2)?;
-    let t = wrong(rt, t, b"c\np cnf 2 3\n1 0\n2 0\n", 2)?;
-    let t = wrong(rt, t, b"c\np cnf 2 0\n1 0\n", 2)?;
-    let t = wrong(rt, t, b"p cnf 2 1\n", 0)?;
-    let t = wrong(
+fn counts(rt: &impl Print, t: &mut Score) -> io::Result<()> {
+    wrong(rt, t, b"c\np cnf 2 1\n1 0\n2 0\n", 2)?;
+    wrong(rt, t, b"c\np cnf 2 3\n1 0\n2 0\n", 2)?;
+    wrong(rt, t, b"c\np cnf 2 0\n1 0\n", 2)?;
+    wrong(rt, t, b"p cnf 2 1\n", 0)?;
+    wrong(
         rt,
         t,
         b"p cnf 2 1000000000000000000000000000000000000001\n1 0\n",
         0,
     )?;
-    let t = wrong(rt, t, b"p cnf 2 18446744073709551617\n1 0\n", 0)?;
-    let t = wrong(rt, t, b"p cnf 2 4294967297\n1 0\n", 0)?;
-    let t = wrong(
+    wrong(rt, t, b"p cnf 2 18446744073709551617\n1 0\n", 0)?;
+    wrong(rt, t, b"p cnf 2 4294967297\n1 0\n", 0)?;
+    wrong(
         rt,
         t,
         b"p cnf 2 1000000000000000000000000000000000000001\n1 0\n3 0\n",
         53,
     )?;
-    let t = wrong(rt, t, b"p cnf 2 1\n1 0\n2 0\n3 0\n", 18)?;
-    let t = wrong(rt, t, b"", 0)?;
-    let t = wrong(rt, t, b"c", 1)?;
-    let t = wrong(rt, t, b"c\n", 2)?;
-    let t = wrong(rt, t, b"c\nc x", 5)?;
+    wrong(rt, t, b"p cnf 2 1\n1 0\n2 0\n3 0\n", 18)?;
+    wrong(rt, t, b"", 0)?;
+    wrong(rt, t, b"c", 1)?;
+    wrong(rt, t, b"c\n", 2)?;
+    wrong(rt, t, b"c\nc x", 5)?;
     wrong(rt, t, b"c\nc x\n", 6)
 }
 
 // 2 where a slice is too short, never before 17; slices that just hold the file are enough.
-fn shorts(rt: &impl Print, t: Score) -> io::Result<Score> {
+fn shorts(rt: &impl Print, t: &mut Score) -> io::Result<()> {
     let none = [0u32; 0];
     let nowhere = [0u64; 0];
     let two = b"p cnf 3 2\n1 -2 0\n3 0\n";
     let codes = [0u32, 3, 4];
     let ends = [2u64, 3];
-    let answer = CnfRead::Filled(3, 3, 2);
-    let t = told(rt, t, gives(two, 3, 2, answer, &codes, &ends))?;
-    let t = told(rt, t, gives(two, 2, 2, CnfRead::Short, &none, &nowhere))?;
-    let t = told(rt, t, gives(two, 3, 1, CnfRead::Short, &none, &nowhere))?;
-    let t = told(rt, t, gives(two, 0, 0, CnfRead::Short, &none, &nowhere))?;
+    let answer = filled(3, 3, 2);
+    t.told(rt, gives(two, 3, 2, answer, &codes, &ends))?;
+    t.told(rt, gives(two, 2, 2, Err(CnfError::Room), &none, &nowhere))?;
+    t.told(rt, gives(two, 3, 1, Err(CnfError::Room), &none, &nowhere))?;
+    t.told(rt, gives(two, 0, 0, Err(CnfError::Room), &none, &nowhere))?;
     let bad = b"p cnf 3 2\n1 -2 0\n4 0\n";
-    let t = told(rt, t, gives(bad, 0, 0, CnfRead::Wrong(17), &none, &nowhere))?;
-    let empty = CnfRead::Filled(9, 0, 0);
-    told(rt, t, gives(b"p cnf 9 0\n", 0, 0, empty, &none, &nowhere))
+    t.told(rt, gives(bad, 0, 0, Err(CnfError::WrongLine(17)), &none, &nowhere))?;
+    let empty = filled(9, 0, 0);
+    t.told(rt, gives(b"p cnf 9 0\n", 0, 0, empty, &none, &nowhere))
 }
 
 // 3 for an index of 4,096 or more and for ends that fall, pass the last literal or leave it out; then 2. Nothing is written.
-fn refused(rt: &impl Print, t: Score) -> io::Result<Score> {
+fn refused(rt: &impl Print, t: &mut Score) -> io::Result<()> {
     let none = [0u32; 0];
     let nowhere = [0u64; 0];
     let three = [0u32, 3, 4];
-    let t = unwritten(rt, t, &[8192u32], &[1u64], 128, 3)?;
-    let t = unwritten(rt, t, &[0u32, 4294967295], &[2u64], 128, 3)?;
-    let t = unwritten(rt, t, &three, &[2u64, 1, 3], 128, 3)?;
-    let t = unwritten(rt, t, &three, &[2u64, 4], 128, 3)?;
-    let t = unwritten(rt, t, &three, &[4u64, 3], 128, 3)?;
-    let t = unwritten(rt, t, &three, &[1u64, 2], 128, 3)?;
-    let t = unwritten(rt, t, &three, &[18446744073709551615u64], 128, 3)?;
-    let t = unwritten(rt, t, &three, &nowhere, 128, 3)?;
-    let t = unwritten(rt, t, &none, &[1u64], 128, 3)?;
-    let t = unwritten(rt, t, &three, &[2u64, 3], 20, 2)?;
-    let t = unwritten(rt, t, &none, &nowhere, 9, 2)?;
-    let t = unwritten(rt, t, &none, &nowhere, 0, 2)?;
+    unwritten(rt, t, &[8192u32], &[1u64], 128, 3)?;
+    unwritten(rt, t, &[0u32, 4294967295], &[2u64], 128, 3)?;
+    unwritten(rt, t, &three, &[2u64, 1, 3], 128, 3)?;
+    unwritten(rt, t, &three, &[2u64, 4], 128, 3)?;
+    unwritten(rt, t, &three, &[4u64, 3], 128, 3)?;
+    unwritten(rt, t, &three, &[1u64, 2], 128, 3)?;
+    unwritten(rt, t, &three, &[18446744073709551615u64], 128, 3)?;
+    unwritten(rt, t, &three, &nowhere, 128, 3)?;
+    unwritten(rt, t, &none, &[1u64], 128, 3)?;
+    unwritten(rt, t, &three, &[2u64, 3], 20, 2)?;
+    unwritten(rt, t, &none, &nowhere, 9, 2)?;
+    unwritten(rt, t, &none, &nowhere, 0, 2)?;
     unwritten(rt, t, &[8192u32], &[1u64], 0, 3)
 }
 
 // The first e bytes read.
-fn first(out: &[u8], e: usize, answer: CnfRead, codes: &[u32], ends: &[u64]) -> bool {
-    if out.len() < e {
-        return false;
-    }
-    gives(&out[..e], 32, 32, answer, codes, ends)
+fn first(out: &[u8], e: usize, answer: Result<CnfSize, CnfError>, codes: &[u32], ends: &[u64]) -> bool {
+    out.get(..e).is_some_and(|part| gives(part, 32, 32, answer, codes, ends))
 }
 
 // A clause of one literal, written and read back.
@@ -505,16 +461,15 @@ fn code(c: u32) -> bool {
         return false;
     };
     let v = c / 2 + 1;
-    first(&out, e, CnfRead::Filled(v, 1, 1), &lit, &end)
+    first(&out, e, filled(v, 1, 1), &lit, &end)
 }
 
 // Every literal code.
-fn codes(rt: &impl Print, t: Score) -> io::Result<Score> {
-    let mut s = t;
+fn codes(rt: &impl Print, t: &mut Score) -> io::Result<()> {
     for c in 0..8192 {
-        s = told(rt, s, code(c))?;
+        t.told(rt, code(c))?;
     }
-    Ok(s)
+    Ok(())
 }
 
 // The first e bytes: whether they are a file of n empty clauses.
@@ -525,7 +480,7 @@ fn empties_in(out: &[u8], e: usize, n: usize) -> bool {
     let mut words = [7u32; 1];
     let mut places = [7u64; 1000];
     let r = read_cnf(&out[..e], &mut words, &mut places);
-    same_answer(r, CnfRead::Filled(0, 0, n)) & (words[0] == 7)
+    r == filled(0, 0, n) && words[0] == 7
 }
 
 // So many empty clauses, written and read back.
@@ -540,57 +495,63 @@ fn empty(zeros: &[u64]) -> bool {
 }
 
 // A count of each number of digits up to four.
-fn empties(rt: &impl Print, t: Score) -> io::Result<Score> {
+fn empties(rt: &impl Print, t: &mut Score) -> io::Result<()> {
     let zeros = [0u64; 1000];
-    let t = told(rt, t, empty(&zeros[..0]))?;
-    let t = told(rt, t, empty(&zeros[..9]))?;
-    let t = told(rt, t, empty(&zeros[..10]))?;
-    let t = told(rt, t, empty(&zeros[..99]))?;
-    let t = told(rt, t, empty(&zeros[..100]))?;
-    let t = told(rt, t, empty(&zeros[..101]))?;
-    let t = told(rt, t, empty(&zeros[..999]))?;
-    told(rt, t, empty(&zeros))
-}
-
-fn none() -> Score {
-    Score { run: 0, wrong: 0 }
+    t.told(rt, empty(&zeros[..0]))?;
+    t.told(rt, empty(&zeros[..9]))?;
+    t.told(rt, empty(&zeros[..10]))?;
+    t.told(rt, empty(&zeros[..99]))?;
+    t.told(rt, empty(&zeros[..100]))?;
+    t.told(rt, empty(&zeros[..101]))?;
+    t.told(rt, empty(&zeros[..999]))?;
+    t.told(rt, empty(&zeros))
 }
 
 fn published(rt: &impl Print) -> io::Result<()> {
-    let t = competition(rt, none())?;
-    let t = challenge(rt, t)?;
-    let t = aligned(rt, t)?;
-    let t = four_variables(rt, t)?;
-    let t = satlib(rt, t)?;
-    summary(rt, "published", t)
+    let mut t = Score::none();
+    competition(rt, &mut t)?;
+    challenge(rt, &mut t)?;
+    aligned(rt, &mut t)?;
+    four_variables(rt, &mut t)?;
+    satlib(rt, &mut t)?;
+    t.summary(rt, "published")
 }
 
 fn forms(rt: &impl Print) -> io::Result<()> {
-    let t = small(rt, none())?;
-    let t = plain(rt, t)?;
-    summary(rt, "both ways", t)?;
-    let t = comments(rt, none())?;
-    summary(rt, "comments", t)?;
-    let t = headers(rt, none())?;
-    let t = openings(rt, t)?;
-    summary(rt, "headers", t)?;
-    let t = numbers(rt, none())?;
-    let t = lines(rt, t)?;
-    summary(rt, "lines", t)?;
-    let t = counts(rt, none())?;
-    summary(rt, "counts", t)
+    let mut t = Score::none();
+    small(rt, &mut t)?;
+    plain(rt, &mut t)?;
+    t.summary(rt, "both ways")?;
+    let mut t = Score::none();
+    comments(rt, &mut t)?;
+    t.summary(rt, "comments")?;
+    let mut t = Score::none();
+    headers(rt, &mut t)?;
+    openings(rt, &mut t)?;
+    t.summary(rt, "headers")?;
+    let mut t = Score::none();
+    numbers(rt, &mut t)?;
+    lines(rt, &mut t)?;
+    t.summary(rt, "lines")?;
+    let mut t = Score::none();
+    counts(rt, &mut t)?;
+    t.summary(rt, "counts")
 }
 
 // A write that fails ends the run.
 fn main(rt: HostRuntime) -> io::Result<()> {
     published(&rt)?;
     forms(&rt)?;
-    let t = shorts(&rt, none())?;
-    summary(&rt, "short", t)?;
-    let t = refused(&rt, none())?;
-    summary(&rt, "unwritten", t)?;
-    let t = codes(&rt, none())?;
-    summary(&rt, "every code", t)?;
-    let t = empties(&rt, none())?;
-    summary(&rt, "empty clauses", t)
+    let mut t = Score::none();
+    shorts(&rt, &mut t)?;
+    t.summary(&rt, "short")?;
+    let mut t = Score::none();
+    refused(&rt, &mut t)?;
+    t.summary(&rt, "unwritten")?;
+    let mut t = Score::none();
+    codes(&rt, &mut t)?;
+    t.summary(&rt, "every code")?;
+    let mut t = Score::none();
+    empties(&rt, &mut t)?;
+    t.summary(&rt, "empty clauses")
 }

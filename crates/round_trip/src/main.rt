@@ -2,18 +2,10 @@
 // separators too. Each line says for how many codes the reader gave back that literal, its end and its kind, and nothing more.
 #![tactic(auto)]
 
-ghost use Rattle.std.specs.Prelude.{◌≤◌, ◌<◌};
-
-use drat::{Format, Kind, Read};
+use drat::{Format, Kind, Size};
 use std::io;
 
-fn one(b: bool) -> u32
-    ensures { result ≤ 1 }
-{
-    if b { 1 } else { 0 }
-}
-
-fn line(rt: &impl Print, name: &str, agree: u32, of: u32) -> io::Result<()> {
+fn line(rt: &impl Print, name: &str, agree: usize, of: usize) -> io::Result<()> {
     println!(rt; "{name}: {agree} of {of}")
 }
 
@@ -30,28 +22,21 @@ fn reads(f: Format, k: Kind, c: u32, bytes: &[u8]) -> bool {
     let mut ends = [7u64; 2];
     let mut kinds = [7u8; 2];
     let r = drat_read::read_proof(f, bytes, &mut codes, &mut ends, &mut kinds);
-    let Read::Filled(n, m) = r else {
-        return false;
-    };
-    let filled = (codes[0] == c) & (ends[0] == 1) & (kinds[0] == kind_number(k));
-    let kept = (codes[1] == 7) & (ends[1] == 7) & (kinds[1] == 7);
-    (n == 1) & (m == 1) & filled & kept
+    let whole = r == Ok(Size { lits: 1, steps: 1 });
+    whole && codes == [c, 7] && ends == [1, 7] && kinds == [kind_number(k), 7]
 }
 
 // The same of the first e bytes.
 fn first_reads(f: Format, k: Kind, c: u32, out: &[u8], e: usize) -> bool {
-    if out.len() < e {
-        return false;
-    }
-    reads(f, k, c, &out[..e])
+    out.get(..e).is_some_and(|part| reads(f, k, c, part))
 }
 
 // A byte at a place of the copy, if there is room; the place after it.
 fn put(to: &mut [u8], at: usize, b: u8) -> usize {
-    if to.len() <= at {
+    let Some(byte) = to.get_mut(at) else {
         return at;
-    }
-    to[at] = b;
+    };
+    *byte = b;
     at + 1
 }
 
@@ -114,12 +99,8 @@ fn code(f: Format, k: Kind, c: u32, broken: bool) -> bool {
     first_reads(f, k, c, &out, e)
 }
 
-fn codes(f: Format, k: Kind, broken: bool) -> u32 {
-    let mut n: u32 = 0;
-    for c in 0..8192 {
-        n += one(code(f, k, c, broken));
-    }
-    n
+fn codes(f: Format, k: Kind, broken: bool) -> usize {
+    (0..8192).filter(|c| code(f, k, *c, broken)).count()
 }
 
 fn both(rt: &impl Print, adds: &str, deletes: &str, f: Format, broken: bool) -> io::Result<()> {
