@@ -8,7 +8,7 @@ ghost use Rattle.numbers.specs.Lines.{simplify_at, binary_at};
 
 use line_answers::simplified::{HzSimplified, reduced_out};
 use line_answers::thinned::{HzThinned, thinned_out};
-use numbers::{FormatNumber, format_in};
+use numbers::format_in;
 use scope::Counts;
 
 // Simplify (1, 3, 8, 12, 2): `simplify_of`.
@@ -34,7 +34,7 @@ pub fn hz_simplify(
     ensures bytes { Fills (change bytes.old bytes.new) 0
         (simplify_at format (given c gu.now ug.now sg.now gs.now assignment.now records.now) lits.now redundant (length out.old) (length bytes.old)).bytes }
 {
-    let FormatNumber::Known(f) = format_in(format) else {
+    let Some(f) = format_in(format) else {
         return HzSimplified {
             refusal: 0xffffffff,
             made: 0,
@@ -70,7 +70,7 @@ pub fn hz_simplify_binary(
     ensures bytes { Fills (change bytes.old bytes.new) 0
         (binary_at format (given c gu.now ug.now sg.now gs.now assignment.now records.now) lists.now (length out.old) (length bytes.old)).bytes }
 {
-    let FormatNumber::Known(f) = format_in(format) else {
+    let Some(f) = format_in(format) else {
         return HzThinned {
             refusal: 0xffffffff,
             words: 0,

@@ -9,7 +9,7 @@ use line_answers::first::{HzFirst, first_out};
 use line_answers::reading::{HzReading, read_out};
 use line_answers::written::HzWritten;
 use line_answers::wrote::wrote_out;
-use numbers::{FormatNumber, KindNumber, format_in, kind_in};
+use numbers::{format_in, kind_in};
 
 // The clause buf[a..b] as one step from out[at] on (3, 2): `write_of` of the writer.
 pub fn hz_write_clause(
@@ -26,13 +26,13 @@ pub fn hz_write_clause(
     ensures out { let w = write_clause_at format kind buf.now a b (length out.old) at in
         Fills (change out.old out.new) at w.bytes }
 {
-    let FormatNumber::Known(f) = format_in(format) else {
+    let Some(f) = format_in(format) else {
         return HzWritten {
             refusal: 0xffffffff,
             bytes: 0,
         };
     };
-    let KindNumber::Known(k) = kind_in(kind) else {
+    let Some(k) = kind_in(kind) else {
         return HzWritten {
             refusal: 0xffffffff,
             bytes: 0,
@@ -55,7 +55,7 @@ pub fn hz_write_proof(
     ensures out { let w = write_proof_at format codes.now ends.now kinds.now (length out.old) in
         Fills (change out.old out.new) 0 w.bytes }
 {
-    let FormatNumber::Known(f) = format_in(format) else {
+    let Some(f) = format_in(format) else {
         return HzWritten {
             refusal: 0xffffffff,
             bytes: 0,
@@ -82,7 +82,7 @@ pub fn hz_read(
     ensures kinds { let w = read_at format bytes.now (length codes.old) (length ends.old) (length kinds.old) in
         Fills (change kinds.old kinds.new) 0 w.kinds }
 {
-    let FormatNumber::Known(f) = format_in(format) else {
+    let Some(f) = format_in(format) else {
         return HzReading {
             refusal: 0xffffffff,
             place: 0,
@@ -101,7 +101,7 @@ pub fn hz_first_step(format: u32, bytes: &[u8]) -> HzFirst
     ensures bytes { let w = first_at format bytes.now in
         part result.place (result.place + result.length) bytes.now ≡ part_of w }
 {
-    let FormatNumber::Known(f) = format_in(format) else {
+    let Some(f) = format_in(format) else {
         return HzFirst {
             refusal: 0xffffffff,
             place: 0,

@@ -4,6 +4,7 @@ ghost use Rattle.scope.specs.Contract.{given};
 ghost use Rattle.scope.specs.Sound.{soundb};
 
 use scope::Counts;
+use table::Lists;
 
 // Whether the table is sound: `soundb`.
 pub fn hz_is_sound(
@@ -17,5 +18,14 @@ pub fn hz_is_sound(
 ) -> bool
     ensures { result ≡ soundb (given c gu.now ug.now sg.now gs.now assignment.now records.now) }
 {
-    table::is_sound(c, gu, ug, sg, gs, assignment, records)
+    let t = Lists {
+        counts: c,
+        gu,
+        ug,
+        sg,
+        gs,
+        assignment,
+        records,
+    };
+    t.is_sound()
 }

@@ -7,7 +7,7 @@ ghost use Rattle.numbers.specs.Lines.{step_given, words_at, rename_at, write_at}
 
 use line_answers::renamed::{HzRenamed, renamed_out};
 use line_answers::written::{HzWritten, recorded_out};
-use numbers::{FormatNumber, HzStep, StepNumber, format_in, step_in};
+use numbers::{HzStep, format_in, step_in};
 use scope::Counts;
 
 // Rename (1, 14, 3, 8, 2): `rename_of`.
@@ -35,7 +35,7 @@ pub fn hz_rename(
     ensures hashout { Fills (change hashout.old hashout.new) 0
         (rename_at step (given c gu.now ug.now sg.now gs.now assignment.now records.now) solvervars lits.now hashes.now (length out.old) (length hashout.old)).more }
 {
-    let StepNumber::Known(s) = step_in(step) else {
+    let Some(s) = step_in(step) else {
         return HzRenamed {
             refusal: 0xffffffff,
             step: step,
@@ -70,13 +70,13 @@ pub fn hz_write(
     ensures out { Fills (change out.old out.new) 0
         (write_at format step (given c gu.now ug.now sg.now gs.now assignment.now records.now) solvervars lits.now hashes.now (length out.old)).bytes }
 {
-    let FormatNumber::Known(f) = format_in(format) else {
+    let Some(f) = format_in(format) else {
         return HzWritten {
             refusal: 0xffffffff,
             bytes: 0,
         };
     };
-    let StepNumber::Known(s) = step_in(step) else {
+    let Some(s) = step_in(step) else {
         return HzWritten {
             refusal: 0xffffffff,
             bytes: 0,

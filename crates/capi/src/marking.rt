@@ -7,7 +7,7 @@ ghost use Rattle.numbers.specs.Numbers.{for_known, mark_for};
 ghost use Rattle.numbers.specs.Surface.{plain, Gives};
 
 use answers::changed::{HzChanged, changed_out};
-use numbers::{MarkNumber, mark_in};
+use numbers::mark_in;
 use scope::{Counts, Solver};
 
 // Marks (1, 8): `mark_of`.
@@ -26,7 +26,7 @@ pub fn hz_mark(
         (quiet c (constant gu.now) (constant ug.now) (constant sg.now) (constant gs.now)
         (constant assignment.now) (change records.old records.new)) }
 {
-    let MarkNumber::Known(m) = mark_in(mark) else {
+    let Some(m) = mark_in(mark) else {
         return HzChanged {
             refusal: 0xffffffff,
             counts: c,

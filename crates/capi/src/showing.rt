@@ -10,7 +10,7 @@ ghost use Rattle.numbers.specs.Surface.{plain, optional, Gives};
 use answers::mode_set::{HzModeSet, mode_set_out};
 use answers::observed::observed_out;
 use answers::posed::HzPosed;
-use numbers::{ModeNumber, mode_in};
+use numbers::mode_in;
 use scope::{Counts, Global};
 
 // Set mode (1, 3, 6, 7, 2): `set_mode_of`.
@@ -31,7 +31,7 @@ pub fn hz_set_mode(
         (lent c (change gu.old gu.new) (change ug.old ug.new) (constant sg.now) (constant gs.now)
         (constant assignment.now) (change records.old records.new) (change notes.old notes.new)) }
 {
-    let ModeNumber::Known(m) = mode_in(mode) else {
+    let Some(m) = mode_in(mode) else {
         return HzModeSet {
             refusal: 0xffffffff,
             counts: c,

@@ -13,8 +13,7 @@ ghost use Rattle.numbers.specs.Surface.{plain, optional, Gives};
 
 use answers::found::HzFound;
 use answers::granted::{HzGranted, granted_out};
-use scope::{Counts, Global};
-use table::FoundSolver;
+use scope::{Counts, Global, Solver};
 
 // Grant (3, 6, 2): `grant_of`.
 #[unsafe(no_mangle)]
@@ -49,17 +48,17 @@ pub extern "C" fn hz_known_grant(
 }
 
 // A solver index that was found, or none.
-fn once_out(r: FoundSolver) -> HzFound
+fn once_out(r: Option<Solver>) -> HzFound
     ensures r_value { solver_found r ≡ pick result.found (result.value ∷ []) [] }
     ensures value_value { result.refusal ∷ flag result.found ∷ result.value ∷ [] ≡ optional 0 (accepted (pick result.found (result.value ∷ []) [])) }
 {
     match r {
-        FoundSolver::At(s) => HzFound {
+        Some(s) => HzFound {
             refusal: 0,
             found: true,
             value: s.0,
         },
-        FoundSolver::Nothing => HzFound {
+        None => HzFound {
             refusal: 0,
             found: false,
             value: 0,

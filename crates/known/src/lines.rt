@@ -14,9 +14,8 @@ ghost use Rattle.numbers.specs.Lines.{step_given, words_at, rename_at, write_at}
 
 use line_answers::renamed::{HzRenamed, renamed_out};
 use line_answers::written::{HzWritten, recorded_out};
-use numbers::{FormatNumber, HzStep, StepNumber, format_in, step_in};
-use scope::Counts;
-use steps::write::Recorded;
+use numbers::{HzStep, format_in, step_in};
+use scope::{Counts, Refusal};
 
 // Rename (14, 3, 8, 2): `rename_of`.
 #[unsafe(no_mangle)]
@@ -45,7 +44,7 @@ pub extern "C" fn hz_known_rename(
     ensures hashout { Fills (change hashout.old hashout.new) 0
         (rename_at step (given c gu.now ug.now sg.now gs.now assignment.now records.now) solvervars lits.now hashes.now (length out.old) (length hashout.old)).more }
 {
-    let StepNumber::Known(s) = step_in(step) else {
+    let Some(s) = step_in(step) else {
         return HzRenamed {
             refusal: 0xffffffff,
             step: step,
@@ -82,13 +81,13 @@ pub extern "C" fn hz_known_write(
     ensures out { Fills (change out.old out.new) 0
         (write_at format step (given c gu.now ug.now sg.now gs.now assignment.now records.now) solvervars lits.now hashes.now (length out.old)).bytes }
 {
-    let FormatNumber::Known(f) = format_in(format) else {
+    let Some(f) = format_in(format) else {
         return HzWritten {
             refusal: 0xffffffff,
             bytes: 0,
         };
     };
-    let StepNumber::Known(s) = step_in(step) else {
+    let Some(s) = step_in(step) else {
         return HzWritten {
             refusal: 0xffffffff,
             bytes: 0,
@@ -108,16 +107,16 @@ pub struct HzRenamedIn {
     pub lits: usize,
 }
 
-fn lits_out(r: Recorded) -> HzRenamedIn
+fn lits_out(r: Result<usize, Refusal>) -> HzRenamedIn
     ensures { (step : ProofStep) (c : Counts) → Numbered (renamed (in_full r step) c) lits_only (result.refusal ∷ result.lits ∷ []) c }
 {
     match r {
-        Recorded::Done(k) => HzRenamedIn {
+        Ok(k) => HzRenamedIn {
             refusal: 0,
             lits: k,
         },
-        Recorded::Refused(n) => HzRenamedIn {
-            refusal: n,
+        Err(e) => HzRenamedIn {
+            refusal: u32::from(e),
             lits: 0,
         },
     }

@@ -16,7 +16,7 @@ pub extern "C" fn hz_global_from_user_in(gu: &[u32], user: u32) -> HzFound
         → Given (global_from_user_of t user) (optional 0) (result.refusal ∷ flag result.found ∷ result.value ∷ []) t [] [] }
 {
     let r = var_map::global_from_user_in(gu, User(user));
-    global_out(r)
+    global_out(Ok(r))
 }
 
 #[unsafe(no_mangle)]
@@ -25,7 +25,7 @@ pub extern "C" fn hz_user_from_global_in(ug: &[u32], global: u32) -> HzFound
         → Given (user_from_global_of t global) (optional 0) (result.refusal ∷ flag result.found ∷ result.value ∷ []) t [] [] }
 {
     let r = var_map::user_from_global_in(ug, Global(global));
-    user_out(r)
+    user_out(Ok(r))
 }
 
 #[unsafe(no_mangle)]
@@ -34,7 +34,7 @@ pub extern "C" fn hz_solver_from_global_in(sg: &[u32], global: u32) -> HzFound
         → Given (solver_from_global_of t global) (optional 0) (result.refusal ∷ flag result.found ∷ result.value ∷ []) t [] [] }
 {
     let r = var_map::solver_from_global_in(sg, Global(global));
-    solver_out(r)
+    solver_out(Ok(r))
 }
 
 #[unsafe(no_mangle)]
@@ -43,7 +43,7 @@ pub extern "C" fn hz_global_from_solver_in(gs: &[u32], solver: u32) -> HzFound
         → Given (global_from_solver_of t solver) (optional 0) (result.refusal ∷ flag result.found ∷ result.value ∷ []) t [] [] }
 {
     let r = var_map::global_from_solver_in(gs, Solver(solver));
-    global_out(r)
+    global_out(Ok(r))
 }
 
 // The record of a global; `mark` is the global watermark.
@@ -53,7 +53,7 @@ pub extern "C" fn hz_record_in(mark: u32, records: &[u32], global: u32) -> HzFou
         → Given (record_word_of t global) (optional 0) (result.refusal ∷ flag result.found ∷ result.value ∷ []) t [] [] }
 {
     let r = var_map::record_in(mark, records, Global(global));
-    word_out(r)
+    word_out(Ok(r))
 }
 
 // The assignment word of a solver index; `mark` is the solver watermark.
@@ -63,5 +63,5 @@ pub extern "C" fn hz_assignment_in(mark: u32, assignment: &[u32], solver: u32) -
         → Given (assignment_word_of t solver) (optional 0) (result.refusal ∷ flag result.found ∷ result.value ∷ []) t [] [] }
 {
     let r = var_map::assignment_in(mark, assignment, Solver(solver));
-    word_out(r)
+    word_out(Ok(r))
 }

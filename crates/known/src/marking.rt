@@ -11,17 +11,16 @@ ghost use Rattle.numbers.specs.Numbers.{for_known, mark_for};
 ghost use Rattle.numbers.specs.Surface.{plain, Given};
 ghost use Rattle.numbers.specs.Flat.{Numbered};
 
-use marks::Changed;
-use numbers::{MarkNumber, mark_in};
-use scope::Solver;
+use numbers::mark_in;
+use scope::{Refusal, Solver};
 
 // The number of the refusal, 0 for none.
-fn refusal_of(r: Changed) -> u32
+fn refusal_of(r: Result<(), Refusal>) -> u32
     ensures { (c : Counts) → Numbered (changed r c) (plain 0) (result ∷ []) c }
 {
     match r {
-        Changed::Done => 0,
-        Changed::Refused(n) => n,
+        Ok(()) => 0,
+        Err(e) => u32::from(e),
     }
 }
 
@@ -31,7 +30,7 @@ pub extern "C" fn hz_mark_in(gs: &[u32], records: &mut [u32], mark: u32, solver:
     ensures { (t : Table) → soundb t ≡ true → t.global_from_solver ≡ gs.now → t.records ≡ records.old
         → Given (for_known (mark_for mark) t (λ m. mark_of t m solver)) (plain 0) (result ∷ []) (with_records t records.new) [] [] }
 {
-    let MarkNumber::Known(m) = mark_in(mark) else {
+    let Some(m) = mark_in(mark) else {
         return 0xffffffff;
     };
     let r = marks::mark_in(gs, records, m, Solver(solver));

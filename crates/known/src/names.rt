@@ -16,8 +16,7 @@ ghost use Rattle.numbers.specs.Surface.{plain, optional, Gives};
 use answers::found::HzFound;
 use answers::mapped::{HzMapped, mapped_out};
 use answers::new_mapped::{HzNewMapped, new_mapped_out};
-use scope::{Counts, User};
-use table::FoundGlobal;
+use scope::{Counts, Global, User};
 
 // Map (3, 4, 5, 2): `map_of`.
 #[unsafe(no_mangle)]
@@ -82,17 +81,17 @@ pub extern "C" fn hz_known_new_user(
 }
 
 // A global that was found, or none.
-fn once_out(r: FoundGlobal) -> HzFound
+fn once_out(r: Option<Global>) -> HzFound
     ensures r_value { global_found r ≡ pick result.found (result.value ∷ []) [] }
     ensures value_value { result.refusal ∷ flag result.found ∷ result.value ∷ [] ≡ optional 0 (accepted (pick result.found (result.value ∷ []) [])) }
 {
     match r {
-        FoundGlobal::At(g) => HzFound {
+        Some(g) => HzFound {
             refusal: 0,
             found: true,
             value: g.0,
         },
-        FoundGlobal::Nothing => HzFound {
+        None => HzFound {
             refusal: 0,
             found: false,
             value: 0,

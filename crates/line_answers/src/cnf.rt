@@ -3,7 +3,7 @@ ghost use Rattle.std.specs.Prelude.{◌≡◌, [], ◌∷◌};
 ghost use Rattle.dimacs.specs.Calls.{cnf_read};
 ghost use Rattle.numbers.specs.Surface.{located};
 
-use dimacs::CnfRead;
+use dimacs::{CnfError, CnfSize};
 
 // The header's number of variables, and how many literals and how many clauses were filled; with refusal 17, the start of the first wrong line.
 #[repr(C)]
@@ -16,25 +16,25 @@ pub struct HzCnf {
     pub clauses: usize,
 }
 
-pub fn cnf_out(r: CnfRead) -> HzCnf
+pub fn cnf_out(r: Result<CnfSize, CnfError>) -> HzCnf
     ensures { result.refusal ∷ result.place ∷ result.variables ∷ result.lits ∷ result.clauses ∷ [] ≡ located 3 (cnf_read r) }
 {
     match r {
-        CnfRead::Filled(v, n, m) => HzCnf {
+        Ok(size) => HzCnf {
             refusal: 0,
             place: 0,
-            variables: v,
-            lits: n,
-            clauses: m,
+            variables: size.variables,
+            lits: size.lits,
+            clauses: size.clauses,
         },
-        CnfRead::Wrong(p) => HzCnf {
+        Err(CnfError::WrongLine(p)) => HzCnf {
             refusal: 17,
             place: p,
             variables: 0,
             lits: 0,
             clauses: 0,
         },
-        CnfRead::Short => HzCnf {
+        Err(CnfError::Room) => HzCnf {
             refusal: 2,
             place: 0,
             variables: 0,

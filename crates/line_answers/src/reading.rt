@@ -3,7 +3,7 @@ ghost use Rattle.std.specs.Prelude.{◌≡◌, [], ◌∷◌};
 ghost use Rattle.drat.specs.Filled.{read};
 ghost use Rattle.numbers.specs.Surface.{located};
 
-use drat::Read;
+use drat::{ReadError, Size};
 
 // How many literals and how many steps were filled; with refusal 13, the start of the first step that is not whole.
 #[repr(C)]
@@ -15,23 +15,23 @@ pub struct HzReading {
     pub steps: usize,
 }
 
-pub fn read_out(r: Read) -> HzReading
+pub fn read_out(r: Result<Size, ReadError>) -> HzReading
     ensures { result.refusal ∷ result.place ∷ result.lits ∷ result.steps ∷ [] ≡ located 2 (read r) }
 {
     match r {
-        Read::Filled(n, m) => HzReading {
+        Ok(size) => HzReading {
             refusal: 0,
             place: 0,
-            lits: n,
-            steps: m,
+            lits: size.lits,
+            steps: size.steps,
         },
-        Read::Broken(p) => HzReading {
+        Err(ReadError::NotWhole(place)) => HzReading {
             refusal: 13,
-            place: p,
+            place,
             lits: 0,
             steps: 0,
         },
-        Read::Short => HzReading {
+        Err(ReadError::Room) => HzReading {
             refusal: 2,
             place: 0,
             lits: 0,

@@ -5,6 +5,7 @@ ghost use Rattle.steps.specs.Answers.{renamed};
 ghost use Rattle.numbers.specs.Flat.{Numbered, stepless};
 
 use numbers::HzStep;
+use scope::Refusal;
 use steps::rename::Renamed;
 
 // The step as given, and how many literals and hashes were filled.
@@ -17,20 +18,20 @@ pub struct HzRenamed {
     pub hashes: usize,
 }
 
-pub fn renamed_out(r: Renamed, step: HzStep) -> HzRenamed
+pub fn renamed_out(r: Result<Renamed, Refusal>, step: HzStep) -> HzRenamed
     ensures numbered { ((c : Counts) → Numbered (renamed r c) stepless (result.refusal ∷ result.lits ∷ result.hashes ∷ []) c) }
     ensures step { result.step ≡ step }
 {
     match r {
-        Renamed::Done(n, m, _) => HzRenamed {
+        Ok(filled) => HzRenamed {
             refusal: 0,
-            step: step,
-            lits: n,
-            hashes: m,
+            step,
+            lits: filled.lits,
+            hashes: filled.hashes,
         },
-        Renamed::Refused(n) => HzRenamed {
-            refusal: n,
-            step: step,
+        Err(e) => HzRenamed {
+            refusal: u32::from(e),
+            step,
             lits: 0,
             hashes: 0,
         },

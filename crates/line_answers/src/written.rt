@@ -5,7 +5,7 @@ ghost use Rattle.steps.specs.Answers.{recorded};
 ghost use Rattle.numbers.specs.Surface.{plain};
 ghost use Rattle.numbers.specs.Flat.{Numbered};
 
-use steps::write::Recorded;
+use scope::Refusal;
 
 // How many bytes were filled; of `hz_write_clause`, the place after them.
 #[repr(C)]
@@ -15,16 +15,16 @@ pub struct HzWritten {
     pub bytes: usize,
 }
 
-pub fn recorded_out(r: Recorded) -> HzWritten
+pub fn recorded_out(r: Result<usize, Refusal>) -> HzWritten
     ensures { (c : Counts) → Numbered (recorded r c) (plain 1) (result.refusal ∷ result.bytes ∷ []) c }
 {
     match r {
-        Recorded::Done(k) => HzWritten {
+        Ok(bytes) => HzWritten {
             refusal: 0,
-            bytes: k,
+            bytes,
         },
-        Recorded::Refused(n) => HzWritten {
-            refusal: n,
+        Err(e) => HzWritten {
+            refusal: u32::from(e),
             bytes: 0,
         },
     }

@@ -4,21 +4,21 @@ ghost use Rattle.drat.specs.Writing.{wrote};
 ghost use Rattle.numbers.specs.Surface.{plain};
 
 use crate::written::HzWritten;
-use drat::Wrote;
+use drat::WriteError;
 
-pub fn wrote_out(r: Wrote) -> HzWritten
+pub fn wrote_out(r: Result<usize, WriteError>) -> HzWritten
     ensures { result.refusal ∷ result.bytes ∷ [] ≡ plain 1 (wrote r) }
 {
     match r {
-        Wrote::Done(at) => HzWritten {
+        Ok(at) => HzWritten {
             refusal: 0,
             bytes: at,
         },
-        Wrote::Outside => HzWritten {
+        Err(WriteError::Outside) => HzWritten {
             refusal: 3,
             bytes: 0,
         },
-        Wrote::Lacking => HzWritten {
+        Err(WriteError::Room) => HzWritten {
             refusal: 2,
             bytes: 0,
         },
