@@ -1,15 +1,18 @@
 -- What a clause is sorted as, by the values of its literals, and what follows of the refusals and of the rest.
 use Prim.Native.Nat.{ℕ, ◌≤◌, ◌<◌}
-use mathlib.Core.Path.{◌≡◌, refl, sym, ◌∙◌, subst}
+use mathlib.Core.Path.{◌≡◌, refl, sym, ap, ◌∙◌, subst}
 use mathlib.Core.Bool.{Bool, true, false, ◌&&◌, not}
-use mathlib.Core.List.{List}
+use mathlib.Core.List.{List, [], ◌∷◌}
 use native.Mathlib.Omega.{arith}
 use lib.Dec.{eqb, ltb}
 use lib.ListN.{length}
 use borrow.Author.Tests.{lt-ltb, le-ltb, eq-eqb, ne_eqb}
 use mathlib.Core.Logic.{◌⊎◌, ⊎_elim}
 use Rattle.base.specs.Choice.{pick}
-use Rattle.base.specs.Bounded.{any_of}
+use Rattle.std.specs.List.{count_by, filter}
+use Rattle.std.proofs.lemmas.List.Sums.{length-filter}
+use Rattle.std.specs.Prelude.{cond}
+use Rattle.base.specs.Bounded.{any_of, keep_of}
 use Rattle.scope.specs.declared.Simplified.{Simplified}
 use Rattle.scope.specs.declared.Simplified.TheVariants.{Kept, Dropped, Shortened, Binary}
 use Rattle.scope.specs.Table.{Table}
@@ -17,6 +20,19 @@ use Rattle.scope.specs.Simplify.{is_true, is_false, unfalse, simplified}
 use Rattle.simplify.specs.Values.{true_by, false_by, unfalse_by}
 use Rattle.simplify.specs.Cuts.{Cuts, shortened, binary}
 use Rattle.base.proofs.KeepLaws.{some_go}
+
+-- those that pass, and how many, as std has them
+kept_is : {A : Type 0} (p : A → Bool) (xs : List A) → filter p xs ≡ keep_of p xs
+unfolding keep_of
+kept_is p [] = refl
+kept_is {A = A} p (x ∷ xs) = go (p x) (kept_is p xs)
+  where
+    go : (b : Bool) → filter p xs ≡ keep_of p xs → cond b (x ∷ filter p xs) (filter p xs) ≡ pick b (x ∷ keep_of p xs) (keep_of p xs)
+    go true e = ap (λ (l : List A). x ∷ l) e
+    go false e = e
+
+pub count_is : {A : Type 0} (p : A → Bool) (xs : List A) → count_by p xs ≡ length (keep_of p xs)
+count_is p xs = sym (length-filter p xs) ∙ ap length (kept_is p xs)
 
 -- ---- the code's way, by the assignment
 
