@@ -1,12 +1,13 @@
 -- Laws of `sets`, a run of stores.
-use Rattle.std.proofs.lemmas.List.Edits.{sets-eq}
 use Prim.Native.Nat.{ℕ, suc, ◌+◌, ◌≤◌}
 use mathlib.Core.Path.{◌≡◌, sym, ap, ◌∙◌}
-use mathlib.Core.List.{List, [], ◌∷◌, ◌++◌}
+use mathlib.Core.List.{List, [], ◌∷◌, ◌++◌, append_assoc}
 use native.Mathlib.Nat.{add-zero}
 use native.Mathlib.Omega.{arith}
-use lib.ListN.{length, set, drop}
-use lib.Seq.{sets}
+use lib.ListN.{length, take, drop, set}
+use lib.Seq.{sets, drop-drop}
+use Rattle.std.proofs.lemmas.List.Edits.{sets-eq}
+use borrow.Rule.Slice.PartMut.{put_mid}
 
 -- one run of stores after another
 pub sets_append : (xs ys l : List ℕ) (i : ℕ) → sets l i (xs ++ ys) ≡ sets (sets l i xs) (i + length xs) ys
@@ -22,3 +23,10 @@ pub sets_front : (xs l : List ℕ) → length xs ≤ length l → xs ++ drop (le
 sets_front xs l h =
     let e : 0 + length xs ≡ length xs = omega arith in
     ap (λ (n : ℕ). xs ++ drop n l) (sym e) ∙ sym (sets-eq xs l 0 (omega arith))
+
+-- a part that is replaced by as many words is a run of stores
+pub part_sets : (a k : ℕ) (l xs : List ℕ) → k ≡ length xs → a + length xs ≤ length l → put_mid a k l xs ≡ sets l a xs
+part_sets a k l xs e h =
+    ap (λ (r : List ℕ). take a l ++ (xs ++ r)) (drop-drop k a l ∙ ap (λ (n : ℕ). drop (a + n) l) e)
+    ∙ sym (append_assoc (take a l) xs (drop (a + length xs) l))
+    ∙ sym (sets-eq xs l a h)

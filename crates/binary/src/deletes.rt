@@ -22,15 +22,13 @@ pub(crate) fn any_unheld(gs: &[u32], place: &[usize], n: usize) -> bool
     requires { Rising n place.now }
     ensures { (lists : List ℕ) → Placed lists n place.now → result ≡ any_of (unheld_by gs.now) (filled_codes (sections_of n lists)) }
 {
-    let mut l: usize = 0;
-    while l < n {
+    for l in 0..n {
         if place[l] + 1 < place[l + 1] {
             let index = l as u32 / 2;
             let FoundGlobal::At(_) = holder(gs, Solver(index)) else {
                 return true;
             };
         }
-        l += 1;
     }
     false
 }
@@ -39,10 +37,7 @@ pub(crate) fn any_unheld(gs: &[u32], place: &[usize], n: usize) -> bool
 fn goes(assignment: &[u32], l: u32, x: u32, m: u32) -> bool
     ensures { result ≡ goes_as assignment.now l x m }
 {
-    if m <= x {
-        return false;
-    }
-    !stays(assignment, l, m)
+    x < m && !stays(assignment, l, m)
 }
 
 // How many bytes the delete step of the clause x or m takes.
@@ -79,9 +74,7 @@ fn section_len(
 {
     let x = not_lit(l);
     let mut used: usize = 0;
-    let mut i = 0;
-    while i < es.len() {
-        let m = es[i];
+    for &m in es {
         if goes(assignment, l, x, m) {
             let k = delete_len(gs, f, x, m);
             if room - used < k {
@@ -89,7 +82,6 @@ fn section_len(
             }
             used += k;
         }
-        i += 1;
     }
     Recorded::Done(used)
 }
@@ -109,8 +101,7 @@ pub(crate) fn deletes_len(
     ensures { result ≡ laid (bytes_by f gs.now assignment.now (sections_of n lists.now)) room }
 {
     let mut used: usize = 0;
-    let mut l: usize = 0;
-    while l < n {
+    for l in 0..n {
         let a = place[l] + 1;
         let b = place[l + 1];
         let part = section_len(gs, assignment, f, l as u32, &lists[a..b], room - used);
@@ -118,7 +109,6 @@ pub(crate) fn deletes_len(
             return Recorded::Refused(2);
         };
         used += k;
-        l += 1;
     }
     Recorded::Done(used)
 }
@@ -140,13 +130,10 @@ fn put_section(
 {
     let x = not_lit(l);
     let mut p = at;
-    let mut i = 0;
-    while i < es.len() {
-        let m = es[i];
+    for &m in es {
         if goes(assignment, l, x, m) {
             p = put_delete(gs, f, x, m, bytes, p);
         }
-        i += 1;
     }
     p
 }
@@ -167,11 +154,9 @@ pub(crate) fn put_deletes(
     ensures { Fills (change bytes.old bytes.new) 0 (bytes_by f gs.now assignment.now (sections_of n lists.now)) }
 {
     let mut at = 0;
-    let mut l: usize = 0;
-    while l < n {
+    for l in 0..n {
         let a = place[l] + 1;
         let b = place[l + 1];
         at = put_section(gs, assignment, f, l as u32, &lists[a..b], bytes, at);
-        l += 1;
     }
 }

@@ -19,12 +19,10 @@ fn count_kept(assignment: &[u32], l: u32, es: &[u32]) -> usize
     ensures { result ≡ length (kept_by assignment.now l es.now) }
 {
     let mut k = 0;
-    let mut i = 0;
-    while i < es.len() {
-        if stays(assignment, l, es[i]) {
+    for &m in es {
+        if stays(assignment, l, m) {
             k += 1;
         }
-        i += 1;
     }
     k
 }
@@ -36,14 +34,11 @@ fn put_entries(assignment: &[u32], l: u32, es: &[u32], out: &mut [u32], at: usiz
     ensures fills { Fills (change out.old out.new) at (kept_by assignment.now l es.now) }
 {
     let mut k = at;
-    let mut i = 0;
-    while i < es.len() {
-        let m = es[i];
+    for &m in es {
         if stays(assignment, l, m) {
             out[k] = m;
             k += 1;
         }
-        i += 1;
     }
     k
 }
@@ -67,12 +62,10 @@ pub(crate) fn count_all(assignment: &[u32], lists: &[u32], place: &[usize], n: u
     ensures upper_bound { result ≤ length lists.now }
 {
     let mut k = 0;
-    let mut l: usize = 0;
-    while l < n {
+    for l in 0..n {
         let a = place[l] + 1;
         let b = place[l + 1];
         k += count_kept(assignment, l as u32, &lists[a..b]);
-        l += 1;
     }
     k
 }
@@ -90,11 +83,9 @@ pub(crate) fn put_lists(
     ensures { Fills (change out.old out.new) 0 (words_by assignment.now (sections_of n lists.now)) }
 {
     let mut at = 0;
-    let mut l: usize = 0;
-    while l < n {
+    for l in 0..n {
         let a = place[l] + 1;
         let b = place[l + 1];
         at = put_section(assignment, l as u32, &lists[a..b], out, at);
-        l += 1;
     }
 }

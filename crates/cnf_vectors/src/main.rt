@@ -8,7 +8,7 @@ ghost use Rattle.std.specs.Prelude.{◌≤◌};
 use dimacs::CnfRead;
 use dimacs_read::read_cnf;
 use dimacs_write::write_cnf;
-use drat::Wrote;
+use drat::WriteError;
 use std::io;
 
 // The vectors run, and those of them that came out otherwise.
@@ -135,11 +135,11 @@ fn wrong(rt: &impl Print, t: Score, bytes: &[u8], place: usize) -> io::Result<Sc
 }
 
 // The answer as a number: 2 and 3 for the refusals, 100 and the place if written.
-fn number(w: Wrote) -> usize {
+fn number(w: Result<usize, WriteError>) -> usize {
     match w {
-        Wrote::Done(e) => 100 + e % 1000,
-        Wrote::Outside => 3,
-        Wrote::Lacking => 2,
+        Ok(e) => 100 + e % 1000,
+        Err(WriteError::Outside) => 3,
+        Err(WriteError::Room) => 2,
     }
 }
 
@@ -501,7 +501,7 @@ fn code(c: u32) -> bool {
     let lit = [c; 1];
     let end = [1u64; 1];
     let w = write_cnf(&lit, &end, &mut out);
-    let Wrote::Done(e) = w else {
+    let Ok(e) = w else {
         return false;
     };
     let v = c / 2 + 1;
@@ -533,7 +533,7 @@ fn empty(zeros: &[u64]) -> bool {
     let mut out = [7u8; 2100];
     let nothing = [0u32; 0];
     let w = write_cnf(&nothing, zeros, &mut out);
-    let Wrote::Done(e) = w else {
+    let Ok(e) = w else {
         return false;
     };
     empties_in(&out, e, zeros.len())

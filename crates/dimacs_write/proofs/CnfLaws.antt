@@ -39,15 +39,15 @@ module _ (v k : ℕ) where
       )
 
   -- `p cnf ` is o1; then the first number, o2; a blank; the second number, o3; and the line feed
-  pub header_sets : (o o1 o2 o3 : List ℕ) (p q : ℕ) → o1 ≡ sets o 0 header_start → o2 ≡ sets o1 6 (bytes_of decimal v) → p ≡ 6 + length (bytes_of decimal v)
+  pub header_sets : (o o1 o2 o3 : List ℕ) (s p q : ℕ) → o1 ≡ sets o 0 header_start → s ≡ 6 → o2 ≡ sets o1 s (bytes_of decimal v) → p ≡ s + length (bytes_of decimal v)
       → o3 ≡ sets (set o2 p 32) (p + 1) (bytes_of decimal k) → q ≡ p + 1 + length (bytes_of decimal k) → set o3 q 10 ≡ sets o 0 (header_line v k)
-  header_sets o o1 o2 o3 p q a b c d e =
+  header_sets o o1 o2 o3 s p q a f b c d e =
       let vs = bytes_of decimal v in
       let ks = bytes_of decimal k in
       let n2 = length-append header_start vs in
       let n3 = length-append (header_start ++ vs) (32 ∷ []) in
       let n4 = length-append ((header_start ++ vs) ++ 32 ∷ []) ks in
-      let w2 = run_next o o1 o2 header_start vs 0 6 a refl b in
+      let w2 = run_next o o1 o2 header_start vs 0 s a f b in
       let w3 = run_next o o2 (set o2 p 32) (header_start ++ vs) (32 ∷ []) 0 p w2 (omega arith) refl in
       let w4 = run_next o (set o2 p 32) o3 ((header_start ++ vs) ++ 32 ∷ []) ks 0 (p + 1) w3 (omega arith) d in
       let w5 = run_next o o3 (set o3 q 10) (((header_start ++ vs) ++ 32 ∷ []) ++ ks) (10 ∷ []) 0 q w4 (omega arith) refl in

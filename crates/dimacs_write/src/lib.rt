@@ -11,25 +11,15 @@ ghost use Rattle.dimacs.specs.Cnf.{largest, header_start, header_line, clause_li
 ghost use Rattle.dimacs.specs.Calls.{clauses_by, unwritable, write_cnf_of};
 ghost use Rattle.dimacs.proofs.Written.{Writable};
 
-use drat::{Format, Kind, Wrote};
+use drat::{Format, Kind, WriteError};
 use drat_write::proof::{ends_rise, numbers_len};
-use drat_write::{all_below, put_step};
+use drat_write::{all_below, put_bytes, put_step};
 
 // Whether a code is too large or the ends do not lead through all codes.
 fn no_cnf(codes: &[u32], ends: &[u64]) -> bool
     ensures { result ≡ unwritable codes.now ends.now }
 {
-    if !all_below(codes, 8192) {
-        return true;
-    }
-    !ends_rise(ends, codes.len())
-}
-
-fn larger(a: u32, b: u32) -> u32
-    ensures lower_bound { (a ≤ result) × (b ≤ result) }
-    ensures by_index { (n : ℕ) → a ≤ n → b ≤ n → result ≤ n }
-{
-    if a < b { b } else { a }
+    !all_below(codes, 8192) || !ends_rise(ends, codes.len())
 }
 
 // The largest magnitude: half of (the largest code + 2), 0 of no code.
@@ -38,10 +28,8 @@ fn largest_of(codes: &[u32]) -> u32
     ensures { result ≡ largest codes.now }
 {
     let mut m: u32 = 0;
-    let mut i = 0;
-    while i < codes.len() {
-        m = larger(m, codes[i] + 2);
-        i += 1;
+    for code in codes {
+        m = m.max(*code + 2);
     }
     m / 2
 }
@@ -78,30 +66,17 @@ fn put_count(n: u64, out: &mut [u8], at: usize) -> usize
     end
 }
 
-// Writes `p cnf `.
-fn put_opening(out: &mut [u8])
-    requires { 6 ≤ length out.old }
-    ensures { Fills (change out.old out.new) 0 header_start }
-{
-    out[0] = 112;
-    out[1] = 32;
-    out[2] = 99;
-    out[3] = 110;
-    out[4] = 102;
-    out[5] = 32;
-}
-
 // Writes the header's line from the start on, and gives the place after it.
 fn put_header(v: u32, k: usize, out: &mut [u8]) -> usize
     requires { length (header_line v k) ≤ length out.old }
     ensures value { result ≡ length (header_line v k) }
     ensures fills { Fills (change out.old out.new) 0 (header_line v k) }
 {
-    put_opening(out);
-    let p = put_count(v as u64, out, 6);
-    out[p] = 32;
+    let start = put_bytes(b"p cnf ", out, 0);
+    let p = put_count(v as u64, out, start);
+    out[p] = b' ';
     let q = put_count(k as u64, out, p + 1);
-    out[q] = 10;
+    out[q] = b'\n';
     q + 1
 }
 
@@ -114,12 +89,10 @@ fn put_lines(codes: &[u32], ends: &[u64], out: &mut [u8], start: usize) -> usize
 {
     let mut a: usize = 0;
     let mut at = start;
-    let mut i = 0;
-    while i < ends.len() {
-        let b = ends[i] as usize;
+    for end in ends {
+        let b = *end as usize;
         at = put_step(Format::Text, Kind::Add, &codes[a..b], out, at);
         a = b;
-        i += 1;
     }
     at
 }
@@ -131,31 +104,28 @@ fn cnf_fits(v: u32, codes: &[u32], ends: &[u64], room: usize) -> bool
     requires v_bound { v ≤ 4096 }
     ensures { result ≡ leb (length (written v (clauses_by codes.now 0 ends.now))) room }
 {
-    if 6 * codes.len() + 2 * ends.len() + 48 <= room {
-        return true;
-    }
-    numbers_len(Format::Text, codes)
-        + 2 * ends.len()
-        + digits(v as u64)
-        + digits(ends.len() as u64)
-        + 8
-        <= room
+    6 * codes.len() + 2 * ends.len() + 48 <= room
+        || numbers_len(Format::Text, codes)
+            + 2 * ends.len()
+            + digits(v as u64)
+            + digits(ends.len() as u64)
+            + 8
+            <= room
 }
 
 // Writes the clauses from the start of the output on: 3, 2.
 // `write_cnf_of` of dimacs's specs/Calls.antt, and `wrote` for the answer.
-pub fn write_cnf(codes: &[u32], ends: &[u64], out: &mut [u8]) -> Wrote
+pub fn write_cnf(codes: &[u32], ends: &[u64], out: &mut [u8]) -> Result<usize, WriteError>
     ensures result_value { wrote result ≡ (write_cnf_of codes.now ends.now (length out.old)).answer }
     ensures fills { Fills (change out.old out.new) 0 (write_cnf_of codes.now ends.now (length out.old)).bytes }
 {
     if no_cnf(codes, ends) {
-        return Wrote::Outside;
+        return Err(WriteError::Outside);
     }
     let v = largest_of(codes);
-    if cnf_fits(v, codes, ends, out.len()) {
-        let p = put_header(v, ends.len(), out);
-        let e = put_lines(codes, ends, out, p);
-        return Wrote::Done(e);
+    if !cnf_fits(v, codes, ends, out.len()) {
+        return Err(WriteError::Room);
     }
-    Wrote::Lacking
+    let p = put_header(v, ends.len(), out);
+    Ok(put_lines(codes, ends, out, p))
 }

@@ -6,6 +6,7 @@ use mathlib.Core.Bool.{Bool, true, false, ◌&&◌, not}
 use native.Mathlib.Omega.{arith}
 use native.Mathlib.Numerals.{add-one}
 use lib.Dec.{ltb}
+use Rattle.std.specs.Prelude.{Result, Ok, Err}
 use lib.ListN.{length, get_or, drop, length-take}
 use borrow.Author.Tests.{ltb-false, lt-ltb, le-ltb, not-false}
 use Rattle.base.proofs.MemberLaws.{or_left, or_right}
@@ -13,8 +14,8 @@ use Rattle.base.specs.Bounded.{all_below}
 use Rattle.base.specs.Answer.{accepted, refused}
 use Rattle.drat.specs.Grammar.{step_of, encode_step, Codes}
 use Rattle.drat.specs.Writing.{part, codes_test, no_clause, write_clause_of, wrote}
-use Rattle.drat.specs.declared.Wrote.{Wrote}
-use Rattle.drat.specs.declared.Wrote.TheVariants.{Done, Outside, Lacking}
+use Rattle.drat.specs.declared.WriteError.{WriteError}
+use Rattle.drat.specs.declared.WriteError.TheVariants.{Outside, Room}
 use Rattle.drat.specs.declared.Kind.{Kind}
 use Rattle.drat.specs.declared.Format.{Format}
 use Rattle.drat.proofs.CodesLaws.{codes_true}
@@ -79,13 +80,13 @@ module _ (f : Format) (k : Kind) (buf : List ℕ) (a b room at : ℕ) where
   write_done h l = rw (h, le-ltb room (at + length (encode_step f (step_of k (part a b buf)))) l)
 
 -- the answer's reading loses nothing
-pub wrote_one : (x y : Wrote) → wrote x ≡ wrote y → x ≡ y
-wrote_one (Done i) (Done j) e = cc
-wrote_one (Done i) Outside e = let z : ◌≡◌ {A = ℕ} 0 1 = cc in absurd (omega arith)
-wrote_one (Done i) Lacking e = let z : ◌≡◌ {A = ℕ} 0 1 = cc in absurd (omega arith)
-wrote_one Outside (Done j) e = let z : ◌≡◌ {A = ℕ} 0 1 = cc in absurd (omega arith)
-wrote_one Outside Outside e = refl
-wrote_one Outside Lacking e = let z : ◌≡◌ {A = ℕ} 3 2 = cc in absurd (omega arith)
-wrote_one Lacking (Done j) e = let z : ◌≡◌ {A = ℕ} 0 1 = cc in absurd (omega arith)
-wrote_one Lacking Outside e = let z : ◌≡◌ {A = ℕ} 2 3 = cc in absurd (omega arith)
-wrote_one Lacking Lacking e = refl
+pub wrote_one : (x y : Result ℕ WriteError) → wrote x ≡ wrote y → x ≡ y
+wrote_one (Ok i) (Ok j) e = cc
+wrote_one (Ok i) (Err Outside) e = let z : ◌≡◌ {A = ℕ} 0 1 = cc in absurd (omega arith)
+wrote_one (Ok i) (Err Room) e = let z : ◌≡◌ {A = ℕ} 0 1 = cc in absurd (omega arith)
+wrote_one (Err Outside) (Ok j) e = let z : ◌≡◌ {A = ℕ} 0 1 = cc in absurd (omega arith)
+wrote_one (Err Outside) (Err Outside) e = refl
+wrote_one (Err Outside) (Err Room) e = let z : ◌≡◌ {A = ℕ} 3 2 = cc in absurd (omega arith)
+wrote_one (Err Room) (Ok j) e = let z : ◌≡◌ {A = ℕ} 0 1 = cc in absurd (omega arith)
+wrote_one (Err Room) (Err Outside) e = let z : ◌≡◌ {A = ℕ} 2 3 = cc in absurd (omega arith)
+wrote_one (Err Room) (Err Room) e = refl

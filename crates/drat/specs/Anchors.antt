@@ -1,6 +1,6 @@
 -- Anchors: small cases of the codec, each with what document 01 says of it in bytes and numbers. One theorem holds over all of them
 -- (`anchored`, proofs/Anchored.antt). Nothing on the right goes through a definition that a row is about.
-use Rattle.std.specs.Prelude.{ℕ, ◌≡◌, List, [], ◌∷◌}
+use Rattle.std.specs.Prelude.{ℕ, ◌≡◌, List, [], ◌∷◌, Ok, Err}
 use Rattle.base.specs.Answer.{Answer, accepted, refused}
 use Rattle.drat.specs.Grammar.{step_of, number, encode_step, encode}
 use Rattle.drat.specs.Filled.{Filling, read_of, first_of, read, first}
@@ -9,7 +9,7 @@ use Rattle.drat.specs.Listed.{write_all_of}
 use Rattle.drat.specs.declared.Format.TheVariants.{Text, Binary}
 use Rattle.drat.specs.declared.Kind.TheVariants.{Add, Delete}
 use Rattle.drat.specs.declared.Read.TheVariants.{Filled, Broken, Short}
-use Rattle.drat.specs.declared.Wrote.TheVariants.{Done, Outside, Lacking}
+use Rattle.drat.specs.declared.WriteError.TheVariants.{Outside, Room}
 
 -- What is looked at: bytes, an answer, what Read fills, what a writing call fills.
 pub data Seen : Type 0 where
@@ -209,9 +209,9 @@ answer_rows =
     answer (read (Filled 5 2)) is answer (accepted (5 ∷ 2 ∷ []))
     ∷ answer (read (Broken 4)) is answer (refused 13 (4 ∷ []))
     ∷ answer (read Short) is answer (refused 2 [])
-    ∷ answer (wrote (Done 7)) is answer (accepted (7 ∷ []))
-    ∷ answer (wrote Outside) is answer (refused 3 [])
-    ∷ answer (wrote Lacking) is answer (refused 2 [])
+    ∷ answer (wrote (Ok 7)) is answer (accepted (7 ∷ []))
+    ∷ answer (wrote (Err Outside)) is answer (refused 3 [])
+    ∷ answer (wrote (Err Room)) is answer (refused 2 [])
     ∷ answer (first 3 []) is answer (refused 13 (3 ∷ []))
     ∷ answer (first 3 (48 ∷ [])) is answer (accepted (48 ∷ []))
     ∷ []

@@ -1,11 +1,11 @@
 -- The call that writes one clause of a buffer: what it answers, and the bytes that it fills.
-use Rattle.std.specs.Prelude.{ℕ, ◌+◌, ◌-◌, List, [], ◌∷◌, Bool, ◌||◌, not, ltb, length, get_or, take, drop}
+use Rattle.std.specs.Prelude.{ℕ, ◌+◌, ◌-◌, List, [], ◌∷◌, Bool, ◌||◌, not, ltb, length, get_or, take, drop, Result, Ok, Err}
 use Rattle.base.specs.Choice.{pick}
 use Rattle.base.specs.Bounded.{all_below}
 use Rattle.base.specs.Answer.{Answer, accepted, refused}
 use Rattle.drat.specs.Grammar.{step_of, encode_step}
-use Rattle.drat.specs.declared.Wrote.{Wrote}
-use Rattle.drat.specs.declared.Wrote.TheVariants.{Done, Outside, Lacking}
+use Rattle.drat.specs.declared.WriteError.{WriteError}
+use Rattle.drat.specs.declared.WriteError.TheVariants.{Outside, Room}
 use Rattle.drat.specs.declared.Kind.{Kind}
 use Rattle.drat.specs.declared.Format.{Format}
 
@@ -36,8 +36,8 @@ abbrev pub write_clause_of : Format → Kind → List ℕ → ℕ → ℕ → �
 write_clause_of f k buf a b room at = pick (no_clause buf a b) (record { answer = refused 3 []; bytes = [] })
     (fitted (encode_step f (step_of k (part a b buf))) room at)
 
--- The answer's enum: the place after what was filled; 3; 2.
-abbrev pub wrote : Wrote → Answer
-wrote (Done e) = accepted (e ∷ [])
-wrote Outside = refused 3 []
-wrote Lacking = refused 2 []
+-- What a writer returns: the place after what was filled; 3; 2.
+abbrev pub wrote : Result ℕ WriteError → Answer
+wrote (Ok e) = accepted (e ∷ [])
+wrote (Err Outside) = refused 3 []
+wrote (Err Room) = refused 2 []

@@ -1,6 +1,8 @@
 // The types of the DRAT codec. Its definitions are in specs/, their laws in proofs/.
 #![tactic(auto)]
 
+use std::fmt;
+
 #[derive(Clone, Copy)]
 pub enum Format {
     Text,
@@ -43,10 +45,18 @@ pub enum Read {
     Short,
 }
 
-// What a writer answers: the place after what was filled; that these lists or literals cannot be written; or that the output is too short.
-#[derive(Clone, Copy)]
-pub enum Wrote {
-    Done(usize),
+// Why a writer writes nothing: these lists or literals cannot be written, or the output is too short. If it writes, it gives the place after.
+#[derive(Clone, Copy, Debug, PartialEq, Eq)]
+pub enum WriteError {
     Outside,
-    Lacking,
+    Room,
+}
+
+impl fmt::Display for WriteError {
+    fn fmt<W: fmt::Write>(&self, f: &mut fmt::Formatter<W>) -> fmt::Result {
+        match self {
+            WriteError::Outside => write!(f, "not to be written"),
+            WriteError::Room => write!(f, "no room in the output"),
+        }
+    }
 }

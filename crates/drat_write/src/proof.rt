@@ -8,6 +8,7 @@ ghost use Rattle.drat.proofs.ListedLaws.{frames, Listed};
 use crate::{all_below, end_len, number_len, open_len, put_step};
 use drat::{Format, Kind};
 
+// By hand, since the kinds are 0 and 1 by then: `TryFrom` would bring an error that cannot come.
 fn kind_in(n: u8) -> Kind
     ensures { result ≡ kind_at n }
 {
@@ -19,23 +20,20 @@ pub fn ends_rise(ends: &[u64], last: usize) -> bool
 {
     let mut ok = true;
     let mut a: u64 = 0;
-    let mut i = 0;
-    while i < ends.len() {
-        ok = ok & (a <= ends[i]);
-        a = ends[i];
-        i += 1;
+    for end in ends {
+        ok = ok & (a <= *end);
+        a = *end;
     }
     ok & (a == last as u64)
 }
 
+#[tactic(auto, using(drat::proofs::WritingLaws::test_more), unfolding(base::specs::Bounded::all_below))]
 fn kinds_ok(kinds: &[u8]) -> bool
     ensures { result ≡ kinds_test kinds.now }
 {
     let mut ok = true;
-    let mut i = 0;
-    while i < kinds.len() {
-        ok = ok & (kinds[i] < 2);
-        i += 1;
+    for kind in kinds {
+        ok = ok & (*kind < 2);
     }
     ok
 }
@@ -43,16 +41,10 @@ fn kinds_ok(kinds: &[u8]) -> bool
 pub(crate) fn no_proof(codes: &[u32], ends: &[u64], kinds: &[u8]) -> bool
     ensures { result ≡ unlisted codes.now ends.now kinds.now }
 {
-    if !all_below(codes, 8192) {
-        return true;
-    }
-    if ends.len() != kinds.len() {
-        return true;
-    }
-    if !ends_rise(ends, codes.len()) {
-        return true;
-    }
-    !kinds_ok(kinds)
+    !all_below(codes, 8192)
+        || ends.len() != kinds.len()
+        || !ends_rise(ends, codes.len())
+        || !kinds_ok(kinds)
 }
 
 // How many bytes all literals take.
@@ -62,10 +54,8 @@ pub fn numbers_len(f: Format, codes: &[u32]) -> usize
     ensures upper_bound { result ≤ 6 * length codes.now }
 {
     let mut k: usize = 0;
-    let mut i = 0;
-    while i < codes.len() {
-        k += number_len(f, codes[i]) as usize;
-        i += 1;
+    for code in codes {
+        k += number_len(f, *code) as usize;
     }
     k
 }
@@ -77,10 +67,8 @@ fn frames_len(f: Format, kinds: &[u8]) -> usize
     ensures upper_bound { result ≤ 4 * length kinds.now }
 {
     let mut k: usize = 0;
-    let mut i = 0;
-    while i < kinds.len() {
-        k += open_len(f, kind_in(kinds[i])) + end_len(f);
-        i += 1;
+    for kind in kinds {
+        k += open_len(f, kind_in(*kind)) + end_len(f);
     }
     k
 }
@@ -90,10 +78,7 @@ pub(crate) fn proof_fits(f: Format, codes: &[u32], ends: &[u64], kinds: &[u8], r
     requires { Listed codes.now ends.now kinds.now }
     ensures { result ≡ leb (length (encode f (listed codes.now 0 ends.now kinds.now))) room }
 {
-    if 6 * codes.len() + 4 * ends.len() <= room {
-        return true;
-    }
-    numbers_len(f, codes) + frames_len(f, kinds) <= room
+    6 * codes.len() + 4 * ends.len() <= room || numbers_len(f, codes) + frames_len(f, kinds) <= room
 }
 
 // Writes all steps from the start on, and gives the place after them.
@@ -111,12 +96,10 @@ pub(crate) fn put_proof(
 {
     let mut a: usize = 0;
     let mut at: usize = 0;
-    let mut i = 0;
-    while i < ends.len() {
-        let b = ends[i] as usize;
+    for (i, end) in ends.iter().enumerate() {
+        let b = *end as usize;
         at = put_step(f, kind_in(kinds[i]), &codes[a..b], out, at);
         a = b;
-        i += 1;
     }
     at
 }

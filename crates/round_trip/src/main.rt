@@ -4,7 +4,7 @@
 
 ghost use Rattle.std.specs.Prelude.{◌≤◌, ◌<◌};
 
-use drat::{Format, Kind, Read, Wrote};
+use drat::{Format, Kind, Read};
 use std::io;
 
 fn one(b: bool) -> u32
@@ -105,7 +105,7 @@ fn code(f: Format, k: Kind, c: u32, broken: bool) -> bool {
     let mut out = [170u8; 16];
     let buf = [c; 1];
     let w = drat_write::write_clause(f, k, &buf, 0, 1, &mut out, 0);
-    let Wrote::Done(e) = w else {
+    let Ok(e) = w else {
         return false;
     };
     if broken {

@@ -3,12 +3,14 @@ use Prim.Native.Nat.{ℕ, suc, ◌+◌, ◌-◌, ◌<◌, ◌≤◌, ◌%◌}
 use mathlib.Core.Path.{◌≡◌, sym, ap, ◌∙◌}
 use mathlib.Core.Bool.{Bool, true, false, ◌&&◌}
 use mathlib.Core.List.{List}
+use mathlib.Core.Logic.{⊎_elim}
 use native.Mathlib.Omega.{arith}
 use lib.Dec.{leb, eqb}
 use lib.ListN.{length, get_or, drop, set, length-set, length-drop, drop_of_length-le}
 use lib.Seq.{get_or-set_same, get_or-set_other}
 use borrow.Author.Count.{below_more}
 use borrow.Author.Tests.{le-leb, lt-leb, eq-eqb, ne_eqb}
+use Rattle.base.proofs.Truth.{split}
 use Rattle.base.proofs.BelowLaws.{and_not_left}
 use Rattle.drat.specs.Writing.{part}
 use Rattle.scope.specs.Binary.{cutsb, sections_of, section_at}
@@ -115,11 +117,17 @@ module _ (lists : List ℕ) (n : ℕ) (place : List ℕ) (at l : ℕ) (c : CutTo
       }
 
   -- every section is cut: words are left over, or none
-  pub cut_over : n ≤ l → at < length lists → cutsb n lists ≡ false
+  cut_over : n ≤ l → at < length lists → cutsb n lists ≡ false
   cut_over h k = end h ∙ ne_eqb (length (drop at lists)) 0 (λ z. omega (arith, length-drop at lists))
 
-  pub cut_whole : n ≤ l → length lists ≤ at → cutsb n lists ≡ true
+  cut_whole : n ≤ l → length lists ≤ at → cutsb n lists ≡ true
   cut_whole h k = end h ∙ eq-eqb (length (drop at lists)) 0 (omega (arith, length-drop at lists))
+
+  pub cut_tested : n ≤ l → eqb at (length lists) ≡ cutsb n lists
+  cut_tested h = ⊎_elim
+      (λ (k : at < length lists). ne_eqb at (length lists) (λ z. omega arith) ∙ sym (cut_over h k))
+      (λ (k : length lists ≤ at). eq-eqb at (length lists) (omega (arith, c.inside)) ∙ sym (cut_whole h k))
+      (split at (length lists))
 
   pub cut_placed : n ≤ 8192 → n % 2 ≡ 0 → n ≤ l → Placed lists n place
   cut_placed few even h =

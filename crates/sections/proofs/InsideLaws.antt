@@ -1,16 +1,16 @@
 -- Entries that are codes of sections, and mirrors, counted.
 use Prim.Native.Nat.{ℕ, ◌<◌, ◌≤◌}
-use mathlib.Core.Path.{◌≡◌, sym, ap, ap₂, ◌∙◌, subst}
-use mathlib.Core.Bool.{Bool, true, false}
+use mathlib.Core.Path.{◌≡◌, refl, sym, ap, ap₂, ◌∙◌, subst}
+use mathlib.Core.Bool.{Bool, true, false, ◌&&◌}
 use mathlib.Core.List.{List}
 use mathlib.Core.Logic.{⊎_elim}
 use native.Mathlib.Omega.{arith}
-use lib.Dec.{ltb}
+use lib.Dec.{eqb, ltb}
 use lib.ListN.{length, get_or}
-use borrow.Author.Tests.{ltb-true, lt-ltb, eq-eqb, ne_eqb}
+use borrow.Author.Tests.{ltb-true, lt-ltb, eq-eqb}
 use Rattle.base.specs.Bounded.{all_below, every_of}
 use Rattle.base.proofs.Truth.{split}
-use Rattle.base.proofs.BelowLaws.{and_left, and_both, and_not_right, all_at}
+use Rattle.base.proofs.BelowLaws.{and_left, all_at, all_intro}
 use Rattle.base.proofs.MemberLaws.{every_at, every_intro}
 use Rattle.scope.specs.Literals.{not_lit}
 use Rattle.scope.specs.Binary.{sections_of, section_at, times, has_mirror, mirrored}
@@ -21,6 +21,15 @@ use Rattle.scope.proofs.BinaryLaws.{sections_length}
 -- a loop that has passed every number
 pub all_upto : (l n : ℕ) (p : ℕ → Bool) → l ≡ n → all_below l p ≡ true → all_below n p ≡ true
 all_upto l n p e h = ap (λ (k : ℕ). all_below k p) (sym e) ∙ h
+
+-- the test of each place, and of each word
+pub each_below : (b : ℕ) (xs : List ℕ) → all_below (length xs) (λ i. ltb (get_or xs i 0) b) ≡ every_of (λ m. ltb m b) xs
+each_below b xs = go (all_below (length xs) (λ i. ltb (get_or xs i 0) b)) (every_of (λ m. ltb m b) xs) refl refl
+  where
+    go : (t u : Bool) → all_below (length xs) (λ i. ltb (get_or xs i 0) b) ≡ t → every_of (λ m. ltb m b) xs ≡ u → t ≡ u
+    go true u e f = sym (every_intro (λ m. ltb m b) xs 0 (all_at (length xs) (λ i. ltb (get_or xs i 0) b) e)) ∙ f
+    go false true e f = sym e ∙ all_intro (length xs) (λ i. ltb (get_or xs i 0) b) (λ i h. every_at (λ m. ltb m b) xs i 0 f h)
+    go false false e f = refl
 
 module _ (lists : List ℕ) (n : ℕ) where
   -- every entry of the section of l is below n
@@ -60,13 +69,15 @@ module _ (lists : List ℕ) (n : ℕ) where
 
   module _ (l m a b : ℕ) (h : m < n) (x : a ≡ times m (section_at (sections_of n lists) l))
       (y : b ≡ times (not_lit l) (section_at (sections_of n lists) (not_lit m))) where
-    pub mirror_is : a ≡ b → has_mirror (sections_of n lists) l m ≡ true
+    pub mirror_tested : eqb a b ≡ has_mirror (sections_of n lists) l m
     unfolding has_mirror
-    mirror_is e = and_both (lt-ltb m (length (sections_of n lists)) (omega (arith, sections_length n lists))) (eq-eqb _ _ (sym x ∙ e ∙ y))
+    mirror_tested =
+        let ss = sections_of n lists in
+        ap₂ eqb x y ∙ sym (ap (λ (t : Bool). t && eqb (times m (section_at ss l)) (times (not_lit l) (section_at ss (not_lit m))))
+        (lt-ltb m (length ss) (omega (arith, sections_length n lists))))
 
-    pub mirror_not : (a ≡ b → ⊥) → has_mirror (sections_of n lists) l m ≡ false
-    unfolding has_mirror
-    mirror_not e = and_not_right (ltb m (length (sections_of n lists))) _ (ne_eqb _ _ (λ q. e (x ∙ q ∙ sym y)))
+    pub mirror_is : a ≡ b → has_mirror (sections_of n lists) l m ≡ true
+    mirror_is e = sym mirror_tested ∙ eq-eqb a b e
 
   -- the count of the other literal, y, in the section of x, that of m's other literal
   pub count_there : (l m y x k : ℕ) (es : List ℕ) → y ≡ not_lit l → x ≡ not_lit m → k ≡ times y es → es ≡ section_at (sections_of n lists) x

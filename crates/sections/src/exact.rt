@@ -14,12 +14,10 @@ fn count_of(es: &[u32], m: u32) -> usize
     ensures { result ≡ times m es.now }
 {
     let mut k = 0;
-    let mut i = 0;
-    while i < es.len() {
-        if es[i] == m {
+    for e in es {
+        if *e == m {
             k += 1;
         }
-        i += 1;
     }
     k
 }
@@ -30,12 +28,8 @@ fn tally_all(es: &[u32], tally: &mut [usize])
     requires tallied { Tallied [] tally.old }
     ensures { Tallied es.now tally.new }
 {
-    let mut i = 0;
-    while i < es.len() {
-        let m = es[i] as usize;
-        let k = tally[m];
-        tally[m] = k + 1;
-        i += 1;
+    for e in es {
+        tally[*e as usize] += 1;
     }
 }
 
@@ -53,10 +47,7 @@ fn slot_mirrored(lists: &[u32], place: &[usize], n: usize, l: usize, m: u32, k: 
     let x = not_lit(l as u32);
     let y = not_lit(m) as usize;
     let other = count_of(section_of(lists, place, n, y), x);
-    if k != other {
-        return false;
-    }
-    true
+    k == other
 }
 
 // Whether each entry of the section of l has its mirror. Each slot is compared once, and cleared.
@@ -76,15 +67,12 @@ fn each_mirrored(
     ensures value { result ≡ every_of (has_mirror (sections_of n lists.now) l) es.now }
     ensures tallied_2 { result ≡ true → Tallied [] tally.new }
 {
-    let mut i = 0;
-    while i < es.len() {
-        let m = es[i];
-        let k = tally[m as usize];
-        if !slot_mirrored(lists, place, n, l, m, k) {
+    for m in es {
+        let k = tally[*m as usize];
+        if !slot_mirrored(lists, place, n, l, *m, k) {
             return false;
         }
-        tally[m as usize] = 0;
-        i += 1;
+        tally[*m as usize] = 0;
     }
     true
 }
@@ -109,12 +97,10 @@ pub(crate) fn exactly_mirrored(lists: &[u32], place: &[usize], n: usize) -> bool
     ensures { result ≡ mirrored (sections_of n lists.now) }
 {
     let mut tally = [0usize; 8192];
-    let mut l = 0;
-    while l < n {
+    for l in 0..n {
         if !section_mirrored(lists, place, n, l, &mut tally) {
             return false;
         }
-        l += 1;
     }
     true
 }

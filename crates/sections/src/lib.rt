@@ -10,6 +10,7 @@ ghost use Rattle.scope.specs.Literals.{not_lit};
 ghost use Rattle.scope.specs.Binary.{cutsb, sections_of, section_at, mirrored};
 ghost use Rattle.sections.specs.Places.{Placed, Inside};
 
+use drat_write::all_below;
 use exact::exactly_mirrored;
 use queues::heads_meet;
 
@@ -29,9 +30,8 @@ pub fn cut_sections(lists: &[u32], n: usize, place: &mut [usize]) -> bool
     ensures placed { result ≡ true → Placed lists.now n place.new }
 {
     let mut at: usize = 0;
-    let mut l: usize = 0;
     place[0] = 0;
-    while l < n {
+    for l in 0..n {
         if lists.len() <= at {
             return false;
         }
@@ -40,13 +40,9 @@ pub fn cut_sections(lists: &[u32], n: usize, place: &mut [usize]) -> bool
             return false;
         }
         at = at + 1 + k;
-        l += 1;
-        place[l] = at;
+        place[l + 1] = at;
     }
-    if at < lists.len() {
-        return false;
-    }
-    true
+    at == lists.len()
 }
 
 // The entries of the section of l.
@@ -60,31 +56,16 @@ fn section_of<'a>(lists: &'a [u32], place: &[usize], n: usize, l: usize) -> &'a 
     &lists[a..b]
 }
 
-// Whether every word is below a bound.
-fn all_below(words: &[u32], bound: u32) -> bool
-    ensures { result ≡ every_of (λ m. ltb m bound) words.now }
-{
-    let mut ok = true;
-    let mut i = 0;
-    while i < words.len() {
-        ok = ok & (words[i] < bound);
-        i += 1;
-    }
-    ok
-}
-
 // Whether every entry is the code of a section.
 fn all_inside(lists: &[u32], place: &[usize], n: usize) -> bool
     requires { Placed lists.now n place.now }
     ensures inside { result ≡ true → Inside lists.now n }
     ensures value { mirrored (sections_of n lists.now) ≡ true → result ≡ true }
 {
-    let mut l: usize = 0;
-    while l < n {
+    for l in 0..n {
         if !all_below(section_of(lists, place, n, l), n as u32) {
             return false;
         }
-        l += 1;
     }
     true
 }
@@ -95,11 +76,6 @@ pub fn all_mirrored(lists: &[u32], place: &[usize], n: usize) -> bool
     requires { Placed lists.now n place.now }
     ensures { result ≡ mirrored (sections_of n lists.now) }
 {
-    if !all_inside(lists, place, n) {
-        return false;
-    }
-    if heads_meet(lists, place, n) {
-        return true;
-    }
-    exactly_mirrored(lists, place, n)
+    all_inside(lists, place, n)
+        && (heads_meet(lists, place, n) || exactly_mirrored(lists, place, n))
 }

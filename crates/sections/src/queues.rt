@@ -33,10 +33,8 @@ fn start_heads(place: &[usize], n: usize, head: &mut [usize])
     requires by_index { (l : ℕ) → l < n → get_or place.now l 0 < get_or place.now (l + 1) 0 }
     ensures { (l : ℕ) → l < n → get_or head.new l 0 ≡ get_or place.now l 0 + 1 }
 {
-    let mut l = 0;
-    while l < n {
+    for l in 0..n {
         head[l] = place[l] + 1;
-        l += 1;
     }
 }
 
@@ -177,14 +175,7 @@ fn all_taken(place: &[usize], n: usize, head: &[usize]) -> bool
     requires head_len { length head.now ≡ 8192 }
     ensures { result ≡ true → (l : ℕ) → l < n → get_or head.now l 0 ≡ get_or place.now (l + 1) 0 }
 {
-    let mut l = 0;
-    while l < n {
-        if head[l] != place[l + 1] {
-            return false;
-        }
-        l += 1;
-    }
-    true
+    head[..n] == place[1..n + 1]
 }
 
 // An entry that is taken lets the section that waits for it go on, so that there are at most as many waits as takings.

@@ -21,19 +21,6 @@ use Rattle.simplify.specs.Values.{true_by, false_by, unfalse_by}
 use Rattle.simplify.specs.Cuts.{Cuts, shortened, binary}
 use Rattle.base.proofs.KeepLaws.{some_go}
 
--- those that pass, and how many, as std has them
-kept_is : {A : Type 0} (p : A → Bool) (xs : List A) → filter p xs ≡ keep_of p xs
-unfolding keep_of
-kept_is p [] = refl
-kept_is {A = A} p (x ∷ xs) = go (p x) (kept_is p xs)
-  where
-    go : (b : Bool) → filter p xs ≡ keep_of p xs → cond b (x ∷ filter p xs) (filter p xs) ≡ pick b (x ∷ keep_of p xs) (keep_of p xs)
-    go true e = ap (λ (l : List A). x ∷ l) e
-    go false e = e
-
-pub count_is : {A : Type 0} (p : A → Bool) (xs : List A) → count_by p xs ≡ length (keep_of p xs)
-count_is p xs = sym (length-filter p xs) ∙ ap length (kept_is p xs)
-
 -- ---- the code's way, by the assignment
 
 module _ (t : Table) (values : List ℕ) (p : t.assignment ≡ values) (lits : List ℕ) where

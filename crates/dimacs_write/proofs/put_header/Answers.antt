@@ -6,6 +6,6 @@ returns-clause-fills c =
     let a = c.args in
     let p = c.put_count-p.ensures.value in
     let q = c.put_count-q.ensures.value in
-    let o1 = c.put_opening.ensures in
+    let o1 = c.put_bytes-start.ensures.fills in
     let o2 = c.put_count-p.ensures.fills in
-    header_sets a.v a.k a.out.now _ _ _ _ _ o1 o2 p c.put_count-q.ensures.fills q
+    header_sets a.v a.k a.out.now _ _ _ _ _ _ o1 c.put_bytes-start.ensures.value o2 p c.put_count-q.ensures.fills q

@@ -40,44 +40,44 @@ put_header-p-requires c =
     let w = sym c.no_cnf.ensures ∙ c.if-no_cnf.false in
     let v = c.largest_of-v.result in
     let n = length (written v (clauses_by a.codes.now 0 a.ends.now)) in
-    let f = leb-true n (length a.out.now) (sym c.cnf_fits.ensures ∙ c.if-cnf_fits.true) in
+    let f = leb-true n (length a.out.now) (sym c.cnf_fits.ensures ∙ c.if-not-cnf_fits.false) in
     omega (arith, f, written_length a.codes.now a.ends.now v)
 
-pub put_lines-e-requires-clause-writable : goal.put_lines-e-requires-clause-writable
-put_lines-e-requires-clause-writable c =
+pub put_lines-requires-clause-writable : goal.put_lines-requires-clause-writable
+put_lines-requires-clause-writable c =
     let a = c.args in
     let w = sym c.no_cnf.ensures ∙ c.if-no_cnf.false in
     is_writable a.codes.now a.ends.now w
 
-pub put_lines-e-requires-clause-ends_in_bounds : goal.put_lines-e-requires-clause-ends_in_bounds
-put_lines-e-requires-clause-ends_in_bounds c =
+pub put_lines-requires-clause-ends_in_bounds : goal.put_lines-requires-clause-ends_in_bounds
+put_lines-requires-clause-ends_in_bounds c =
     let a = c.args in
     let w = sym c.no_cnf.ensures ∙ c.if-no_cnf.false in
     let v = c.largest_of-v.result in
     let n = length (written v (clauses_by a.codes.now 0 a.ends.now)) in
     let p = c.put_header-p in
-    let f = leb-true n (length a.out.now) (sym c.cnf_fits.ensures ∙ c.if-cnf_fits.true) in
+    let f = leb-true n (length a.out.now) (sym c.cnf_fits.ensures ∙ c.if-not-cnf_fits.false) in
     omega (arith, f, written_length a.codes.now a.ends.now v, p.ensures.value, p.auto.out)
 
-pub returns-then-cnf_fits-clause-result_value : goal.returns-then-cnf_fits-clause-result_value
-returns-then-cnf_fits-clause-result_value c =
+pub returns-clause-result_value : goal.returns-clause-result_value
+returns-clause-result_value c =
     let a = c.args in
     let w = sym c.no_cnf.ensures ∙ c.if-no_cnf.false in
     let v = c.largest_of-v.result in
     let n = length (written v (clauses_by a.codes.now 0 a.ends.now)) in
-    let f = leb-true n (length a.out.now) (sym c.cnf_fits.ensures ∙ c.if-cnf_fits.true) in
+    let f = leb-true n (length a.out.now) (sym c.cnf_fits.ensures ∙ c.if-not-cnf_fits.false) in
     let e = cnf_done a.codes.now a.ends.now (length a.out.now) w v c.largest_of-v.ensures f in
-    let s = written_sets a.codes.now a.ends.now v a.out.now _ _ _ c.put_header-p.ensures.fills c.put_header-p.ensures.value c.put_lines-e.ensures.fills in
-    ap (λ (k : ℕ). accepted (k ∷ [])) (omega (arith, c.put_header-p.ensures.value, c.put_lines-e.ensures.value, written_length a.codes.now a.ends.now v))
+    let s = written_sets a.codes.now a.ends.now v a.out.now _ _ _ c.put_header-p.ensures.fills c.put_header-p.ensures.value c.put_lines.ensures.fills in
+    ap (λ (k : ℕ). accepted (k ∷ [])) (omega (arith, c.put_header-p.ensures.value, c.put_lines.ensures.value, written_length a.codes.now a.ends.now v))
     ∙ sym (ap (λ (x : Writing). x.answer) e)
 
-pub returns-then-cnf_fits-clause-fills : goal.returns-then-cnf_fits-clause-fills
-returns-then-cnf_fits-clause-fills c =
+pub returns-clause-fills : goal.returns-clause-fills
+returns-clause-fills c =
     let a = c.args in
     let w = sym c.no_cnf.ensures ∙ c.if-no_cnf.false in
     let v = c.largest_of-v.result in
     let n = length (written v (clauses_by a.codes.now 0 a.ends.now)) in
-    let f = leb-true n (length a.out.now) (sym c.cnf_fits.ensures ∙ c.if-cnf_fits.true) in
+    let f = leb-true n (length a.out.now) (sym c.cnf_fits.ensures ∙ c.if-not-cnf_fits.false) in
     let e = cnf_done a.codes.now a.ends.now (length a.out.now) w v c.largest_of-v.ensures f in
-    let s = written_sets a.codes.now a.ends.now v a.out.now _ _ _ c.put_header-p.ensures.fills c.put_header-p.ensures.value c.put_lines-e.ensures.fills in
+    let s = written_sets a.codes.now a.ends.now v a.out.now _ _ _ c.put_header-p.ensures.fills c.put_header-p.ensures.value c.put_lines.ensures.fills in
     s ∙ sym (ap (λ (x : Writing). sets a.out.now 0 x.bytes) e)

@@ -8,8 +8,8 @@ step_fits-requires-clause-codes c =
     let i = inside a.buf.now a.a a.b (sym c.no_clause.ensures ∙ c.if-no_clause.false) in
     i.codes
 
-pub put_step-e-requires-clause-codes : goal.put_step-e-requires-clause-codes
-put_step-e-requires-clause-codes c =
+pub put_step-requires-clause-codes : goal.put_step-requires-clause-codes
+put_step-requires-clause-codes c =
     let a = c.args in
     let i = inside a.buf.now a.a a.b (sym c.no_clause.ensures
     ∙ c.if-no_clause.false) in

@@ -7,8 +7,8 @@ proof_fits-requires c =
     let a = c.args in
     is_listed a.codes.now a.ends.now a.kinds.now (sym c.no_proof.ensures ∙ c.if-no_proof.false)
 
-pub put_proof-e-requires-clause-listed : goal.put_proof-e-requires-clause-listed
-put_proof-e-requires-clause-listed c =
+pub put_proof-requires-clause-listed : goal.put_proof-requires-clause-listed
+put_proof-requires-clause-listed c =
     let a = c.args in
     is_listed a.codes.now a.ends.now a.kinds.now
     (sym c.no_proof.ensures ∙ c.if-no_proof.false)

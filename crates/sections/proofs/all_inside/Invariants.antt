@@ -5,7 +5,4 @@ use mathlib.Core.Path.{◌≡◌}
 use Rattle.sections.proofs.all_inside.Given as goal
 
 abbrev pub invariant-loop-l : goal.invariant-loop-l
-invariant-loop-l l = (l.l ≤ l.n) × ((j : ℕ) → j < l.l → low_at l.lists l.n j ≡ true)
-
-abbrev pub decreases-loop-l : goal.decreases-loop-l
-decreases-loop-l l = l.n - l.l
+invariant-loop-l l = ((j : ℕ) → j < l.l → low_at l.lists l.n j ≡ true)

@@ -1,4 +1,4 @@
-use Rattle.sections.proofs.CutLaws.{cut_missing, cut_short, cut_more, cut_over, cut_whole}
+use Rattle.sections.proofs.CutLaws.{cut_missing, cut_short, cut_more, cut_tested}
 use mathlib.Core.Path.{sym}
 use native.Mathlib.Omega.{arith}
 use Rattle.sections.proofs.cut_sections.Goals as goal
@@ -17,10 +17,6 @@ loop-l-preserved c =
     cut_more c.args.lists.now c.args.n _ _ _ c.loop-l.invariant _ c.requires.n_bound
     c.loop-l-test.true (omega arith) (omega arith) (omega arith)
 
-pub returns-then-at-lists-clause-value : goal.returns-then-at-lists-clause-value
-returns-then-at-lists-clause-value c =
-    sym (cut_over c.args.lists.now c.args.n _ _ _ c.loop-l.invariant c.loop-l-test.false (omega arith))
-
 pub returns-clause-value : goal.returns-clause-value
 returns-clause-value c =
-    sym (cut_whole c.args.lists.now c.args.n _ _ _ c.loop-l.invariant c.loop-l-test.false (omega arith))
+    cut_tested c.args.lists.now c.args.n _ _ _ c.loop-l.invariant c.loop-l-test.false

@@ -15,22 +15,20 @@ returns-in_default c =
     any_found (unheld_by c.args.gs.now) lists c.args.n c.args.place.now p c.loop-l.l c.loop-l-test.true
     c.if-place-l.true
     (eq-eqb _ 0 (global_word_lem _ _ (sym c.in_default.is ∙ c.holder.ensures)))
-    ∙ c.loop-l.invariant.1 lists p ∙ ap (any_of (unheld_by c.args.gs.now)) (sym (filled_all c.args.n lists))
+    ∙ c.loop-l.invariant lists p ∙ ap (any_of (unheld_by c.args.gs.now)) (sym (filled_all c.args.n lists))
 
 pub loop-l-preserved : goal.loop-l-preserved
-loop-l-preserved c = (
-  omega arith,
-  λ lists p. elim c.if-place-l.branch [
-    | then-place-l+in-At w ↦ any_passed (unheld_by c.args.gs.now) lists c.args.n c.args.place.now p c.loop-l.l
-        c.loop-l-test.true w.if-place-l.true
-        (word_filled _ _ (global_word_lem _ _ (sym w.in-At.is ∙ w.holder.ensures))) ∙ c.loop-l.invariant.1 lists p
-    | else-place-l w ↦ any_empty (unheld_by c.args.gs.now) lists c.args.n c.args.place.now p c.loop-l.l
-        c.loop-l-test.true w.if-place-l.false ∙ c.loop-l.invariant.1 lists p
-  ],
-)
+loop-l-preserved c =
+    λ lists p. elim c.if-place-l.branch [
+      | then-place-l+in-At w ↦ any_passed (unheld_by c.args.gs.now) lists c.args.n c.args.place.now p c.loop-l.l
+          c.loop-l-test.true w.if-place-l.true
+          (word_filled _ _ (global_word_lem _ _ (sym w.in-At.is ∙ w.holder.ensures))) ∙ c.loop-l.invariant lists p
+      | else-place-l w ↦ any_empty (unheld_by c.args.gs.now) lists c.args.n c.args.place.now p c.loop-l.l
+          c.loop-l-test.true w.if-place-l.false ∙ c.loop-l.invariant lists p
+    ]
 
 pub returns : goal.returns
 returns c =
     λ lists p.
     any_done (unheld_by c.args.gs.now) lists c.args.n c.args.place.now p c.loop-l.l c.loop-l-test.false
-    ∙ c.loop-l.invariant.1 lists p ∙ ap (any_of (unheld_by c.args.gs.now)) (sym (filled_all c.args.n lists))
+    ∙ c.loop-l.invariant lists p ∙ ap (any_of (unheld_by c.args.gs.now)) (sym (filled_all c.args.n lists))

@@ -9,8 +9,4 @@ use Rattle.binary.proofs.deletes.any_unheld.Given as goal
 
 abbrev pub invariant-loop-l : goal.invariant-loop-l
 invariant-loop-l l =
-    (l.l ≤ l.n)
-    × ((lists : List ℕ) → Placed lists l.n l.place → any_of (unheld_by l.gs) (from filled l.n lists l.l) ≡ any_of (unheld_by l.gs) (from filled l.n lists 0))
-
-abbrev pub decreases-loop-l : goal.decreases-loop-l
-decreases-loop-l l = l.n - l.l
+    ((lists : List ℕ) → Placed lists l.n l.place → any_of (unheld_by l.gs) (from filled l.n lists l.l) ≡ any_of (unheld_by l.gs) (from filled l.n lists 0))

@@ -9,9 +9,5 @@ use Rattle.binary.proofs.deletes.deletes_len.Given as goal
 
 abbrev pub invariant-loop-l : goal.invariant-loop-l
 invariant-loop-l l =
-    (l.l ≤ l.n)
-    × (l.used + length (encode l.f (from (deletes_by l.gs l.assignment) l.n l.lists l.l)) ≡ length (bytes_by l.f l.gs l.assignment (sections_of l.n l.lists)))
+    (l.used + length (encode l.f (from (deletes_by l.gs l.assignment) l.n l.lists l.l)) ≡ length (bytes_by l.f l.gs l.assignment (sections_of l.n l.lists)))
     × (l.used ≤ l.room)
-
-abbrev pub decreases-loop-l : goal.decreases-loop-l
-decreases-loop-l l = l.n - l.l

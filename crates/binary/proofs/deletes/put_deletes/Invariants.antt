@@ -10,10 +10,5 @@ use Rattle.binary.proofs.deletes.put_deletes.Given as goal
 
 abbrev pub invariant-loop-l : goal.invariant-loop-l
 invariant-loop-l l =
-    (l.l ≤ l.n)
-    × (length l.bytes ≡ length l.initial.bytes)
-    × (l.at + length (encode l.f (from (deletes_by l.gs l.assignment) l.n l.lists l.l)) ≡ length (bytes_by l.f l.gs l.assignment (sections_of l.n l.lists)))
+    (l.at + length (encode l.f (from (deletes_by l.gs l.assignment) l.n l.lists l.l)) ≡ length (bytes_by l.f l.gs l.assignment (sections_of l.n l.lists)))
     × (sets l.bytes l.at (encode l.f (from (deletes_by l.gs l.assignment) l.n l.lists l.l)) ≡ sets l.initial.bytes 0 (bytes_by l.f l.gs l.assignment (sections_of l.n l.lists)))
-
-abbrev pub decreases-loop-l : goal.decreases-loop-l
-decreases-loop-l l = l.n - l.l

@@ -6,11 +6,7 @@ use lib.ListN.{length}
 use mathlib.Core.Path.{◌≡◌}
 use Rattle.binary.proofs.deletes.section_len.Given as goal
 
-abbrev pub invariant-loop-i : goal.invariant-loop-i
-invariant-loop-i l =
-    (l.i ≤ length l.es)
-    × (l.used + length (steps_later (goes_by l.assignment l.l) l.es l.f (delete_by l.gs l.l) l.i) ≡ length (encode l.f (deletes_by l.gs l.assignment l.l l.es)))
+abbrev pub invariant-loop-m : goal.invariant-loop-m
+invariant-loop-m l =
+    (l.used + length (steps_later (goes_by l.assignment l.l) l.es l.f (delete_by l.gs l.l) l.m-index) ≡ length (encode l.f (deletes_by l.gs l.assignment l.l l.es)))
     × (l.used ≤ l.room)
-
-abbrev pub decreases-loop-i : goal.decreases-loop-i
-decreases-loop-i l = length l.es - l.i

@@ -10,7 +10,7 @@ overflow_add-k c =
     let a = at_kept (stays_by c.args.assignment.now c.loop-l.l) c.args.lists.now c.args.n c.args.place.now
     c.requires
     c.loop-l.l c.loop-l-test.true in
-    omega (arith, c.count_kept-k.ensures, c.loop-l.invariant.2)
+    omega (arith, c.count_kept-k.ensures, c.loop-l.invariant.1)
 
 pub loop-l-preserved : goal.loop-l-preserved
 loop-l-preserved c =
@@ -21,10 +21,9 @@ loop-l-preserved c =
     let z = from_length (kept_by c.args.assignment.now) c.args.lists.now c.args.n c.args.place.now p c.loop-l.l
     c.loop-l-test.true in
     let w = p.within c.loop-l.l c.loop-l-test.true in (
-      omega arith,
+      omega (arith, c.count_kept-k.ensures, c.loop-l.invariant.0),
       omega (arith, c.count_kept-k.ensures, c.loop-l.invariant.1),
-      omega (arith, c.count_kept-k.ensures, c.loop-l.invariant.2),
-      omega (arith, c.count_kept-k.ensures, c.loop-l.invariant.2),
+      omega (arith, c.count_kept-k.ensures, c.loop-l.invariant.1),
     )
 
 pub returns-clause-value : goal.returns-clause-value
@@ -32,4 +31,4 @@ returns-clause-value c =
     let d = from_done (kept_by c.args.assignment.now) c.args.lists.now c.args.n c.args.place.now c.requires
     c.loop-l.l
     c.loop-l-test.false in
-    omega (arith, ap length d, c.loop-l.invariant.1)
+    omega (arith, ap length d, c.loop-l.invariant.0)

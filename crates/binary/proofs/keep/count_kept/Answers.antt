@@ -6,25 +6,21 @@ use native.Mathlib.Omega.{arith}
 use Rattle.binary.proofs.keep.count_kept.Goals as goal
 use Rattle.binary.proofs.keep.count_kept.Goals.{then-stays, else-stays}
 
-pub loop-i-init : goal.loop-i-init
-loop-i-init c = (
-  omega arith,
-  sym (ap length (kept_start (stays_by c.args.assignment.now c.args.l)
-      c.args.es.now)),
-)
+pub loop-m-init : goal.loop-m-init
+loop-m-init c =
+    sym (ap length (kept_start (stays_by c.args.assignment.now c.args.l)
+    c.args.es.now))
 
 pub overflow_add-k : goal.overflow_add-k
 overflow_add-k c =
-    let z = count_most (stays_by c.args.assignment.now c.args.l) c.args.es.now c.loop-i.i _ c.loop-i.invariant.1 in
+    let z = count_most (stays_by c.args.assignment.now c.args.l) c.args.es.now c.loop-m.m-index _ c.loop-m.invariant in
     omega arith
 
-pub loop-i-preserved : goal.loop-i-preserved
-loop-i-preserved c = (
-  omega arith,
-  elim c.if-stays.branch [
-    | then-stays w ↦ w.k-is ∙ count_some (stays_by c.args.assignment.now c.args.l) c.args.es.now _ _ c.loop-i-test.true
-        (sym c.stays.ensures ∙ w.if-stays.true) c.loop-i.invariant.1
-    | else-stays w ↦ w.k-is ∙ count_none (stays_by c.args.assignment.now c.args.l) c.args.es.now _ _ c.loop-i-test.true
-        (sym c.stays.ensures ∙ w.if-stays.false) c.loop-i.invariant.1
-  ],
-)
+pub loop-m-preserved : goal.loop-m-preserved
+loop-m-preserved c =
+    elim c.if-stays.branch [
+      | then-stays w ↦ w.k-is ∙ count_some (stays_by c.args.assignment.now c.args.l) c.args.es.now _ _ c.loop-m-test.true
+          (sym c.stays.ensures ∙ w.if-stays.true) c.loop-m.invariant
+      | else-stays w ↦ w.k-is ∙ count_none (stays_by c.args.assignment.now c.args.l) c.args.es.now _ _ c.loop-m-test.true
+          (sym c.stays.ensures ∙ w.if-stays.false) c.loop-m.invariant
+    ]

@@ -5,9 +5,6 @@ use lib.ListN.{length}
 use mathlib.Core.Path.{◌≡◌}
 use Rattle.binary.proofs.keep.count_kept.Given as goal
 
-abbrev pub invariant-loop-i : goal.invariant-loop-i
-invariant-loop-i l =
-    (l.i ≤ length l.es) × (l.k ≡ length (kept_to (stays_by l.assignment l.l) l.es l.i))
-
-abbrev pub decreases-loop-i : goal.decreases-loop-i
-decreases-loop-i l = length l.es - l.i
+abbrev pub invariant-loop-m : goal.invariant-loop-m
+invariant-loop-m l =
+    (l.k ≡ length (kept_to (stays_by l.assignment l.l) l.es l.m-index))

@@ -6,12 +6,7 @@ use lib.Seq.{sets}
 use mathlib.Core.Path.{◌≡◌}
 use Rattle.binary.proofs.keep.put_entries.Given as goal
 
-abbrev pub invariant-loop-i : goal.invariant-loop-i
-invariant-loop-i l =
-    (l.i ≤ length l.es)
-    × (length l.out ≡ length l.initial.out)
-    × (l.k + length (kept_later (stays_by l.assignment l.l) l.es l.i) ≡ l.at + length (kept_by l.assignment l.l l.es))
-    × (sets l.out l.k (kept_later (stays_by l.assignment l.l) l.es l.i) ≡ sets l.initial.out l.at (kept_by l.assignment l.l l.es))
-
-abbrev pub decreases-loop-i : goal.decreases-loop-i
-decreases-loop-i l = length l.es - l.i
+abbrev pub invariant-loop-m : goal.invariant-loop-m
+invariant-loop-m l =
+    (l.k + length (kept_later (stays_by l.assignment l.l) l.es l.m-index) ≡ l.at + length (kept_by l.assignment l.l l.es))
+    × (sets l.out l.k (kept_later (stays_by l.assignment l.l) l.es l.m-index) ≡ sets l.initial.out l.at (kept_by l.assignment l.l l.es))

@@ -18,22 +18,20 @@ pub put_section-at-requires-clause-es_in_bounds : goal.put_section-at-requires-c
 put_section-at-requires-clause-es_in_bounds c =
     let z = from_length (λ l es. section_words (kept_by c.args.assignment.now l es)) c.args.lists.now c.args.n
     c.args.place.now c.requires.placed c.loop-l.l c.loop-l-test.true in
-    omega (arith, c.requires.lists_in_bounds, c.loop-l.invariant.1, c.loop-l.invariant.2)
+    omega (arith, c.requires.lists_in_bounds, c.loop-l.invariant.0)
 
 pub loop-l-preserved : goal.loop-l-preserved
 loop-l-preserved c =
     let z = from_length (λ l es. section_words (kept_by c.args.assignment.now l es)) c.args.lists.now c.args.n
     c.args.place.now c.requires.placed c.loop-l.l c.loop-l-test.true in (
-      omega arith,
-      c.put_section-at.auto.out ∙ c.loop-l.invariant.1,
-      omega (arith, c.put_section-at.ensures.value, c.loop-l.invariant.2),
+      omega (arith, c.put_section-at.ensures.value, c.loop-l.invariant.0),
       from_put (λ l es. section_words (kept_by c.args.assignment.now l es)) c.args.lists.now c.args.n
           c.args.place.now c.requires.placed c.loop-l.l c.loop-l-test.true _ _ _ _
-          c.put_section-at.ensures.fills c.put_section-at.ensures.value ∙ c.loop-l.invariant.3,
+          c.put_section-at.ensures.fills c.put_section-at.ensures.value ∙ c.loop-l.invariant.1,
     )
 
 pub returns : goal.returns
 returns c =
     let d = from_done (λ l es. section_words (kept_by c.args.assignment.now l es)) c.args.lists.now c.args.n
     c.args.place.now c.requires.placed c.loop-l.l c.loop-l-test.false in
-    sym (ap (sets c.loop-l.out c.loop-l.at) d) ∙ c.loop-l.invariant.3
+    sym (ap (sets c.loop-l.out c.loop-l.at) d) ∙ c.loop-l.invariant.1

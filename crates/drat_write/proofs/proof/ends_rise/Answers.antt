@@ -6,15 +6,15 @@ use lib.ListN.{length}
 use Rattle.drat.proofs.ListedLaws.{rises_more, rises_done}
 use Rattle.drat_write.proofs.proof.ends_rise.Goals as goal
 
-pub loop-i-preserved : goal.loop-i-preserved
-loop-i-preserved c =
-    let l = c.loop-i in
+pub loop-end-preserved : goal.loop-end-preserved
+loop-end-preserved c =
+    let l = c.loop-end in
     let a = c.args in
-    let h : l.i < length a.ends.now = omega arith in
-    (omega arith, rises_more l.ok a.last l.a a.ends.now l.i h ∙ l.invariant.1)
+    let h : l.end-index < length a.ends.now = omega arith in
+    rises_more l.ok a.last l.a a.ends.now l.end-index h ∙ l.invariant
 
 pub returns : goal.returns
 returns c =
-    let l = c.loop-i in
+    let l = c.loop-end in
     let a = c.args in
-    sym (ap (λ (t : Bool). l.ok && t) (rises_done a.last l.a a.ends.now l.i c.loop-i-test.false)) ∙ l.invariant.1
+    sym (ap (λ (t : Bool). l.ok && t) (rises_done a.last l.a a.ends.now l.end-index c.loop-end-test.false)) ∙ l.invariant

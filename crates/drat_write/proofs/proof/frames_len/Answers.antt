@@ -8,19 +8,18 @@ use Rattle.drat.specs.Grammar.{opens}
 use Rattle.drat.specs.declared.Kind.{Kind}
 use Rattle.drat_write.proofs.proof.frames_len.Goals as goal
 
-pub loop-i-preserved : goal.loop-i-preserved
-loop-i-preserved c =
+pub loop-kind-preserved : goal.loop-kind-preserved
+loop-kind-preserved c =
     let a = c.args in
-    let l = c.loop-i in
-    let h : l.i < length a.kinds.now = omega arith in
+    let l = c.loop-kind in
+    let h : l.kind-index < length a.kinds.now = omega arith in
     let e = ap (λ (k : Kind). length (opens a.f k)) c.kind_in.ensures in (
-      omega arith,
-      omega (arith, e, c.open_len.ensures, c.end_len.ensures, frames_next a.f a.kinds.now l.i h),
+      omega (arith, e, c.open_len.ensures, c.end_len.ensures, frames_next a.f a.kinds.now l.kind-index h),
       omega (arith, c.open_len.ensures, c.end_len.ensures, opens_le a.f c.kind_in.result, ends_le a.f),
     )
 
 pub returns-clause-value : goal.returns-clause-value
 returns-clause-value c =
     let a = c.args in
-    let l = c.loop-i in
-    omega (arith, frames_done a.f a.kinds.now l.i c.loop-i-test.false)
+    let l = c.loop-kind in
+    omega (arith, frames_done a.f a.kinds.now l.kind-index c.loop-kind-test.false)

@@ -4,9 +4,6 @@ use lib.ListN.{length, drop}
 use Rattle.drat.specs.Grammar.{numbers}
 use Rattle.drat_write.proofs.proof.numbers_len.Given as goal
 
-abbrev pub invariant-loop-i : goal.invariant-loop-i
-invariant-loop-i l =
-    (l.i ≤ length l.codes) × (l.k + length (numbers l.f (drop l.i l.codes)) ≡ length (numbers l.f l.codes)) × (l.k ≤ 6 * l.i)
-
-abbrev pub decreases-loop-i : goal.decreases-loop-i
-decreases-loop-i l = length l.codes - l.i
+abbrev pub invariant-loop-code : goal.invariant-loop-code
+invariant-loop-code l =
+    (l.k + length (numbers l.f (drop l.code-index l.codes)) ≡ length (numbers l.f l.codes)) × (l.k ≤ 6 * l.code-index)

@@ -1,5 +1,5 @@
 use Prim.Native.Nat.{ℕ}
-use mathlib.Core.Path.{sym, ap}
+use mathlib.Core.Path.{sym, ap, ◌∙◌}
 use native.Mathlib.Omega.{arith}
 use lib.Dec.{leb}
 use lib.ListN.{length}
@@ -13,11 +13,12 @@ pub returns-then-codes-ends : goal.returns-then-codes-ends
 returns-then-codes-ends c =
     let a = c.args in
     let p = c.requires in
-    sym (le-leb (length (encode a.f (listed a.codes.now 0 a.ends.now a.kinds.now))) a.room
-    (omega (arith, listed_le a.f a.codes.now a.ends.now a.kinds.now p.coded p.paired p.rising, c.if-codes-ends.true)))
+    let l = listed_le a.f a.codes.now a.ends.now a.kinds.now p.coded p.paired p.rising in
+    le-leb _ a.room c.if-codes-ends.true
+    ∙ sym (le-leb (length (encode a.f (listed a.codes.now 0 a.ends.now a.kinds.now))) a.room (omega (arith, l, c.if-codes-ends.true)))
 
-pub returns : goal.returns
-returns c =
+pub returns-else-codes-ends : goal.returns-else-codes-ends
+returns-else-codes-ends c =
     let a = c.args in
     let p = c.requires in
     let e = listed_length a.f a.codes.now 0 a.ends.now a.kinds.now p.paired p.rising in

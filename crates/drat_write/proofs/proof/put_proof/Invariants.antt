@@ -9,9 +9,6 @@ use Rattle.drat_write.proofs.proof.put_proof.Given as goal
 
 abbrev pub invariant-loop-i : goal.invariant-loop-i
 invariant-loop-i l =
-    (l.i ≤ length l.ends) × (length l.out ≡ length l.initial.out) × (rises_to (length l.codes) l.a (drop l.i l.ends) ≡ true)
+    (rises_to (length l.codes) l.a (drop l.i l.ends) ≡ true)
     × (l.at + length (encode l.f (listed l.codes l.a (drop l.i l.ends) (drop l.i l.kinds))) ≡ length (encode l.f (listed l.codes 0 l.ends l.kinds)))
     × (sets l.out l.at (encode l.f (listed l.codes l.a (drop l.i l.ends) (drop l.i l.kinds))) ≡ sets l.initial.out 0 (encode l.f (listed l.codes 0 l.ends l.kinds)))
-
-abbrev pub decreases-loop-i : goal.decreases-loop-i
-decreases-loop-i l = length l.ends - l.i

@@ -8,7 +8,4 @@ use Prim.Native.Nat.{◌-◌, ◌≤◌}
 use Rattle.sections.proofs.exact.exactly_mirrored.Given as goal
 
 abbrev pub invariant-loop-l : goal.invariant-loop-l
-invariant-loop-l l = (l.l ≤ l.n) × (all_below l.l (mirror_at l.lists l.n) ≡ true) × Tallied [] l.tally
-
-abbrev pub decreases-loop-l : goal.decreases-loop-l
-decreases-loop-l l = l.n - l.l
+invariant-loop-l l = (all_below l.l (mirror_at l.lists l.n) ≡ true) × Tallied [] l.tally

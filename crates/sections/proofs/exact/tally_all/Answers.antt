@@ -7,13 +7,11 @@ pub overflow_add-tally : goal.overflow_add-tally
 overflow_add-tally c =
     omega (
       arith,
-      tally_fits c.args.es.now _ c.loop-i.i c.loop-i-test.true
-          (c.requires.codes c.loop-i.i c.loop-i-test.true) c.loop-i.invariant.1,
+      tally_fits c.args.es.now _ c.loop-e.e-index c.loop-e-test.true
+          (c.requires.codes c.loop-e.e-index c.loop-e-test.true) c.loop-e.invariant,
     )
 
-pub loop-i-preserved : goal.loop-i-preserved
-loop-i-preserved c = (
-  omega arith,
-  tally_more c.args.es.now c.loop-i.tally c.loop-i.i c.loop-i-test.true
-      (c.requires.codes c.loop-i.i c.loop-i-test.true) _ refl c.loop-i.invariant.1,
-)
+pub loop-e-preserved : goal.loop-e-preserved
+loop-e-preserved c =
+    tally_more c.args.es.now c.loop-e.tally c.loop-e.e-index c.loop-e-test.true
+    (c.requires.codes c.loop-e.e-index c.loop-e-test.true) _ refl c.loop-e.invariant

@@ -4,7 +4,4 @@ use mathlib.Core.Path.{◌≡◌}
 use Rattle.sections.proofs.queues.start_heads.Given as goal
 
 abbrev pub invariant-loop-l : goal.invariant-loop-l
-invariant-loop-l l = (l.l ≤ l.n) × (length l.head ≡ length l.initial.head) × ((j : ℕ) → j < l.l → get_or l.head j 0 ≡ get_or l.place j 0 + 1)
-
-abbrev pub decreases-loop-l : goal.decreases-loop-l
-decreases-loop-l l = l.n - l.l
+invariant-loop-l l = ((j : ℕ) → j < l.l → get_or l.head j 0 ≡ get_or l.place j 0 + 1)

@@ -1,5 +1,6 @@
-use Rattle.simplify.proofs.SortLaws.{count_is, sort_dropped, sort_kept, sort_binary, sort_shortened}
-use Rattle.steps.proofs.LiteralLaws.{any_is}
+use Rattle.simplify.proofs.SortLaws.{sort_dropped, sort_kept, sort_binary, sort_shortened}
+use Rattle.base.proofs.KeepLaws.{count_is}
+use Rattle.base.proofs.MemberLaws.{any_is}
 use mathlib.Core.Path.{sym, ◌∙◌}
 use Rattle.simplify.proofs.clause.sort_clause.Goals as goal
 
