@@ -1,12 +1,14 @@
 -- Laws of a run of literals whose users have solver indices: each is only looked up.
-use Prim.Native.Nat.{ℕ, zero, suc, ◌+◌, ◌≤◌, ◌<◌}
+use Rattle.std.specs.Prelude.{Option, None, Ok, Err}
+use Prim.Native.Nat.{ℕ, zero, suc, ◌+◌, ◌≤◌, ◌<◌, max}
 use mathlib.Core.Path.{◌≡◌, refl, sym, ap, ◌∙◌, subst}
-use mathlib.Core.Bool.{Bool, true, false, ◌&&◌, ◌||◌, true≢false}
-use mathlib.Core.List.{List, map}
+use mathlib.Core.Bool.{Bool, false, ◌&&◌, ◌||◌, true≢false}
+use mathlib.Core.List.{List, [], ◌∷◌, map}
+use Rattle.std.specs.List.{list_any}
 use mathlib.Core.Logic.{⊎_elim}
 use native.Mathlib.Omega.{arith}
 use lib.Dec.{ltb}
-use lib.ListN.{length, get_or, set, take, replicate, length-map, length-set, length-take, length-replicate}
+use lib.ListN.{length, get_or, set, take, length-map, length-set, length-take}
 use lib.Seq.{sets}
 use borrow.Author.Tests.{ltb-false}
 use Rattle.base.specs.Bounded.{any_of}
@@ -16,18 +18,18 @@ use Rattle.base.proofs.Truth.{same}
 use Rattle.scope.specs.Literals.{code_of, index_of, sign_of}
 use Rattle.scope.specs.Table.{word}
 use Rattle.scope.proofs.ResultLaws.{word_none, word_some}
-use Rattle.table.specs.declared.FoundSolver.{FoundSolver}
+use Rattle.scope.specs.declared.Solver.{Solver}
 use Rattle.table.specs.Found.{found_solver}
 use Rattle.naming.specs.Parts.{is_unsampled, MapBelow}
 use Rattle.held.specs.Parts.{held_word, held_code, HeldTo, HeldRun, none, more, HeldTried}
 
 -- ---- a user that has a solver index already
 
-pub held_none : (gu sg : List ℕ) (u : ℕ) → get_or gu u 0 ≡ 0 → FoundSolver.Nothing ≡ found_solver (held_word gu sg u)
+pub held_none : (gu sg : List ℕ) (u : ℕ) → get_or gu u 0 ≡ 0 → None ≡ found_solver (held_word gu sg u)
 unfolding held_word word
 held_none gu sg u e = rw e
 
-pub held_some : (gu sg : List ℕ) (u g : ℕ) (f : FoundSolver) → get_or gu u 0 ≡ g + 1 → f ≡ found_solver (get_or sg g 0) → f ≡ found_solver (held_word gu sg u)
+pub held_some : (gu sg : List ℕ) (u g : ℕ) (f : Option Solver) → get_or gu u 0 ≡ g + 1 → f ≡ found_solver (get_or sg g 0) → f ≡ found_solver (held_word gu sg u)
 unfolding held_word
 held_some gu sg u g f e q = q ∙ ap found_solver (sym (word_some 0 (λ g. get_or sg g 0) _ g e))
 
@@ -49,6 +51,14 @@ held_code_lem gu sg c s e = omega arith
 pub run_up : {gu sg lits : List ℕ} {a : ℕ} {out : List ℕ} {b : ℕ} {m : List ℕ} → HeldRun gu sg lits a out b m → a ≤ b
 run_up none = omega arith
 run_up (more s r l e) = let x = run_up r in omega arith
+
+-- it ends at the end of the literals, or where it starts
+pub run_end : {gu sg lits : List ℕ} {a : ℕ} {out : List ℕ} {b : ℕ} {m : List ℕ} → HeldRun gu sg lits a out b m → b ≤ max a (length lits)
+run_end none = omega arith
+run_end (more s r l e) = omega arith
+
+pub run_at : {gu sg lits : List ℕ} {a : ℕ} {out : List ℕ} {b n : ℕ} {m : List ℕ} → b ≡ n → HeldRun gu sg lits a out b m → HeldRun gu sg lits a out n m
+run_at {gu} {sg} {lits} {a} {out} {b} {n} {m} e r = subst (λ (k : ℕ). HeldRun gu sg lits a out k m) e r
 
 -- from the start on: whose users have solver indices, and what was stored
 pub run_held : {gu sg lits out : List ℕ} {b : ℕ} {m : List ℕ} → HeldRun gu sg lits 0 out b m
@@ -80,9 +90,11 @@ held_small gu sg u s m e = go (get_or gu u 0) refl
         let b = m.at g in
         omega arith
 
--- a test that is asked for or not
-pub asked : (a b r : Bool) → a ≡ true → r ≡ b → r ≡ a && b
-asked a b r e q = rw e q
+-- a test that std makes
+pub any_is : {A : Type 0} (p : A → Bool) (xs : List A) → list_any p xs ≡ any_of p xs
+unfolding any_of
+any_is p [] = refl
+any_is p (x ∷ xs) = ap (λ (b : Bool). p x || b) (any_is p xs)
 
 -- ---- what was tried
 
@@ -94,13 +106,12 @@ pub part_fits : (n m : ℕ) (xs : List ℕ) → n ≤ m → length (take n xs) �
 part_fits n m xs l = let e = length-take n xs in omega arith
 
 pub tried_none : (gu sg records lits : List ℕ) (sampling : Bool) (out : List ℕ) → HeldTried gu sg records lits sampling
-    (record { filled = false; lead = 0 }) out
-    out
+    (Err 0) out out
 tried_none gu sg records lits sampling out =
     record { lead = record { most = omega arith; held = λ i l. absurd (omega arith) }; all = λ e. absurd (true≢false (sym e)); stored = refl }
 
 pub tried_some : (gu sg records lits : List ℕ) (sampling : Bool) (n : ℕ) (codes codes' out : List ℕ) → HeldRun gu sg lits 0 codes n codes'
-    → HeldTried gu sg records lits sampling (record { filled = false; lead = n }) out out
+    → HeldTried gu sg records lits sampling (Err n) out out
 tried_some gu sg records lits sampling n codes codes' out r =
     record { lead = (run_held r).0; all = λ e. absurd (true≢false (sym e)); stored = refl }
 
@@ -113,14 +124,14 @@ pub tried_all : (gu sg records lits : List ℕ) (sampling b : Bool) (n : ℕ) (c
     → b ≡ sampling && any_of (λ c. is_unsampled gu records (index_of c)) lits
     → b ≡ false
     → out' ≡ sets out 0 (take n codes')
-    → HeldTried gu sg records lits sampling (record { filled = true; lead = n }) out out'
+    → HeldTried gu sg records lits sampling (Ok tt) out out'
 tried_all gu sg records lits sampling b n codes codes' out out' few l places k r q e s =
     let h = run_held r in
     let m = h.0.most in
     let z : n ≡ length lits = omega arith in
     let c = copy_end (held_code gu sg) codes lits codes' n k h.1 in
     record {
-      lead = h.0;
+      lead = subst (λ (j : ℕ). HeldTo gu sg lits j) z h.0;
       all = λ _. record { few = few; places = places; held = subst (λ (j : ℕ). HeldTo gu sg lits j) z h.0; sampled = sym q ∙ e };
       stored = s ∙ ap (λ (w : List ℕ). sets out 0 w)
           (stored_part codes codes' (map (held_code gu sg) lits) n c (z ∙ sym (length-map lits (held_code gu sg))) (omega arith));
@@ -128,7 +139,3 @@ tried_all gu sg records lits sampling b n codes codes' out out' few l places k r
 
 pub fits_both : (n outs : ℕ) → ltb 8192 n || ltb outs n ≡ false → (n ≤ 8192) × (n ≤ outs)
 fits_both n outs e = (ltb-false 8192 n (or_left (ltb 8192 n) _ e), ltb-false outs n (or_right (ltb 8192 n) _ e))
-
--- a list cleared to m words has room for n
-pub cleared_fits : (n m : ℕ) → n ≤ m → n ≤ length {A = ℕ} (replicate m 0)
-cleared_fits n m l = let e = length-replicate {A = ℕ} m 0 in omega arith

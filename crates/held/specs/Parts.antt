@@ -1,12 +1,12 @@
 -- Parts of Pose over the lists that they read: users that have a solver index already.
-use Rattle.std.specs.Prelude.{ℕ, ◌+◌, ◌-◌, ◌≤◌, ◌<◌, ◌≡◌, Bool, true, false, ◌&&◌, List, map, ◌≢◌, length, get_or, set}
+use Rattle.std.specs.Prelude.{ℕ, ◌+◌, ◌-◌, ◌≤◌, ◌<◌, ◌≡◌, Bool, true, false, ◌&&◌, List, map, ◌≢◌, length, get_or, set, Result, Ok, Err}
 use Rattle.std.proofs.lemmas.List.Edits.{sets}
 use Rattle.base.specs.Bounded.{any_of}
 use Rattle.base.specs.Choice.{pick}
 use Rattle.scope.specs.Literals.{code_of, index_of, sign_of}
 use Rattle.scope.specs.Table.{word}
 use Rattle.naming.specs.Parts.{is_unsampled}
-use Rattle.held.specs.declared.Tried.{Tried}
+use Rattle.std.specs.Result.{is_ok}
 
 -- the word of the solver index that a user has, 0 for none
 unfoldable pub held_word : List ℕ → List ℕ → ℕ → ℕ
@@ -35,9 +35,14 @@ pub record AllHeld (gu sg records lits : List ℕ) (sampling : Bool) (outs : ℕ
   pub held : HeldTo gu sg lits (length lits)
   pub sampled : sampling && any_of (λ c. is_unsampled gu records (index_of c)) lits ≡ false
 
--- Where the answer is that all were filled, it is so, and they are; where it is not, nothing is. Either way `lead` literals from the start on are of users
+-- the literals from the start on that an answer tells of: all n, or the number that it gives
+abbrev pub lead_of : ℕ → Result (Unit {0}) ℕ → ℕ
+lead_of n (Ok _) = n
+lead_of n (Err k) = k
+
+-- Where the answer is that all were filled, it is so, and they are; where it is not, nothing is. Either way the literals that it tells of are of users
 -- with solver indices.
-pub record HeldTried (gu sg records lits : List ℕ) (sampling : Bool) (r : Tried) (out out' : List ℕ) : Type 0 where
-  pub lead : HeldTo gu sg lits r.lead
-  pub all : r.filled ≡ true → AllHeld gu sg records lits sampling (length out)
-  pub stored : out' ≡ pick r.filled (sets out 0 (map (held_code gu sg) lits)) out
+pub record HeldTried (gu sg records lits : List ℕ) (sampling : Bool) (r : Result (Unit {0}) ℕ) (out out' : List ℕ) : Type 0 where
+  pub lead : HeldTo gu sg lits (lead_of (length lits) r)
+  pub all : is_ok r ≡ true → AllHeld gu sg records lits sampling (length out)
+  pub stored : out' ≡ pick (is_ok r) (sets out 0 (map (held_code gu sg) lits)) out
