@@ -26,10 +26,9 @@ struct Walk {
 }
 
 // Each head is the first entry.
-fn start_heads(place: &[usize], n: usize, head: &mut [usize])
+fn start_heads(place: &[usize], n: usize, head: &mut [usize; 8192])
     requires n_bound { n ≤ 8192 }
     requires place_len { length place.now ≡ 8193 }
-    requires head_len { length head.old ≡ 8192 }
     requires by_index { (l : ℕ) → l < n → get_or place.now l 0 < get_or place.now (l + 1) 0 }
     ensures { (l : ℕ) → l < n → get_or head.new l 0 ≡ get_or place.now l 0 + 1 }
 {
@@ -46,10 +45,9 @@ fn meet_mirror(
     x: usize,
     h: usize,
     y: usize,
-    head: &mut [usize],
+    head: &mut [usize; 8192],
 ) -> Met
     requires placed { Placed lists.now n place.now }
-    requires head_len { length head.old ≡ 8192 }
     requires even { Even lists.now n place.now head.old }
     requires facing { Facing lists.now n place.now head.old x h y }
     ensures { Even lists.now n place.now head.new }
@@ -67,10 +65,9 @@ fn meet_mirror(
 }
 
 // What comes of the head of x.
-fn meet_head(lists: &[u32], place: &[usize], n: usize, x: usize, head: &mut [usize]) -> Met
+fn meet_head(lists: &[u32], place: &[usize], n: usize, x: usize, head: &mut [usize; 8192]) -> Met
     requires placed { Placed lists.now n place.now }
     requires inside { Inside lists.now n }
-    requires head_len { length head.old ≡ 8192 }
     requires even { Even lists.now n place.now head.old }
     ensures { Even lists.now n place.now head.new }
 {
@@ -91,8 +88,7 @@ fn meet_head(lists: &[u32], place: &[usize], n: usize, x: usize, head: &mut [usi
 
 impl Walk {
     // The section that is looked at: the last one on the path, else the next one.
-    fn looked_at(self, path: &[usize]) -> usize
-        requires path_len { length path.now ≡ 8192 }
+    fn looked_at(self, path: &[usize; 8192]) -> usize
         requires waiting_bound { self.waiting ≤ 8192 }
     {
         if self.waiting == 0 {
@@ -128,8 +124,7 @@ impl Walk {
     }
 
     // The section of y is put on the path. Where the path is full, the walk ends.
-    fn goes_to(mut self, y: usize, path: &mut [usize]) -> Walk
-        requires path_len { length path.old ≡ 8192 }
+    fn goes_to(mut self, y: usize, path: &mut [usize; 8192]) -> Walk
         requires going { Going self.next self.waiting self.turns }
         ensures { Turned self.next self.turns result.next result.waiting result.turns }
     {
@@ -142,8 +137,7 @@ impl Walk {
         self
     }
 
-    fn after(self, met: Met, path: &mut [usize]) -> Walk
-        requires path_len { length path.old ≡ 8192 }
+    fn after(self, met: Met, path: &mut [usize; 8192]) -> Walk
         requires going { Going self.next self.waiting self.turns }
         ensures { Turned self.next self.turns result.next result.waiting result.turns }
     {
@@ -157,10 +151,9 @@ impl Walk {
 }
 
 // Whether every queue is at its end.
-fn all_taken(place: &[usize], n: usize, head: &[usize]) -> bool
+fn all_taken(place: &[usize], n: usize, head: &[usize; 8192]) -> bool
     requires n_bound { n ≤ 8192 }
     requires place_len { length place.now ≡ 8193 }
-    requires head_len { length head.now ≡ 8192 }
     ensures { result ≡ true → (l : ℕ) → l < n → get_or head.now l 0 ≡ get_or place.now (l + 1) 0 }
 {
     head[..n] == place[1..n + 1]
