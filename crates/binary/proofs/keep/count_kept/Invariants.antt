@@ -1,6 +1,5 @@
 use Rattle.binary.specs.Entries.{stays_by}
 use Rattle.base.proofs.KeepLaws.{kept_to}
-use Prim.Native.Nat.{◌≤◌, ◌-◌}
 use lib.ListN.{length}
 use mathlib.Core.Path.{◌≡◌}
 use Rattle.binary.proofs.keep.count_kept.Given as goal
