@@ -1,8 +1,7 @@
-use Prim.Native.Nat.{◌+◌, ◌*◌, ◌/◌, ◌<◌}
+use Prim.Native.Nat.{◌/◌, ◌<◌}
 use mathlib.Core.Path.{◌≡◌}
 use native.Mathlib.Omega.{arith}
 use lib.ListN.{length}
-use Rattle.dimacs.specs.Cnf.{largest}
 use Rattle.dimacs.proofs.ClauseLaws.{largest_at, largest_most, magnitudes_turn}
 use Rattle.dimacs_write.proofs.largest_of.Goals as goal
 

@@ -1,5 +1,5 @@
-use Prim.Native.Nat.{ℕ, ◌-◌, ◌/◌, ◌≤◌, ◌<◌}
-use lib.ListN.{length, get_or}
+use Prim.Native.Nat.{ℕ, ◌/◌, ◌≤◌, ◌<◌}
+use lib.ListN.{get_or}
 use Rattle.dimacs.specs.Cnf.{magnitude, largest}
 use Rattle.dimacs_write.proofs.largest_of.Given as goal
 

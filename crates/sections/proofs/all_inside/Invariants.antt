@@ -1,6 +1,6 @@
 use Rattle.sections.proofs.InsideLaws.{low_at}
 use mathlib.Core.Bool.{true}
-use Prim.Native.Nat.{ℕ, ◌-◌, ◌≤◌, ◌<◌}
+use Prim.Native.Nat.{ℕ, ◌<◌}
 use mathlib.Core.Path.{◌≡◌}
 use Rattle.sections.proofs.all_inside.Given as goal
 

@@ -1,5 +1,4 @@
 use Rattle.sections.proofs.CutLaws.{CutTo}
-use Prim.Native.Nat.{◌-◌}
 use Rattle.sections.proofs.cut_sections.Given as goal
 
 abbrev pub invariant-loop-l : goal.invariant-loop-l

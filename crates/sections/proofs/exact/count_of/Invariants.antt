@@ -1,7 +1,6 @@
 use Rattle.base.proofs.KeepLaws.{kept_to}
 use lib.Dec.{eqb}
 use lib.ListN.{length}
-use Prim.Native.Nat.{◌-◌, ◌≤◌}
 use mathlib.Core.Path.{◌≡◌}
 use Rattle.sections.proofs.exact.count_of.Given as goal
 

@@ -3,8 +3,7 @@ use Rattle.scope.specs.Binary.{sections_of, has_mirror}
 use Rattle.base.specs.Bounded.{every_of}
 use mathlib.Core.Bool.{true}
 use mathlib.Core.Path.{◌≡◌}
-use lib.ListN.{length, take}
-use Prim.Native.Nat.{◌-◌, ◌≤◌}
+use lib.ListN.{take}
 use Rattle.sections.proofs.exact.each_mirrored.Given as goal
 
 abbrev pub invariant-loop-m : goal.invariant-loop-m

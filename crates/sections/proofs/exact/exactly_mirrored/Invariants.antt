@@ -4,7 +4,6 @@ use Rattle.base.specs.Bounded.{all_below}
 use mathlib.Core.List.{[]}
 use mathlib.Core.Bool.{true}
 use mathlib.Core.Path.{◌≡◌}
-use Prim.Native.Nat.{◌-◌, ◌≤◌}
 use Rattle.sections.proofs.exact.exactly_mirrored.Given as goal
 
 abbrev pub invariant-loop-l : goal.invariant-loop-l

@@ -1,6 +1,5 @@
 use Rattle.sections.specs.Tally.{Tallied}
-use lib.ListN.{length, take}
-use Prim.Native.Nat.{◌-◌, ◌≤◌}
+use lib.ListN.{take}
 use Rattle.sections.proofs.exact.tally_all.Given as goal
 
 abbrev pub invariant-loop-e : goal.invariant-loop-e

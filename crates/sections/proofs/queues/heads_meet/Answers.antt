@@ -1,5 +1,4 @@
 use native.Mathlib.Omega.{arith}
-use mathlib.Core.Path.{refl}
 use Rattle.sections.proofs.QueueLaws.{even_start, even_end}
 use Rattle.sections.proofs.queues.heads_meet.Goals as goal
 
