@@ -101,7 +101,14 @@ pub(crate) fn deletes_len(
 {
     let mut used: usize = 0;
     for l in 0..n {
-        used += section_len(gs, assignment, f, l as u32, section_of(lists, place, n, l), room - used)?;
+        used += section_len(
+            gs,
+            assignment,
+            f,
+            l as u32,
+            section_of(lists, place, n, l),
+            room - used,
+        )?;
     }
     Ok(used)
 }
@@ -148,6 +155,14 @@ pub(crate) fn put_deletes(
 {
     let mut at = 0;
     for l in 0..n {
-        at = put_section(gs, assignment, f, l as u32, section_of(lists, place, n, l), bytes, at);
+        at = put_section(
+            gs,
+            assignment,
+            f,
+            l as u32,
+            section_of(lists, place, n, l),
+            bytes,
+            at,
+        );
     }
 }

@@ -78,6 +78,12 @@ pub(crate) fn put_lists(
 {
     let mut at = 0;
     for l in 0..n {
-        at = put_section(assignment, l as u32, section_of(lists, place, n, l), out, at);
+        at = put_section(
+            assignment,
+            l as u32,
+            section_of(lists, place, n, l),
+            out,
+            at,
+        );
     }
 }

@@ -5,7 +5,6 @@ use Rattle.binary.specs.Entries.{unheld_by}
 use Rattle.binary.proofs.EachLaws.{filled_all, any_empty, any_passed, any_found, any_done}
 use borrow.Author.Tests.{eq-eqb}
 use mathlib.Core.Path.{sym, ap, ◌∙◌}
-use native.Mathlib.Omega.{arith}
 use Rattle.binary.proofs.deletes.any_unheld.Goals as goal
 use Rattle.binary.proofs.deletes.any_unheld.Goals.{then-place-l+in-Some, else-place-l}
 

@@ -2,7 +2,7 @@ use Rattle.base.specs.Bounded.{any_of}
 use Rattle.sections.specs.Places.{Placed}
 use Rattle.binary.specs.Entries.{unheld_by}
 use Rattle.binary.proofs.EachLaws.{from, filled}
-use Prim.Native.Nat.{ℕ, ◌≤◌, ◌-◌}
+use Prim.Native.Nat.{ℕ}
 use mathlib.Core.List.{List}
 use mathlib.Core.Path.{◌≡◌}
 use Rattle.binary.proofs.deletes.any_unheld.Given as goal

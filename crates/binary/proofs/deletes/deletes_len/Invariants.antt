@@ -2,7 +2,7 @@ use Rattle.scope.specs.Binary.{sections_of}
 use Rattle.drat.specs.Grammar.{encode}
 use Rattle.binary.specs.Entries.{deletes_by, bytes_by}
 use Rattle.binary.proofs.EachLaws.{from}
-use Prim.Native.Nat.{◌+◌, ◌≤◌, ◌-◌}
+use Prim.Native.Nat.{◌+◌, ◌≤◌}
 use lib.ListN.{length}
 use mathlib.Core.Path.{◌≡◌}
 use Rattle.binary.proofs.deletes.deletes_len.Given as goal

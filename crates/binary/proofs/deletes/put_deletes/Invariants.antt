@@ -3,7 +3,7 @@ use Rattle.drat.specs.Grammar.{encode}
 use Rattle.binary.specs.Entries.{deletes_by, bytes_by}
 use Rattle.binary.proofs.EachLaws.{from}
 use lib.Seq.{sets}
-use Prim.Native.Nat.{◌+◌, ◌≤◌, ◌-◌}
+use Prim.Native.Nat.{◌+◌}
 use lib.ListN.{length}
 use mathlib.Core.Path.{◌≡◌}
 use Rattle.binary.proofs.deletes.put_deletes.Given as goal

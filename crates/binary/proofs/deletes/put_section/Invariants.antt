@@ -1,7 +1,7 @@
 use Rattle.drat.specs.Grammar.{encode}
 use Rattle.binary.specs.Entries.{goes_by, delete_by, deletes_by}
 use Rattle.binary.proofs.RowLaws.{steps_later}
-use Prim.Native.Nat.{◌+◌, ◌≤◌, ◌-◌}
+use Prim.Native.Nat.{◌+◌}
 use lib.ListN.{length}
 use lib.Seq.{sets}
 use mathlib.Core.Path.{◌≡◌}

@@ -1,7 +1,7 @@
 use Rattle.drat.specs.Grammar.{encode}
 use Rattle.binary.specs.Entries.{goes_by, delete_by, deletes_by}
 use Rattle.binary.proofs.RowLaws.{steps_later}
-use Prim.Native.Nat.{◌+◌, ◌≤◌, ◌-◌}
+use Prim.Native.Nat.{◌+◌, ◌≤◌}
 use lib.ListN.{length}
 use mathlib.Core.Path.{◌≡◌}
 use Rattle.binary.proofs.deletes.section_len.Given as goal

@@ -1,7 +1,7 @@
 use Rattle.scope.specs.Binary.{sections_of}
 use Rattle.binary.specs.Entries.{kept_by, entries_by}
 use Rattle.binary.proofs.EachLaws.{from}
-use Prim.Native.Nat.{◌+◌, ◌≤◌, ◌-◌}
+use Prim.Native.Nat.{◌+◌, ◌≤◌}
 use lib.ListN.{length, get_or}
 use mathlib.Core.Path.{◌≡◌}
 use Rattle.binary.proofs.keep.count_all.Given as goal

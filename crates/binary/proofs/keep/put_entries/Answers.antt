@@ -1,6 +1,6 @@
 use Rattle.binary.specs.Entries.{stays_by}
 use Rattle.binary.proofs.RowLaws.{kept_none, kept_count_lem, kept_put, kept_pass, kept_last}
-use lib.ListN.{length, length-set}
+use lib.ListN.{length}
 use lib.Seq.{sets}
 use mathlib.Core.Path.{sym, ap, ◌∙◌}
 use native.Mathlib.Omega.{arith}

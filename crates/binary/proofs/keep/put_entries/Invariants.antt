@@ -1,6 +1,6 @@
 use Rattle.binary.specs.Entries.{stays_by, kept_by}
 use Rattle.binary.proofs.RowLaws.{kept_later}
-use Prim.Native.Nat.{◌+◌, ◌≤◌, ◌-◌}
+use Prim.Native.Nat.{◌+◌}
 use lib.ListN.{length}
 use lib.Seq.{sets}
 use mathlib.Core.Path.{◌≡◌}

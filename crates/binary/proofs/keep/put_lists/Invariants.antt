@@ -2,7 +2,7 @@ use Rattle.scope.specs.Binary.{sections_of, section_words}
 use Rattle.binary.specs.Entries.{kept_by, words_by}
 use Rattle.binary.proofs.EachLaws.{from}
 use lib.Seq.{sets}
-use Prim.Native.Nat.{◌+◌, ◌≤◌, ◌-◌}
+use Prim.Native.Nat.{◌+◌}
 use lib.ListN.{length}
 use mathlib.Core.Path.{◌≡◌}
 use Rattle.binary.proofs.keep.put_lists.Given as goal
