@@ -20,7 +20,6 @@ use Rattle.scope.specs.Binary.{sections_of, section_at, each_section, filled_cod
 use Rattle.scope.proofs.BinaryLaws.{sections_length, each_next, each_end}
 use Rattle.sections.specs.Places.{Placed}
 use Rattle.scope.specs.declared.Refusal.{Refusal}
-use Rattle.scope.specs.declared.Refusal.TheVariants.{Short}
 use Rattle.steps.specs.Refusals.{laid}
 use Rattle.binary.proofs.RowLaws.{row_length, row_put, row_whole, row_refused, row_done}
 
@@ -106,19 +105,6 @@ at_length lists n place p l h =
       length-take (get_or place (l + 1) 0 - (get_or place l 0 + 1)) (drop (get_or place l 0 + 1) lists),
       length-drop (get_or place l 0 + 1) lists,
     )
-
--- Where the section of l stands, in numbers: what its reading asks.
-pub record Stands (lists place : List ℕ) (l : ℕ) : Type 0 where
-  pub few : l < 8192
-  pub there : l + 1 < length place
-  pub rises : get_or place l 0 < get_or place (l + 1) 0
-  pub within : get_or place (l + 1) 0 ≤ length lists
-
-pub stands : (lists : List ℕ) (n : ℕ) (place : List ℕ) → Placed lists n place → (l : ℕ) → l < n → Stands lists place l
-stands lists n place p l h =
-    let a = p.few in
-    let b = p.size in
-    record { few = omega arith; there = omega arith; rises = p.rises l h; within = p.within l h }
 
 -- what is kept of it takes no more
 pub at_kept : (q : ℕ → Bool) (lists : List ℕ) (n : ℕ) (place : List ℕ) → Placed lists n place → (l : ℕ) → l < n

@@ -1,30 +1,28 @@
 -- Past 15 and 8 every clause that goes can be named, and its literals are below 8,192.
-use Prim.Native.Nat.{ℕ, ◌+◌, ◌/◌, ◌≤◌, ◌<◌}
+use Prim.Native.Nat.{ℕ, ◌+◌, ◌≤◌}
 use mathlib.Core.Path.{◌≡◌, refl, sym, ap, ap₂, ◌∙◌, subst}
-use mathlib.Core.Bool.{Bool, true, false, ◌&&◌, not, true≢false}
-use mathlib.Core.Logic.{◌≢◌}
+use mathlib.Core.Bool.{Bool, true, false}
 use mathlib.Core.List.{List, [], ◌∷◌}
 use native.Mathlib.Omega.{arith}
 use lib.Dec.{eqb}
 use lib.ListN.{length, get_or}
 use lib.Seq.{sets}
-use borrow.Author.Tests.{eqb-false, lt-ltb, le-ltb}
+use borrow.Author.Tests.{eqb-false}
 use Rattle.base.specs.Bounded.{any_of}
 use Rattle.base.proofs.MemberLaws.{or_left, or_right}
-use Rattle.drat.specs.Grammar.{encode_step, Codes}
+use Rattle.drat.specs.Grammar.{encode_step}
 use Rattle.drat.specs.declared.Format.{Format}
 use Rattle.scope.specs.Literals.{index_of, not_lit}
 use Rattle.scope.specs.Table.{Table, table_of}
 use Rattle.scope.specs.Marks.{not_held, unheld}
 use Rattle.scope.specs.Sound.{soundb}
 use Rattle.scope.specs.Write.{rename_lit, rename_lits, outside}
-use Rattle.scope.specs.Binary.{sections_of, section_at, mirrored, filled_codes}
+use Rattle.scope.specs.Binary.{section_at, mirrored, filled_codes}
 use Rattle.scope.proofs.SoundLaws.{sound_of}
 use Rattle.scope.proofs.BinaryLaws.{pair_held, not_index}
-use Rattle.sections.specs.Places.{Placed}
 use Rattle.steps.specs.Names.{names_by}
-use Rattle.steps.proofs.LiteralLaws.{nameable, names_codes}
-use Rattle.binary.specs.Entries.{stays_by, goes_as, goes_by, clause_by, delete_by, unheld_by, Pair, Named, AllNamed, Rising, Small}
+use Rattle.steps.proofs.LiteralLaws.{nameable}
+use Rattle.binary.specs.Entries.{goes_as, goes_by, clause_by, delete_by, unheld_by, AllNamed, Small}
 use Rattle.binary.proofs.EachLaws.{at}
 
 -- the map and the watermark of a sound table
@@ -53,24 +51,7 @@ all_named solver gs ss w h e l i k =
       second = eqb-false (get_or gs (index_of m) 0) 0 b;
     }
 
--- those of the section of l, by its places
-pub named_at : (gs lists : List ℕ) (n : ℕ) (place : List ℕ) → AllNamed gs (sections_of n lists) → Placed lists n place → (l : ℕ) → l < n
-    → Named gs l (at lists place l)
-named_at gs lists n place a p l h = subst (λ (es : List ℕ). Named gs l es) (p.section l h) (a l)
-
--- the places alone
-pub rising : (lists : List ℕ) (n : ℕ) (place : List ℕ) → Placed lists n place → Rising n place
-rising lists n place p = record { few = p.few; size = p.size; rises = p.rises }
-
 -- ---- a clause
-
--- not l has the index of l
-pub pair_not : (gs : List ℕ) (l m x : ℕ) → Pair gs l m → x / 2 ≡ l / 2 → Pair gs x m
-pair_not gs l m x p e = record {
-  small = p.small;
-  first = subst (λ (s : ℕ). get_or gs s 0 ≢ 0) (sym e) p.first;
-  second = p.second;
-}
 
 module _ (gs : List ℕ) (x m : ℕ) where
   -- both named
@@ -78,25 +59,7 @@ module _ (gs : List ℕ) (x m : ℕ) where
   unfolding rename_lits
   pair_named a b i j = ap₂ (λ (y z : ℕ). y ∷ z ∷ []) i j
 
-  pub pair_codes : (ls : List ℕ) → Pair gs x m → ls ≡ names_by gs true (x ∷ m ∷ []) → Codes ls
-  pair_codes ls p e = subst (λ (xs : List ℕ). Codes xs) (sym e) (names_codes gs true (x ∷ m ∷ []) p.small (λ q. absurd (true≢false q)))
-
 -- ---- the entry m under l, where x is not l
-
-goes_not : (s : Bool) → false ≡ not s && false
-goes_not true = refl
-goes_not false = refl
-
-goes_so : (s : Bool) → not s ≡ not s && true
-goes_so true = refl
-goes_so false = refl
-
-pub goes_later : (assignment : List ℕ) (l x m : ℕ) → m ≤ x → false ≡ goes_as assignment l x m
-goes_later assignment l x m h = goes_not (stays_by assignment l m) ∙ ap (λ (b : Bool). not (stays_by assignment l m) && b) (sym (le-ltb x m h))
-
-pub goes_first : (assignment : List ℕ) (l x m : ℕ) (s : Bool) → s ≡ stays_by assignment l m → x < m → not s ≡ goes_as assignment l x m
-goes_first assignment l x m s e h =
-    ap not e ∙ goes_so (stays_by assignment l m) ∙ ap (λ (b : Bool). not (stays_by assignment l m) && b) (sym (lt-ltb x m h))
 
 module _ (gs : List ℕ) (l x m : ℕ) (e : x ≡ not_lit l) where
   pub goes_is : (assignment : List ℕ) (r b : Bool) → r ≡ goes_as assignment l x m → r ≡ b → goes_by assignment l m ≡ b

@@ -8,7 +8,7 @@ use mathlib.Core.List.{List, [], ◌∷◌}
 use native.Mathlib.Omega.{arith}
 use lib.ListN.{length}
 use lib.Seq.{sets}
-use borrow.Author.Tests.{lt-ltb, le-ltb, ltb-false}
+use borrow.Author.Tests.{lt-ltb, le-ltb}
 use Rattle.base.specs.Choice.{pick}
 use Rattle.base.specs.Answer.{Answer, accepted, refused}
 use Rattle.base.specs.Bounded.{any_of}
@@ -26,7 +26,6 @@ use Rattle.scope.proofs.MarkLaws.{lits_else}
 use Rattle.scope.proofs.BinaryLaws.{sections_length, each_words}
 use Rattle.scope.specs.declared.Refusal.{Refusal}
 use Rattle.scope.specs.declared.Refusal.TheVariants.{Unsound, Short}
-use Rattle.scope.specs.Refusals.{number}
 use Rattle.steps.specs.Refusals.{laid}
 use Rattle.steps.proofs.WriteLaws.{laid_done, laid_refused}
 use Rattle.binary.specs.declared.Thinned.{Thinned}
@@ -59,9 +58,6 @@ module _ (ws es bs o b : List ℕ) where
   fits r m h k x y p q u v e l i =
       let w = laid_done bs (length b) k r p q in
       by_room false _ x y (rw (le-ltb (length o) (length ws) l) w.0) (λ d. Ok (record { words = e d; half = i d; bytes = w.1 d })) u v
-
-pub laid_room : (bs : List ℕ) (room k : ℕ) (r : Result ℕ Refusal) → r ≡ laid bs room → r ≡ Ok k → length bs ≤ room
-laid_room bs room k r p q = ltb-false room (length bs) (laid_done bs room k r p q).0
 
 -- how many words there are
 pub words_count : (assignment : List ℕ) (n : ℕ) (lists : List ℕ) → length (words_by assignment (sections_of n lists))

@@ -347,9 +347,6 @@ module _ (gs lits : List ℕ) (n : Nameable gs true lits) (o : List ℕ) (e : le
     pub clause_written : Written (take (length lits) m)
     clause_written = let w = names-written gs true lits o m e q n.few (codes lits) in record { codes = w.0; few = w.1 }
 
-    pub clause_within : length lits ≤ length m
-    clause_within = names_within gs true lits o m e q
-
   module _ (values : List ℕ) where
     rest_most : length (unfalse_by values lits) ≤ length lits
     rest_most = keep_length (λ c. not (false_by values c)) lits

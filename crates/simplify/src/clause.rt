@@ -11,6 +11,15 @@ use scope::Simplified;
 use steps::rename::rename_lit;
 use table::word_at;
 
+// A clause whose literals all have holders, with the lists that it is simplified by.
+#[derive(Clone, Copy)]
+pub struct Clause<'a> {
+    pub gs: &'a [u32],
+    pub assignment: &'a [u32],
+    pub lits: &'a [u32],
+    pub ghost nameable: { Nameable gs.now true lits.now },
+}
+
 fn is_true(assignment: &[u32], code: u32) -> bool
     ensures { result ≡ true_by assignment.now code }
 {
@@ -56,18 +65,16 @@ pub fn sort_clause(assignment: &[u32], lits: &[u32]) -> Simplified
 }
 
 // The literals that are not false, from the start of `out`: under global names, or as given.
-pub fn keep_rest(
-    gs: &[u32],
-    assignment: &[u32],
-    named: bool,
-    lits: &[u32],
-    out: &mut [u32],
-) -> usize
-    requires nameable { Nameable gs.now true lits.now }
-    requires lits_in_bounds { length (unfalse_by assignment.now lits.now) ≤ length out.old }
-    ensures value { result ≡ length (unfalse_by assignment.now lits.now) }
-    ensures fills { Fills (change out.old out.new) 0 (names_by gs.now named (unfalse_by assignment.now lits.now)) }
+pub fn keep_rest(whole: &Clause, named: bool, out: &mut [u32]) -> usize
+    requires { length (unfalse_by whole.now.assignment.now whole.now.lits.now) ≤ length out.old }
+    ensures value { result ≡ length (unfalse_by whole.now.assignment.now whole.now.lits.now) }
+    ensures fills { Fills (change out.old out.new) 0 (names_by whole.now.gs.now named (unfalse_by whole.now.assignment.now whole.now.lits.now)) }
 {
+    let Clause {
+        gs,
+        assignment,
+        lits,
+    } = *whole;
     let mut k = 0;
     for lit in lits {
         if !is_false(assignment, *lit) {

@@ -12,13 +12,13 @@ ghost use Rattle.scope.specs.Table.{Table};
 ghost use Rattle.scope.specs.Sound.{soundb};
 ghost use Rattle.scope.specs.Contract.{given, Meets, reads};
 ghost use Rattle.scope.specs.Simplify.{flag_of, delete_cause, simplify_steps, simplify_of};
-ghost use Rattle.steps.specs.Names.{names_by, Nameable};
+ghost use Rattle.steps.specs.Names.{names_by};
 ghost use Rattle.steps.specs.Refusals.{laid, laid_bytes};
 ghost use Rattle.simplify.specs.Cuts.{SortedAs, Cuts, Written};
 ghost use Rattle.simplify.specs.Values.{unfalse_by};
 ghost use Rattle.simplify.specs.Answers.{reduced};
 
-use clause::{keep_rest, sort_clause};
+use clause::{Clause, keep_rest, sort_clause};
 use drat::Format;
 use scope::{Counts, DeleteClauseProof, ProofStep, Refusal, Simplified};
 use steps::kinds::rule_of;
@@ -77,20 +77,18 @@ fn keep_clause(lits: &[u32], out: &mut [u32]) -> Result<Reduced, Refusal>
 
 // A clause that is dropped, with one delete step: 2.
 fn drop_clause(
-    gs: &[u32],
+    whole: &Clause,
     f: Format,
-    lits: &[u32],
     redundant: bool,
     bytes: &mut [u8],
 ) -> Result<Reduced, Refusal>
-    requires { Nameable gs.now true lits.now }
-    ensures { (t : Table) (outs : ℕ) → SortedAs t lits.now Dropped → t.global_from_solver ≡ gs.now →
-        let o = simplify_of f t lits.now redundant outs (length bytes.old) in
+    ensures { (t : Table) (outs : ℕ) → SortedAs t whole.now.lits.now Dropped → t.global_from_solver ≡ whole.now.gs.now →
+        let o = simplify_of f t whole.now.lits.now redundant outs (length bytes.old) in
         ((reduced result t.counts).answer ≡ o.answer) × Fills (change bytes.old bytes.new) 0 o.bytes }
 {
     let cause = delete_cause(redundant, DeleteClauseProof::Satisfied);
     let writes = rule_of(ProofStep::DeleteClause(cause)).writes;
-    let wrote = write_judged(gs, f, writes, true, lits, bytes)?;
+    let wrote = write_judged(whole.gs, f, writes, true, whole.lits, bytes)?;
     Ok(Reduced {
         what: Simplified::Dropped,
         left: 0,
@@ -131,55 +129,45 @@ fn put_both(
 }
 
 // The rest and the old clause under global names, from the start of `rest` and `clause`; how many are left.
-fn name_both(
-    gs: &[u32],
-    assignment: &[u32],
-    lits: &[u32],
-    rest: &mut [u32],
-    clause: &mut [u32],
-) -> usize
-    requires nameable { Nameable gs.now true lits.now }
-    requires lits_in_bounds { length lits.now ≤ length rest.old }
-    requires lits_in_bounds_2 { length lits.now ≤ length clause.old }
-    ensures value { result ≡ length (unfalse_by assignment.now lits.now) }
-    ensures rest { Fills (change rest.old rest.new) 0 (names_by gs.now true (unfalse_by assignment.now lits.now)) }
-    ensures clause { Fills (change clause.old clause.new) 0 (names_by gs.now true lits.now) }
+fn name_both(whole: &Clause, rest: &mut [u32], clause: &mut [u32]) -> usize
+    requires lits_in_bounds { length whole.now.lits.now ≤ length rest.old }
+    requires lits_in_bounds_2 { length whole.now.lits.now ≤ length clause.old }
+    ensures value { result ≡ length (unfalse_by whole.now.assignment.now whole.now.lits.now) }
+    ensures rest { Fills (change rest.old rest.new) 0 (names_by whole.now.gs.now true (unfalse_by whole.now.assignment.now whole.now.lits.now)) }
+    ensures clause { Fills (change clause.old clause.new) 0 (names_by whole.now.gs.now true whole.now.lits.now) }
 {
-    rename_lits(gs, true, lits, clause);
-    keep_rest(gs, assignment, true, lits, rest)
+    rename_lits(whole.gs, true, whole.lits, clause);
+    keep_rest(whole, true, rest)
 }
 
 // A clause from which false literals went, with places for the names of the rest and of the old clause: 12, 2.
 fn shorten_over(
-    gs: &[u32],
-    assignment: &[u32],
+    whole: &Clause,
     f: Format,
     what: Simplified,
-    lits: &[u32],
     redundant: bool,
     rest: &mut [u32],
     clause: &mut [u32],
     out: &mut [u32],
     bytes: &mut [u8],
 ) -> Result<Reduced, Refusal>
-    requires nameable { Nameable gs.now true lits.now }
     requires cuts { Cuts what }
-    requires lits_in_bounds { length lits.now ≤ length rest.old }
-    requires lits_in_bounds_2 { length lits.now ≤ length clause.old }
-    ensures { (t : Table) → SortedAs t lits.now what → t.global_from_solver ≡ gs.now → t.assignment ≡ assignment.now →
-        let o = simplify_of f t lits.now redundant (length out.old) (length bytes.old) in
+    requires lits_in_bounds { length whole.now.lits.now ≤ length rest.old }
+    requires lits_in_bounds_2 { length whole.now.lits.now ≤ length clause.old }
+    ensures { (t : Table) → SortedAs t whole.now.lits.now what → t.global_from_solver ≡ whole.now.gs.now → t.assignment ≡ whole.now.assignment.now →
+        let o = simplify_of f t whole.now.lits.now redundant (length out.old) (length bytes.old) in
         ((reduced result t.counts).answer ≡ o.answer) × (Fills (change out.old out.new) 0 o.words × Fills (change bytes.old bytes.new) 0 o.bytes) }
 {
-    let k = name_both(gs, assignment, lits, rest, clause);
+    let k = name_both(whole, rest, clause);
     if k < 2 {
         return Err(Refusal::FewUnknown);
     }
     if out.len() < k {
         return Err(Refusal::Short);
     }
-    let m = lits.len();
+    let m = whole.lits.len();
     let wrote = put_both(f, what, redundant, &rest[..k], &clause[..m], bytes)?;
-    keep_rest(gs, assignment, false, lits, out);
+    keep_rest(whole, false, out);
     Ok(Reduced {
         what,
         left: k,
@@ -190,30 +178,25 @@ fn shorten_over(
 
 // The same, the places lent: short ones for few literals, since they are cleared at each call.
 fn shorten_clause(
-    gs: &[u32],
-    assignment: &[u32],
+    whole: &Clause,
     f: Format,
     what: Simplified,
-    lits: &[u32],
     redundant: bool,
     out: &mut [u32],
     bytes: &mut [u8],
 ) -> Result<Reduced, Refusal>
-    requires nameable { Nameable gs.now true lits.now }
-    requires cuts { Cuts what }
-    ensures { (t : Table) → SortedAs t lits.now what → t.global_from_solver ≡ gs.now → t.assignment ≡ assignment.now →
-        let o = simplify_of f t lits.now redundant (length out.old) (length bytes.old) in
+    requires { Cuts what }
+    ensures { (t : Table) → SortedAs t whole.now.lits.now what → t.global_from_solver ≡ whole.now.gs.now → t.assignment ≡ whole.now.assignment.now →
+        let o = simplify_of f t whole.now.lits.now redundant (length out.old) (length bytes.old) in
         ((reduced result t.counts).answer ≡ o.answer) × (Fills (change out.old out.new) 0 o.words × Fills (change bytes.old bytes.new) 0 o.bytes) }
 {
-    if lits.len() <= 32 {
+    if whole.lits.len() <= 32 {
         let mut fewrest = [0u32; 32];
         let mut fewclause = [0u32; 32];
         return shorten_over(
-            gs,
-            assignment,
+            whole,
             f,
             what,
-            lits,
             redundant,
             &mut fewrest,
             &mut fewclause,
@@ -224,11 +207,9 @@ fn shorten_clause(
     let mut rest = [0u32; 8192];
     let mut clause = [0u32; 8192];
     shorten_over(
-        gs,
-        assignment,
+        whole,
         f,
         what,
-        lits,
         redundant,
         &mut rest,
         &mut clause,
@@ -300,12 +281,17 @@ pub fn known_simplify_clause(
         (simplify_of f (given c gu.now ug.now sg.now gs.now assignment.now records.now) lits.now redundant (length out.old) (length bytes.old)).bytes }
 {
     literal_refusal(c, gs, true, lits)?;
+    let whole = Clause {
+        gs,
+        assignment,
+        lits,
+    };
     let what = sort_clause(assignment, lits);
     match what {
         Simplified::Kept => keep_clause(lits, out),
-        Simplified::Dropped => drop_clause(gs, f, lits, redundant, bytes),
+        Simplified::Dropped => drop_clause(&whole, f, redundant, bytes),
         Simplified::Shortened | Simplified::Binary => {
-            shorten_clause(gs, assignment, f, what, lits, redundant, out, bytes)
+            shorten_clause(&whole, f, what, redundant, out, bytes)
         }
     }
 }

@@ -33,18 +33,18 @@ returns-in_err-literal_refusal-clause-bytes c =
     let w = parts _ _ _ a.out.now a.bytes.now a.out.now a.bytes.now e refl refl refl in
     w.1.1
 
-pub drop_clause-requires : goal.drop_clause-requires
-drop_clause-requires c =
+pub invariant_of-whole : goal.invariant_of-whole
+invariant_of-whole c =
     let n = refuse_literals _ c.args.lits.now _ c.requires (c.literal_refusal.ensures _ refl refl) in
-    clause_nameable _ _ (sym n ∙ refused_ok _ _ c.in_ok-literal_refusal.was)
+    record { nameable = clause_nameable _ _ (sym n ∙ refused_ok _ _ c.in_ok-literal_refusal.was) }
 
-pub shorten_clause-requires-clause-nameable : goal.shorten_clause-requires-clause-nameable
-shorten_clause-requires-clause-nameable c =
+pub invariant_of-whole-in-Shortened : goal.invariant_of-whole-in-Shortened
+invariant_of-whole-in-Shortened c =
     let n = refuse_literals _ c.args.lits.now _ c.requires (c.literal_refusal.ensures _ refl refl) in
-    clause_nameable _ _ (sym n ∙ refused_ok _ _ c.in_ok-literal_refusal.was)
+    record { nameable = clause_nameable _ _ (sym n ∙ refused_ok _ _ c.in_ok-literal_refusal.was) }
 
-pub shorten_clause-requires-clause-cuts : goal.shorten_clause-requires-clause-cuts
-shorten_clause-requires-clause-cuts c = cuts_tag _ c.in-Shortened.is
+pub shorten_clause-requires : goal.shorten_clause-requires
+shorten_clause-requires c = cuts_tag _ c.in-Shortened.is
 
 pub returns-in-Kept-clause-meets : goal.returns-in-Kept-clause-meets
 returns-in-Kept-clause-meets c =
