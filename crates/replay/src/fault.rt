@@ -1,6 +1,7 @@
 // What can be wrong with a line, and what ends a run before the input does.
 use crate::part::Part;
 use std::alloc::{AllocError, AllocFailed};
+use std::error::Error;
 use std::{fmt, io};
 
 #[derive(Clone, Copy, Debug, PartialEq, Eq)]
@@ -20,6 +21,8 @@ pub enum Fault {
     Shape,
     Cut,
 }
+
+impl Error for Fault {}
 
 impl fmt::Display for Fault {
     fn fmt<W: fmt::Write>(&self, f: &mut fmt::Formatter<W>) -> fmt::Result {

@@ -112,13 +112,13 @@ impl Line {
     // The counts that the line gives, or those before where it gives none.
     pub fn counts_after(&self, before: Counts) -> Counts {
         match self.counts.as_slice() {
-            [capacity, user, global, solver, used, next] => Counts {
-                capacity: *capacity,
-                user: *user,
-                global: *global,
-                solver: *solver,
-                used: *used,
-                next: *next,
+            &[capacity, user, global, solver, used, next] => Counts {
+                capacity,
+                user,
+                global,
+                solver,
+                used,
+                next,
             },
             _ => before,
         }

@@ -4,6 +4,9 @@ use crate::line::{Line, WORDS};
 use scope::Counts;
 use std::alloc::{AllocError, Global};
 
+// The records hold it where a load sets no other word.
+const RECORD: u32 = 47;
+
 // The six lists, each with room for the longest.
 #[derive(Clone, Drop)]
 struct Lists {
@@ -69,11 +72,11 @@ impl Lists {
     // The words that a line changes: list, place, word.
     fn set(&mut self, set: &[u32]) -> Result<(), Fault> {
         for change in set.chunks_exact(3) {
-            let [k, place, word] = change else {
+            let &[k, place, word] = change else {
                 return Err(Fault::Shape);
             };
-            let list = self.list_mut(*k).ok_or(Fault::Shape)?;
-            *list.get_mut(*place as usize).ok_or(Fault::Shape)? = *word;
+            let list = self.list_mut(k).ok_or(Fault::Shape)?;
+            *list.get_mut(place as usize).ok_or(Fault::Shape)? = word;
         }
         Ok(())
     }
@@ -94,7 +97,7 @@ pub struct Table {
     expected: Lists,
 }
 
-// The counts and the six lists, as a call takes them.
+// The counts and the six lists, as a call takes them: a tuple, since no proof is made yet of a call that borrows several fields of a struct.
 pub type Taken<'a> = (
     Counts,
     &'a mut [u32],
@@ -125,7 +128,7 @@ impl Table {
 
     // The table of a line that loads one.
     pub fn load(alloc: Global, line: &Line) -> Result<Table, Stop> {
-        let [
+        let &[
             capacity,
             user,
             global,
@@ -142,18 +145,18 @@ impl Table {
         else {
             return Err(Stop::Fault(Fault::Shape));
         };
-        let mut expected = Lists::new(alloc, 47)?;
+        let mut expected = Lists::new(alloc, RECORD)?;
         expected.set(&line.set)?;
         Ok(Table {
             counts: Counts {
-                capacity: *capacity,
-                user: *user,
-                global: *global,
-                solver: *solver,
-                used: *used,
-                next: *next,
+                capacity,
+                user,
+                global,
+                solver,
+                used,
+                next,
             },
-            lengths: [*gu, *ug, *sg, *gs, *assignment, *records],
+            lengths: [gu, ug, sg, gs, assignment, records],
             words: expected.clone()?,
             expected,
         })
