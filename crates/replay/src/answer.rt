@@ -1,47 +1,69 @@
-// What a call answered: the refusal, the counts, the other fields of the C answer in their order, and which lent slice, if any, does
-// not hold what it should.
+// What a call answered, and the same as the line gives it.
+use crate::fault::Fault;
+use crate::lent::{Element, holds};
+use crate::line::Line;
+use crate::part::Part;
 use scope::Counts;
 
 #[derive(Clone, Copy)]
 pub struct Answer {
     pub refusal: u32,
-    pub counts: Counts,
-    pub a: u64,
-    pub b: u64,
-    pub c: u64,
-    pub d: u64,
-    pub e: u64,
-    pub fill: u32,
+    // None where the call answers none.
+    pub counts: Option<Counts>,
+    // The numbers after the refusal.
+    pub values: [u64; 5],
+    // The first part that is not what the call filled or left.
+    pub differs: Option<Part>,
 }
 
-pub fn none(counts: Counts, refusal: u32, fill: u32) -> Answer {
-    three(counts, refusal, 0, 0, 0, fill)
-}
+impl Answer {
+    pub fn new(refusal: u32, values: [u64; 5]) -> Answer {
+        Answer {
+            refusal,
+            counts: None,
+            values,
+            differs: None,
+        }
+    }
 
-pub fn three(counts: Counts, refusal: u32, a: u64, b: u64, c: u64, fill: u32) -> Answer {
-    Answer {
-        refusal,
-        counts,
-        a,
-        b,
-        c,
-        d: 0,
-        e: 0,
-        fill,
+    pub fn with_counts(self, counts: Counts) -> Answer {
+        Answer {
+            counts: Some(counts),
+            ..self
+        }
+    }
+
+    // A slice that was lent, and the part of the line that says what it holds.
+    pub fn filled<T: Element, S: Element>(self, part: Part, slice: &[T], said: &[S]) -> Answer {
+        if self.differs.is_some() || holds(slice, said) {
+            return self;
+        }
+        Answer {
+            differs: Some(part),
+            ..self
+        }
+    }
+
+    // What of it is not as the line says.
+    pub fn check(&self, line: &Line, before: Counts) -> Result<(), Fault> {
+        if self.refusal != line.given(0) {
+            return Err(Fault::Refusal);
+        }
+        for (i, value) in (1..=5).zip(self.values) {
+            if value != u64::from(line.given(i)) {
+                return Err(Fault::Value(i));
+            }
+        }
+        let after = self.counts.unwrap_or(before);
+        if numbers(after) != numbers(line.counts_after(before)) {
+            return Err(Fault::Differs(Part::Counts));
+        }
+        self.differs
+            .map_or(Ok(()), |part| Err(Fault::Differs(part)))
     }
 }
 
-// The answer, and which lent slice differs.
-pub fn filled(mut r: Answer, fill: u32) -> Answer {
-    r.fill = fill;
-    r
-}
-
-// The first slice that differs.
-pub fn first(a: u32, b: u32) -> u32 {
-    if a != 0 { a } else { b }
-}
-
-pub fn one(b: bool) -> u64 {
-    if b { 1 } else { 0 }
+// The six counts in their order.
+pub fn numbers(c: Counts) -> [u32; 6] {
+    [c.capacity, c.user, c.global, c.solver, c.used, c.next]
 }

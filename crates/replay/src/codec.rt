@@ -1,46 +1,45 @@
-// Read and the first step: each is made, and what it filled is compared with the line.
-use crate::answer::{Answer, first, three};
-use crate::parts::{
-    BLANK8, BLANK32, BLANK64, BYTES, MORE, PROOF, WORDS, arg, copy8, fill8, fill32, fill64, given,
-    room,
-};
+// The calls that take no table: Read, the first step, Write CNF and Read CNF.
+use crate::answer::Answer;
+use crate::lent::blank;
+use crate::line::Line;
+use crate::part::Part;
+use capi::cnf::{hz_read_cnf, hz_write_cnf};
 use capi::codec::{hz_first_step, hz_read};
-use scope::Counts;
+use std::alloc::{AllocError, Global};
 
-pub fn read(c: Counts, line: &[u64; 16524]) -> Answer {
-    let format = arg(line, 0);
-    let l = given(line, PROOF);
-    let k = room(line, 0);
-    let n = room(line, 1);
-    let m = room(line, 2);
-    let mut codes = [BLANK32; 8200];
-    let mut ends = [BLANK64; 8200];
-    let mut kinds = [BLANK8; 8200];
-    let proof = copy8(line, PROOF);
-    let r = hz_read(
-        format,
-        &proof[0..l],
-        &mut codes[0..k],
-        &mut ends[0..n],
-        &mut kinds[0..m],
-    );
-    let a = fill32(&codes, k, line, WORDS);
-    let b = fill64(&ends, n, line, MORE);
-    let e = fill8(&kinds, m, line, BYTES);
-    three(
-        c,
-        r.refusal,
-        r.place as u64,
-        r.lits as u64,
-        r.steps as u64,
-        first(first(a, b), e),
+pub fn read(alloc: Global, line: &Line) -> Result<Answer, AllocError> {
+    let format = line.arg(0);
+    let mut codes = blank::<u32>(alloc, line.room(0))?;
+    let mut ends = blank::<u64>(alloc, line.room(1))?;
+    let mut kinds = blank::<u8>(alloc, line.room(2))?;
+    let r = hz_read(format, &line.proof, &mut codes, &mut ends, &mut kinds);
+    Ok(
+        Answer::from(r)
+            .filled(Part::Words, &codes, &line.words)
+            .filled(Part::More, &ends, &line.more)
+            .filled(Part::Bytes, &kinds, &line.bytes),
     )
 }
 
-pub fn first_step(c: Counts, line: &[u64; 16524]) -> Answer {
-    let format = arg(line, 0);
-    let l = given(line, PROOF);
-    let proof = copy8(line, PROOF);
-    let r = hz_first_step(format, &proof[0..l]);
-    three(c, r.refusal, r.place as u64, r.length as u64, 0, 0)
+pub fn first_step(line: &Line) -> Answer {
+    hz_first_step(line.arg(0), &line.proof).into()
+}
+
+// The ends of the clauses stand under `hashes`.
+pub fn write_cnf(alloc: Global, line: &Line) -> Result<Answer, AllocError> {
+    let mut file = blank::<u8>(alloc, line.room(0))?;
+    let r = hz_write_cnf(&line.lits, &line.hashes, &mut file);
+    Ok(Answer::from(r).filled(Part::Bytes, &file, &line.bytes))
+}
+
+// The bytes of the file stand under `proof`.
+pub fn read_cnf(alloc: Global, line: &Line) -> Result<Answer, AllocError> {
+    let mut codes = blank::<u32>(alloc, line.room(0))?;
+    let mut ends = blank::<u64>(alloc, line.room(1))?;
+    let r = hz_read_cnf(&line.proof, &mut codes, &mut ends);
+    Ok(
+        Answer::from(r)
+            .filled(Part::Words, &codes, &line.words)
+            .filled(Part::More, &ends, &line.more),
+    )
 }

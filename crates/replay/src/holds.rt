@@ -1,68 +1,65 @@
-// Grant, marks, Assign, Remove and Sweep: each is made, and what it filled is compared with the line.
-use crate::answer::{Answer, filled, none, three};
-use crate::parts::{BLANK32, NOTES, arg, fill32, room, wide};
-use answers::changed::HzChanged;
-use answers::granted::HzGranted;
-use answers::noted::HzNoted;
+// Open, Grant, the marks, Assign, Remove and Sweep: each is made, and what it filled is compared with the line.
+use crate::answer::{Answer, numbers};
+use crate::lent::blank;
+use crate::line::Line;
+use crate::memory::Table;
+use crate::part::Part;
 use capi::grants::hz_grant;
 use capi::marking::{hz_assign, hz_mark};
+use capi::opening::hz_open;
 use capi::removing::{hz_remove, hz_sweep};
-use scope::Counts;
+use std::alloc::{AllocError, Global};
 
-fn granted(r: HzGranted) -> Answer {
-    let counts = r.counts;
-    three(counts, r.refusal, wide(r.solver), wide(r.notes), 0, 0)
-}
-
-fn noted(r: HzNoted) -> Answer {
-    let counts = r.counts;
-    three(counts, r.refusal, wide(r.notes), 0, 0, 0)
-}
-
-fn changed(r: HzChanged) -> Answer {
-    let counts = r.counts;
-    none(counts, r.refusal, 0)
-}
-
-fn held(
-    c: Counts,
-    gu: &[u32],
-    ug: &[u32],
-    sg: &mut [u32],
-    gs: &mut [u32],
-    assignment: &mut [u32],
-    records: &mut [u32],
-    call: u32,
-    a: u32,
-    b: u32,
-    notes: &mut [u32],
-) -> Answer {
-    match call {
-        4 => granted(hz_grant(c, gu, ug, sg, gs, assignment, records, a, notes)),
-        7 => changed(hz_mark(c, gu, ug, sg, gs, assignment, records, a, b)),
-        8 => changed(hz_assign(c, gu, ug, sg, gs, assignment, records, a)),
-        9 => noted(hz_remove(c, gu, ug, sg, gs, assignment, records, a, notes)),
-        _ => noted(hz_sweep(c, gu, ug, sg, gs, assignment, records, notes)),
+// The counts that a refused Open answers are the capacity and else 0; the table's counts stay.
+pub fn open(table: &mut Table, line: &Line) -> Answer {
+    let capacity = line.arg(0);
+    let (_, gu, ug, sg, gs, assignment, records) = table.lend();
+    let r = hz_open(capacity, gu, ug, sg, gs, assignment, records);
+    if r.refusal == 0 {
+        return r.into();
+    }
+    Answer {
+        counts: None,
+        differs: (numbers(r.counts) != [capacity, 0, 0, 0, 0, 0]).then_some(Part::Counts),
+        ..r.into()
     }
 }
 
-// The marks and Assign are lent no words for notes.
-pub fn hold(
-    c: Counts,
-    gu: &[u32],
-    ug: &[u32],
-    sg: &mut [u32],
-    gs: &mut [u32],
-    assignment: &mut [u32],
-    records: &mut [u32],
-    line: &[u64; 16524],
-    call: u32,
-) -> Answer {
-    let a = arg(line, 0);
-    let b = arg(line, 1);
-    let n = room(line, 0);
-    let mut notes = [BLANK32; 8200];
-    let lent = &mut notes[0..n];
-    let r = held(c, gu, ug, sg, gs, assignment, records, call, a, b, lent);
-    filled(r, fill32(&notes, n, line, NOTES))
+pub fn grant(alloc: Global, table: &mut Table, line: &Line) -> Result<Answer, AllocError> {
+    let global = line.arg(0);
+    let mut notes = blank::<u32>(alloc, line.room(0))?;
+    let (c, gu, ug, sg, gs, assignment, records) = table.lend();
+    let r = hz_grant(c, gu, ug, sg, gs, assignment, records, global, &mut notes);
+    Ok(Answer::from(r).filled(Part::Notes, &notes, &line.notes))
+}
+
+// The marks and Assign make no notes.
+pub fn mark(table: &mut Table, line: &Line) -> Answer {
+    let mark = line.arg(0);
+    let solver = line.arg(1);
+    let (c, gu, ug, sg, gs, assignment, records) = table.lend();
+    let r = hz_mark(c, gu, ug, sg, gs, assignment, records, mark, solver);
+    Answer::from(r).filled::<u32, u32>(Part::Notes, &[], &line.notes)
+}
+
+pub fn assign(table: &mut Table, line: &Line) -> Answer {
+    let lit = line.arg(0);
+    let (c, gu, ug, sg, gs, assignment, records) = table.lend();
+    let r = hz_assign(c, gu, ug, sg, gs, assignment, records, lit);
+    Answer::from(r).filled::<u32, u32>(Part::Notes, &[], &line.notes)
+}
+
+pub fn remove(alloc: Global, table: &mut Table, line: &Line) -> Result<Answer, AllocError> {
+    let solver = line.arg(0);
+    let mut notes = blank::<u32>(alloc, line.room(0))?;
+    let (c, gu, ug, sg, gs, assignment, records) = table.lend();
+    let r = hz_remove(c, gu, ug, sg, gs, assignment, records, solver, &mut notes);
+    Ok(Answer::from(r).filled(Part::Notes, &notes, &line.notes))
+}
+
+pub fn sweep(alloc: Global, table: &mut Table, line: &Line) -> Result<Answer, AllocError> {
+    let mut notes = blank::<u32>(alloc, line.room(0))?;
+    let (c, gu, ug, sg, gs, assignment, records) = table.lend();
+    let r = hz_sweep(c, gu, ug, sg, gs, assignment, records, &mut notes);
+    Ok(Answer::from(r).filled(Part::Notes, &notes, &line.notes))
 }

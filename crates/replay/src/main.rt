@@ -3,293 +3,127 @@
 #![tactic(auto)]
 
 mod answer;
-mod book;
-mod cnf;
+mod call;
 mod codec;
-mod faults;
+mod fault;
+mod gives;
 mod holds;
-mod judge;
+mod lent;
+mod line;
 mod memory;
 mod names;
-mod pairs;
-mod parts;
+mod part;
 mod quiet;
-mod say;
 mod scan;
-mod shape;
-mod whole;
+mod tally;
 
-use answer::Answer;
-use book::Lengths;
-use capi::opening::hz_open;
-use faults::{CUT, SHAPE};
-use memory::{at_most, list, put};
-use parts::arg;
-use scan::{NONE, Scan};
-use scope::Counts;
-use shape::LOAD;
+use call::Call;
+use fault::{Fault, Stop};
+use line::Line;
+use memory::Table;
+use scan::Scan;
+use std::alloc::{AllocError, Global};
 use std::io;
-use std::io::Read;
+use std::io::{BufReader, Read};
+use tally::Tally;
 
-// The fault is told, and nothing more is read.
-fn stop(rt: &impl Print, mut s: Scan, fault: u32, book: &[u64; 1056]) -> io::Result<Scan> {
-    say::fault(rt, book::line_number(book), s.call, fault)?;
-    s.fault = fault;
-    s.over = true;
-    Ok(s)
+// What is known between the bytes of the input.
+#[derive(Drop)]
+struct Replay {
+    alloc: Global,
+    // The number of the line that is being read, from 1 on.
+    number: u64,
+    scan: Scan,
+    table: Table,
+    tally: Tally,
 }
 
-// Calls that take a table, by the lists that they may change.
-#[derive(Clone, Copy)]
-enum Group {
-    Name,
-    Hold,
-    Pose,
-    Observe,
-    Open,
-    Quiet,
-}
-
-fn group_of(call: u32) -> Group {
-    match call {
-        1 | 2 | 5 => Group::Name,
-        4 | 7 | 8 | 9 | 10 => Group::Hold,
-        3 => Group::Pose,
-        6 => Group::Observe,
-        15 => Group::Open,
-        _ => Group::Quiet,
-    }
-}
-
-// The call that takes a table, on lists of the lengths that are lent.
-fn made(
-    c: Counts,
-    gu: &mut [u32],
-    ug: &mut [u32],
-    sg: &mut [u32],
-    gs: &mut [u32],
-    assignment: &mut [u32],
-    records: &mut [u32],
-    line: &[u64; 16524],
-    call: u32,
-) -> Answer {
-    let capacity = arg(line, 0);
-    let g = group_of(call);
-    match g {
-        Group::Name => names::name(c, gu, ug, sg, gs, assignment, records, line, call),
-        Group::Hold => holds::hold(c, gu, ug, sg, gs, assignment, records, line, call),
-        Group::Pose => whole::pose(c, gu, ug, sg, gs, assignment, records, line),
-        Group::Observe => names::observe(c, gu, ug, sg, gs, assignment, records, line),
-        Group::Open => whole::opened(
-            hz_open(capacity, gu, ug, sg, gs, assignment, records),
-            c,
-            capacity,
-        ),
-        Group::Quiet => quiet::ask(c, gu, ug, sg, gs, assignment, records, line, call),
-    }
-}
-
-// The lists are taken from memory, lent at their lengths, and put back.
-fn on_table(
-    c: Counts,
-    n: Lengths,
-    memory: &mut [u32; 24600],
-    line: &[u64; 16524],
-    call: u32,
-) -> Answer {
-    let l0 = at_most(n.gu);
-    let l1 = at_most(n.ug);
-    let l2 = at_most(n.sg);
-    let l3 = at_most(n.gs);
-    let l4 = at_most(n.assignment);
-    let l5 = at_most(n.records);
-    let mut gu = list(memory, 0);
-    let mut ug = list(memory, 4100);
-    let mut sg = list(memory, 8200);
-    let mut gs = list(memory, 12300);
-    let mut assignment = list(memory, 16400);
-    let mut records = list(memory, 20500);
-    let r = made(
-        c,
-        &mut gu[0..l0],
-        &mut ug[0..l1],
-        &mut sg[0..l2],
-        &mut gs[0..l3],
-        &mut assignment[0..l4],
-        &mut records[0..l5],
-        line,
-        call,
-    );
-    put(memory, 0, &gu);
-    put(memory, 4100, &ug);
-    put(memory, 8200, &sg);
-    put(memory, 12300, &gs);
-    put(memory, 16400, &assignment);
-    put(memory, 20500, &records);
-    r
-}
-
-fn answer_of(
-    c: Counts,
-    n: Lengths,
-    memory: &mut [u32; 24600],
-    line: &[u64; 16524],
-    call: u32,
-) -> Answer {
-    match call {
-        16 => codec::read(c, line),
-        17 => codec::first_step(c, line),
-        20 => cnf::write(c, line),
-        21 => cnf::read(c, line),
-        _ => on_table(c, n, memory, line, call),
-    }
-}
-
-// The line's call, its answer and then the lists against what the line says: 0, or what differs.
-fn replay(
-    line: &[u64; 16524],
-    memory: &mut [u32; 24600],
-    expected: &mut [u32; 24600],
-    book: &[u64; 1056],
-    call: u32,
-) -> u32 {
-    let c = book::counts(book);
-    let r = answer_of(c, book::lengths_in(book), memory, line, call);
-    let fault = judge::answer(r, line, c);
-    if fault != 0 {
-        return fault;
-    }
-    let bad = judge::set(line, expected);
-    if bad != 0 {
-        return bad;
-    }
-    judge::lists(memory, expected)
-}
-
-// A table is loaded into both copies.
-fn load(line: &[u64; 16524], memory: &mut [u32; 24600], expected: &mut [u32; 24600]) -> u32 {
-    judge::blank(expected);
-    let bad = judge::set(line, expected);
-    let all = *expected;
-    *memory = all;
-    bad
-}
-
-// A whole line: 0, or what is wrong with it.
-fn judged(
-    line: &[u64; 16524],
-    memory: &mut [u32; 24600],
-    expected: &mut [u32; 24600],
-    book: &[u64; 1056],
-    call: u32,
-) -> u32 {
-    if !shape::fits(line, call) {
-        return SHAPE;
-    }
-    if call == LOAD {
-        return load(line, memory, expected);
-    }
-    replay(line, memory, expected, book, call)
-}
-
-// One byte more.
-fn take(
-    rt: &impl Print,
-    s: Scan,
-    b: u8,
-    line: &mut [u64; 16524],
-    memory: &mut [u32; 24600],
-    expected: &mut [u32; 24600],
-    book: &mut [u64; 1056],
-) -> io::Result<Scan> {
-    if s.over {
-        return Ok(s);
-    }
-    let t = scan::take(s, b, line);
-    if t.fault != 0 {
-        return stop(rt, t, t.fault, book);
-    }
-    if !t.done {
-        return Ok(t);
-    }
-    let call = t.call;
-    let fault = judged(line, memory, expected, book, call);
-    if fault != 0 {
-        return stop(rt, t, fault, book);
-    }
-    book::enter(book, line, call);
-    scan::clear(line);
-    Ok(scan::fresh())
-}
-
-// The first n bytes.
-fn feed(
-    rt: &impl Print,
-    s: Scan,
-    buf: &[u8; 4096],
-    n: usize,
-    line: &mut [u64; 16524],
-    memory: &mut [u32; 24600],
-    expected: &mut [u32; 24600],
-    book: &mut [u64; 1056],
-) -> io::Result<Scan> {
-    let mut t = s;
-    for b in buf.iter().take(n) {
-        t = take(rt, t, *b, line, memory, expected, book)?;
-    }
-    Ok(t)
-}
-
-// What one read gives, or the end of the input. A read that fails ends the run.
-fn more(
-    rt: &impl Print,
-    input: &mut impl Read,
-    s: Scan,
-    line: &mut [u64; 16524],
-    memory: &mut [u32; 24600],
-    expected: &mut [u32; 24600],
-    book: &mut [u64; 1056],
-) -> io::Result<Scan> {
-    let mut buf = [0u8; 4096];
-    let n = input.read(&mut buf)?;
-    if n == 0 {
-        return Ok(scan::ended(s));
-    }
-    feed(rt, s, &buf, n, line, memory, expected, book)
-}
-
-// A proved loop has to end, and nothing says that the input does: the number of its turns is one that no run uses up.
-fn run(
-    rt: &(impl Input + Print),
-    line: &mut [u64; 16524],
-    memory: &mut [u32; 24600],
-    expected: &mut [u32; 24600],
-    book: &mut [u64; 1056],
-) -> io::Result<Scan> {
-    let mut input = rt.reader();
-    let mut s = scan::fresh();
-    for _ in 0..u64::MAX {
-        if s.over {
-            return Ok(s);
+// A whole line: the call's answer, and then the table, must be what it says.
+fn judged(alloc: Global, table: &mut Table, tally: &mut Tally, line: &Line) -> Result<(), Stop> {
+    let before = table.counts;
+    let answer = match line.call {
+        Call::Load => {
+            *table = Table::load(alloc, line)?;
+            return Ok(());
         }
-        s = more(rt, &mut input, s, line, memory, expected, book)?;
-    }
-    Ok(s)
+        Call::Lookup => quiet::lookup(table, line),
+        Call::Map => names::map(alloc, table, line)?,
+        Call::NewUser => names::new_user(alloc, table, line)?,
+        Call::Pose => names::pose(alloc, table, line)?,
+        Call::Grant => holds::grant(alloc, table, line)?,
+        Call::SetMode => names::set_mode(alloc, table, line)?,
+        Call::Observe => names::observe(alloc, table, line)?,
+        Call::Mark => holds::mark(table, line),
+        Call::Assign => holds::assign(table, line),
+        Call::Remove => holds::remove(alloc, table, line)?,
+        Call::Sweep => holds::sweep(alloc, table, line)?,
+        Call::Simplify => quiet::simplify(alloc, table, line)?,
+        Call::Rename => quiet::rename(alloc, table, line)?,
+        Call::Write => quiet::write(alloc, table, line)?,
+        Call::Model => quiet::model(alloc, table, line)?,
+        Call::Open => holds::open(table, line),
+        Call::Read => codec::read(alloc, line)?,
+        Call::First => codec::first_step(line),
+        Call::Sound => quiet::sound(table),
+        Call::Binary => quiet::binary(alloc, table, line)?,
+        Call::WriteCnf => codec::write_cnf(alloc, line)?,
+        Call::ReadCnf => codec::read_cnf(alloc, line)?,
+    };
+    answer.check(line, before)?;
+    table.check(line)?;
+    tally.add(line.call, line.given(0))?;
+    Ok(())
 }
 
-// A write or a read that fails ends the run.
+impl Replay {
+    fn new(alloc: Global) -> Result<Replay, AllocError> {
+        Ok(Replay {
+            alloc,
+            number: 1,
+            scan: Scan::new(alloc),
+            table: Table::new(alloc)?,
+            tally: Tally::new(alloc),
+        })
+    }
+
+    // One byte more.
+    fn take(&mut self, byte: u8) -> Result<(), Stop> {
+        if byte != b'\n' {
+            return self.scan.take(byte);
+        }
+        let line = self.scan.end_line()?;
+        judged(self.alloc, &mut self.table, &mut self.tally, line)?;
+        self.scan = Scan::new(self.alloc);
+        self.number = self.number.saturating_add(1);
+        Ok(())
+    }
+
+    fn run(&mut self, rt: &(impl Input + AllocGlobal)) -> Result<(), Stop> {
+        for byte in BufReader::new(rt.alloc(), rt.reader())?.bytes() {
+            self.take(byte?)?;
+        }
+        if self.scan.is_inside() {
+            return Err(Stop::Fault(Fault::Cut));
+        }
+        Ok(())
+    }
+
+    // One line: where, in which call, and what.
+    fn tell(&self, rt: &impl Print, fault: Fault) -> io::Result<()> {
+        let number = self.number;
+        match self.scan.call() {
+            None => println!(rt; "line {number}: {fault}"),
+            Some(call) => println!(rt; "line {number}: {call}: {fault}"),
+        }
+    }
+}
+
+// A write, a read or an allocation that fails ends the run.
 fn main(rt: HostRuntime) -> io::Result<()> {
-    let mut line = [0u64; 16524];
-    let mut memory = [0u32; 24600];
-    let mut expected = [0u32; 24600];
-    let mut book = book::empty();
-    let s = run(&rt, &mut line, &mut memory, &mut expected, &mut book)?;
-    if s.fault != 0 {
-        return Ok(());
+    let mut replay = Replay::new(rt.alloc())?;
+    match replay.run(&rt) {
+        Ok(()) => println!(rt; "{}", replay.tally),
+        Err(Stop::Fault(fault)) => replay.tell(&rt, fault),
+        Err(Stop::Failed(e)) => Err(e),
     }
-    if (s.call != NONE) | (s.inside != 0) {
-        stop(&rt, s, CUT, &book)?;
-        return Ok(());
-    }
-    say::all(&rt, &book)
 }

@@ -1,12 +1,10 @@
-// The calls that change no table: soundness, Lookup, Simplify, Rename, Write and Model; Simplify binary is in pairs.rt.
-use crate::answer::{Answer, first, one, three};
-use crate::pairs;
-use crate::parts::{
-    BLANK8, BLANK32, BLANK64, BYTES, HASHES, LITS, MORE, WORDS, arg, copy32, copy64, fill8, fill32,
-    fill64, given, room, wide,
-};
-use answers::found::HzFound;
-use capi::clauses::hz_simplify;
+// The calls that change no table: soundness, Lookup, Simplify, Simplify binary, Rename, Write and Model.
+use crate::answer::Answer;
+use crate::lent::blank;
+use crate::line::Line;
+use crate::memory::Table;
+use crate::part::Part;
+use capi::clauses::{hz_simplify, hz_simplify_binary};
 use capi::counts::hz_is_sound;
 use capi::lines::{hz_rename, hz_write};
 use capi::models::hz_model;
@@ -14,129 +12,71 @@ use capi::opening::{
     hz_assignment, hz_global_from_solver, hz_global_from_user, hz_record, hz_solver_from_global,
     hz_user_from_global,
 };
-use line_answers::modelled::HzModelled;
-use line_answers::renamed::HzRenamed;
-use line_answers::simplified::HzSimplified;
-use line_answers::written::HzWritten;
 use numbers::HzStep;
-use scope::Counts;
+use std::alloc::{AllocError, Global};
 
-fn told(c: Counts, r: HzFound) -> Answer {
-    three(c, r.refusal, one(r.found), wide(r.value), 0, 0)
+pub fn sound(table: &mut Table) -> Answer {
+    let (c, gu, ug, sg, gs, assignment, records) = table.lend();
+    let is_sound = hz_is_sound(c, gu, ug, sg, gs, assignment, records);
+    Answer::new(0, [is_sound.into(), 0, 0, 0, 0])
 }
 
-fn simplified(counts: Counts, r: HzSimplified, fill: u32) -> Answer {
-    Answer {
-        refusal: r.refusal,
-        counts,
-        a: wide(r.made),
-        b: r.lits as u64,
-        c: one(r.redundant),
-        d: r.bytes as u64,
-        e: 0,
-        fill,
-    }
-}
-
-fn renamed(counts: Counts, r: HzRenamed, fill: u32) -> Answer {
-    let s = r.step;
-    Answer {
-        refusal: r.refusal,
-        counts,
-        a: wide(s.kind),
-        b: wide(s.a),
-        c: wide(s.b),
-        d: r.lits as u64,
-        e: r.hashes as u64,
-        fill,
-    }
-}
-
-fn written(c: Counts, r: HzWritten, fill: u32) -> Answer {
-    three(c, r.refusal, r.bytes as u64, 0, 0, fill)
-}
-
-fn modelled(c: Counts, r: HzModelled, fill: u32) -> Answer {
-    three(c, r.refusal, wide(r.globals), wide(r.users), 0, fill)
-}
-
-fn found(
-    c: Counts,
-    gu: &[u32],
-    ug: &[u32],
-    sg: &[u32],
-    gs: &[u32],
-    assignment: &[u32],
-    records: &[u32],
-    asked: u32,
-    i: u32,
-) -> HzFound {
-    match asked {
+pub fn lookup(table: &mut Table, line: &Line) -> Answer {
+    let i = line.arg(1);
+    let (c, gu, ug, sg, gs, assignment, records) = table.lend();
+    let r = match line.arg(0) {
         0 => hz_global_from_user(c, gu, ug, sg, gs, assignment, records, i),
         1 => hz_user_from_global(c, gu, ug, sg, gs, assignment, records, i),
         2 => hz_solver_from_global(c, gu, ug, sg, gs, assignment, records, i),
         3 => hz_global_from_solver(c, gu, ug, sg, gs, assignment, records, i),
         4 => hz_record(c, gu, ug, sg, gs, assignment, records, i),
         _ => hz_assignment(c, gu, ug, sg, gs, assignment, records, i),
-    }
+    };
+    r.into()
 }
 
-fn simplify(
-    c: Counts,
-    gu: &[u32],
-    ug: &[u32],
-    sg: &[u32],
-    gs: &[u32],
-    assignment: &[u32],
-    records: &[u32],
-    line: &[u64; 16524],
-) -> Answer {
-    let l = given(line, LITS);
-    let k = room(line, 0);
-    let n = room(line, 1);
-    let format = arg(line, 0);
-    let redundant = arg(line, 1) != 0;
-    let lits = copy32(line, LITS);
-    let mut out = [BLANK32; 8200];
-    let mut proof = [BLANK8; 8200];
+pub fn simplify(alloc: Global, table: &mut Table, line: &Line) -> Result<Answer, AllocError> {
+    let format = line.arg(0);
+    let redundant = line.arg(1) != 0;
+    let mut out = blank::<u32>(alloc, line.room(0))?;
+    let mut proof = blank::<u8>(alloc, line.room(1))?;
+    let (c, gu, ug, sg, gs, assignment, records) = table.lend();
     let r = hz_simplify(
-        c,
-        gu,
-        ug,
-        sg,
-        gs,
-        assignment,
-        records,
-        format,
-        &lits[0..l],
-        redundant,
-        &mut out[0..k],
-        &mut proof[0..n],
+        c, gu, ug, sg, gs, assignment, records, format, &line.lits, redundant, &mut out, &mut proof,
     );
-    let fill = fill32(&out, k, line, WORDS);
-    simplified(c, r, first(fill, fill8(&proof, n, line, BYTES)))
+    Ok(
+        Answer::from(r)
+            .filled(Part::Words, &out, &line.words)
+            .filled(Part::Bytes, &proof, &line.bytes),
+    )
 }
 
-fn rename(
-    c: Counts,
-    gu: &[u32],
-    ug: &[u32],
-    sg: &[u32],
-    gs: &[u32],
-    assignment: &[u32],
-    records: &[u32],
-    step: HzStep,
-    line: &[u64; 16524],
-) -> Answer {
-    let l = given(line, LITS);
-    let h = given(line, HASHES);
-    let k = room(line, 0);
-    let n = room(line, 1);
-    let solvervars = arg(line, 3) != 0;
-    let lits = copy32(line, LITS);
-    let hashes = copy64(line, HASHES);
-    let mut out = [BLANK32; 8200];
-    let mut more = [BLANK64; 8200];
+// The line's literals are the words of the lists.
+pub fn binary(alloc: Global, table: &mut Table, line: &Line) -> Result<Answer, AllocError> {
+    let format = line.arg(0);
+    let mut out = blank::<u32>(alloc, line.room(0))?;
+    let mut proof = blank::<u8>(alloc, line.room(1))?;
+    let (c, gu, ug, sg, gs, assignment, records) = table.lend();
+    let r = hz_simplify_binary(
+        c, gu, ug, sg, gs, assignment, records, format, &line.lits, &mut out, &mut proof,
+    );
+    Ok(
+        Answer::from(r)
+            .filled(Part::Words, &out, &line.words)
+            .filled(Part::Bytes, &proof, &line.bytes),
+    )
+}
+
+pub fn rename(alloc: Global, table: &mut Table, line: &Line) -> Result<Answer, AllocError> {
+    let step = HzStep {
+        kind: line.arg(0),
+        a: line.arg(1),
+        b: line.arg(2),
+    };
+    let solver_lits = line.arg(3) != 0;
+    let mut out = blank::<u32>(alloc, line.room(0))?;
+    let mut more = blank::<u64>(alloc, line.room(1))?;
+    let (c, gu, ug, sg, gs, assignment, records) = table.lend();
     let r = hz_rename(
         c,
         gu,
@@ -146,35 +86,29 @@ fn rename(
         assignment,
         records,
         step,
-        solvervars,
-        &lits[0..l],
-        &hashes[0..h],
-        &mut out[0..k],
-        &mut more[0..n],
+        solver_lits,
+        &line.lits,
+        &line.hashes,
+        &mut out,
+        &mut more,
     );
-    let fill = fill32(&out, k, line, WORDS);
-    renamed(c, r, first(fill, fill64(&more, n, line, MORE)))
+    Ok(
+        Answer::from(r)
+            .filled(Part::Words, &out, &line.words)
+            .filled(Part::More, &more, &line.more),
+    )
 }
 
-fn write(
-    c: Counts,
-    gu: &[u32],
-    ug: &[u32],
-    sg: &[u32],
-    gs: &[u32],
-    assignment: &[u32],
-    records: &[u32],
-    step: HzStep,
-    line: &[u64; 16524],
-) -> Answer {
-    let l = given(line, LITS);
-    let h = given(line, HASHES);
-    let n = room(line, 0);
-    let format = arg(line, 0);
-    let solvervars = arg(line, 4) != 0;
-    let lits = copy32(line, LITS);
-    let hashes = copy64(line, HASHES);
-    let mut proof = [BLANK8; 8200];
+pub fn write(alloc: Global, table: &mut Table, line: &Line) -> Result<Answer, AllocError> {
+    let format = line.arg(0);
+    let step = HzStep {
+        kind: line.arg(1),
+        a: line.arg(2),
+        b: line.arg(3),
+    };
+    let solver_lits = line.arg(4) != 0;
+    let mut proof = blank::<u8>(alloc, line.room(0))?;
+    let (c, gu, ug, sg, gs, assignment, records) = table.lend();
     let r = hz_write(
         c,
         gu,
@@ -185,28 +119,18 @@ fn write(
         records,
         format,
         step,
-        solvervars,
-        &lits[0..l],
-        &hashes[0..h],
-        &mut proof[0..n],
+        solver_lits,
+        &line.lits,
+        &line.hashes,
+        &mut proof,
     );
-    written(c, r, fill8(&proof, n, line, BYTES))
+    Ok(Answer::from(r).filled(Part::Bytes, &proof, &line.bytes))
 }
 
-fn model(
-    c: Counts,
-    gu: &[u32],
-    ug: &[u32],
-    sg: &[u32],
-    gs: &[u32],
-    assignment: &[u32],
-    records: &[u32],
-    line: &[u64; 16524],
-) -> Answer {
-    let k = room(line, 0);
-    let n = room(line, 1);
-    let mut globals = [BLANK32; 8200];
-    let mut users = [BLANK32; 8200];
+pub fn model(alloc: Global, table: &mut Table, line: &Line) -> Result<Answer, AllocError> {
+    let mut globals = blank::<u32>(alloc, line.room(0))?;
+    let mut users = blank::<u32>(alloc, line.room(1))?;
+    let (c, gu, ug, sg, gs, assignment, records) = table.lend();
     let r = hz_model(
         c,
         gu,
@@ -215,66 +139,12 @@ fn model(
         gs,
         assignment,
         records,
-        &mut globals[0..k],
-        &mut users[0..n],
+        &mut globals,
+        &mut users,
     );
-    let fill = fill32(&globals, k, line, WORDS);
-    modelled(c, r, first(fill, fill32(&users, n, line, MORE)))
-}
-
-fn sound(c: Counts, is: bool) -> Answer {
-    three(c, 0, one(is), 0, 0, 0)
-}
-
-fn step(kind: u32, a: u32, b: u32) -> HzStep {
-    HzStep { kind, a, b }
-}
-
-// Simplify, Rename, Write or Simplify binary.
-fn proof_line(
-    c: Counts,
-    gu: &[u32],
-    ug: &[u32],
-    sg: &[u32],
-    gs: &[u32],
-    assignment: &[u32],
-    records: &[u32],
-    line: &[u64; 16524],
-    call: u32,
-) -> Answer {
-    let x = arg(line, 1);
-    let y = arg(line, 2);
-    match call {
-        11 => simplify(c, gu, ug, sg, gs, assignment, records, line),
-        12 => {
-            let s = step(arg(line, 0), x, y);
-            rename(c, gu, ug, sg, gs, assignment, records, s, line)
-        }
-        19 => pairs::simplify_binary(c, gu, ug, sg, gs, assignment, records, line),
-        _ => {
-            let s = step(x, y, arg(line, 3));
-            write(c, gu, ug, sg, gs, assignment, records, s, line)
-        }
-    }
-}
-
-pub fn ask(
-    c: Counts,
-    gu: &[u32],
-    ug: &[u32],
-    sg: &[u32],
-    gs: &[u32],
-    assignment: &[u32],
-    records: &[u32],
-    line: &[u64; 16524],
-    call: u32,
-) -> Answer {
-    let x = arg(line, 0);
-    let y = arg(line, 1);
-    match call {
-        0 => told(c, found(c, gu, ug, sg, gs, assignment, records, x, y)),
-        14 => model(c, gu, ug, sg, gs, assignment, records, line),
-        18 => sound(c, hz_is_sound(c, gu, ug, sg, gs, assignment, records)),
-        _ => proof_line(c, gu, ug, sg, gs, assignment, records, line, call),
-    }
+    Ok(
+        Answer::from(r)
+            .filled(Part::Words, &globals, &line.words)
+            .filled(Part::More, &users, &line.more),
+    )
 }
