@@ -249,11 +249,6 @@ module _ (mark : ℕ) (gu sg lits : List ℕ) (i : ℕ) (seen : List ℕ) (n m :
         marked = subst (λ (v : ℕ). Marked gu sg lits (i + 1) (set seen v 1)) (sym q) (marked_needs gu sg lits i seen l (w.at i l) h d.marked);
       }
 
-pub marks_end : (mark : ℕ) (gu sg lits : List ℕ) (i : ℕ) (seen : List ℕ) (n : Needs) → length lits ≤ i → MarkedTo mark gu sg lits i seen n
-    → n ≡ needs_by (count_named 4096) mark gu sg lits
-marks_end mark gu sg lits i seen n l d =
-    counted_end (count_named 4096) (by_users lits i) mark gu sg lits i n l (λ p. ap (count_named 4096 p) (take_all i lits l)) d.counted
-
 -- ---- the plain loop
 
 abbrev pub PlainTo : ℕ → List ℕ → List ℕ → List ℕ → ℕ → Needs → Type 0

@@ -1,6 +1,6 @@
 -- Laws of a run of literals whose users have solver indices: each is only looked up.
 use Rattle.std.specs.Prelude.{Option, None, Ok, Err}
-use Prim.Native.Nat.{ℕ, zero, suc, ◌+◌, ◌≤◌, ◌<◌, max}
+use Prim.Native.Nat.{ℕ, zero, suc, ◌+◌, ◌≤◌, ◌<◌}
 use mathlib.Core.Path.{◌≡◌, refl, sym, ap, ◌∙◌, subst}
 use mathlib.Core.Bool.{Bool, false, ◌&&◌, ◌||◌, true≢false}
 use mathlib.Core.List.{List, [], ◌∷◌, map}
@@ -8,7 +8,7 @@ use Rattle.std.specs.List.{list_any}
 use mathlib.Core.Logic.{⊎_elim}
 use native.Mathlib.Omega.{arith}
 use lib.Dec.{ltb}
-use lib.ListN.{length, get_or, set, take, length-map, length-set, length-take}
+use lib.ListN.{length, get_or, set, take, length-map, length-set}
 use lib.Seq.{sets}
 use borrow.Author.Tests.{ltb-false}
 use Rattle.base.specs.Bounded.{any_of}
@@ -52,14 +52,6 @@ pub run_up : {gu sg lits : List ℕ} {a : ℕ} {out : List ℕ} {b : ℕ} {m : L
 run_up none = omega arith
 run_up (more s r l e) = let x = run_up r in omega arith
 
--- it ends at the end of the literals, or where it starts
-pub run_end : {gu sg lits : List ℕ} {a : ℕ} {out : List ℕ} {b : ℕ} {m : List ℕ} → HeldRun gu sg lits a out b m → b ≤ max a (length lits)
-run_end none = omega arith
-run_end (more s r l e) = omega arith
-
-pub run_at : {gu sg lits : List ℕ} {a : ℕ} {out : List ℕ} {b n : ℕ} {m : List ℕ} → b ≡ n → HeldRun gu sg lits a out b m → HeldRun gu sg lits a out n m
-run_at {gu} {sg} {lits} {a} {out} {b} {n} {m} e r = subst (λ (k : ℕ). HeldRun gu sg lits a out k m) e r
-
 -- from the start on: whose users have solver indices, and what was stored
 pub run_held : {gu sg lits out : List ℕ} {b : ℕ} {m : List ℕ} → HeldRun gu sg lits 0 out b m
     → HeldTo gu sg lits b × (m ≡ copied (held_code gu sg) out lits b)
@@ -97,18 +89,6 @@ any_is p [] = refl
 any_is p (x ∷ xs) = ap (λ (b : Bool). p x || b) (any_is p xs)
 
 -- ---- what was tried
-
--- the first n words are n
-pub part_counts : (n : ℕ) (xs : List ℕ) → n ≤ length xs → n ≡ length (take n xs)
-part_counts n xs l = let e = length-take n xs in omega arith
-
-pub part_fits : (n m : ℕ) (xs : List ℕ) → n ≤ m → length (take n xs) ≤ m
-part_fits n m xs l = let e = length-take n xs in omega arith
-
-pub tried_none : (gu sg records lits : List ℕ) (sampling : Bool) (out : List ℕ) → HeldTried gu sg records lits sampling
-    (Err 0) out out
-tried_none gu sg records lits sampling out =
-    record { lead = record { most = omega arith; held = λ i l. absurd (omega arith) }; all = λ e. absurd (true≢false (sym e)); stored = refl }
 
 pub tried_some : (gu sg records lits : List ℕ) (sampling : Bool) (n : ℕ) (codes codes' out : List ℕ) → HeldRun gu sg lits 0 codes n codes'
     → HeldTried gu sg records lits sampling (Err n) out out

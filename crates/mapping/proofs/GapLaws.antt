@@ -10,7 +10,7 @@ use lib.Seq.{sets}
 use Rattle.base.proofs.Truth.{split}
 use Rattle.scope.specs.declared.Counts.{Counts}
 use Rattle.scope.specs.declared.Global.{Global}
-use Rattle.scope.specs.Table.{Table, table_of, map_counts, give_user, cover_user, with_used}
+use Rattle.scope.specs.Table.{Table, table_of, map_counts, give_user}
 use Rattle.scope.specs.Sound.{soundb}
 use Rattle.scope.specs.Notes.{notes_words}
 use Rattle.scope.specs.Outcome.{Result, stay, each}
@@ -19,12 +19,11 @@ use Rattle.scope.proofs.SoundLaws.{sound_of, sound_to}
 use Rattle.scope.proofs.MapLaws.{Mappable, map_one_fresh, gap_step, Filled, GapRoom, fill_gap_filled, to_map_free, map_user_free, map_user_has, fill_gap_count}
 use Rattle.scope.specs.Cursor.{NoneFree}
 use Rattle.changes.specs.Leaves.{Leaves}
-use Rattle.scope.proofs.CursorLaws.{cursor_start}
-use Rattle.changes.proofs.LeavesLaws.{leaves_stay, leaves_giving, leaves_then, leaves_length, SameSizes, same_sizes}
+use Rattle.changes.proofs.LeavesLaws.{leaves_stay, leaves_giving, leaves_then, leaves_length}
 use Rattle.changes.proofs.TurnLaws.{turns_more}
 use Rattle.mapping.specs.Parts.{free, free_for}
 use Rattle.mapping.specs.declared.Mapped.{Mapped}
-use Rattle.mapping.specs.Asks.{MapAsks, Rest, rest_of, counts_with, counts_after, table_beside, UpAsks, UpLeaves}
+use Rattle.mapping.specs.Asks.{MapAsks, Rest, rest_of, counts_after, table_beside, UpAsks, UpLeaves}
 use Rattle.mapping.proofs.FreeLaws.{taken_passed}
 
 -- a user below the capacity is a small number
@@ -71,15 +70,6 @@ gap_fills : (t : Table) (u at room i next : ℕ) (s : Table) (words words' : Lis
 gap_fills t u at room i next s words words' h g =
     subst (λ (x : Table). Filled t (i - t.counts.user) x) (sym g.done.table)
     (fill_gap_filled t (i - t.counts.user) (gap_room t u at room i h g.low g.high))
-
--- ---- the slices keep their lengths
-
-pub gap_sizes : (t : Table) (u at i next : ℕ) (s : Table) (words words' : List ℕ) → MapAsks t u at (length words) → Gap t u at i next s words words'
-    → SameSizes t s words words'
-gap_sizes t u at i next s words words' h g =
-    let f = gap_fills t u at _ i next s words words' h g in
-    let c = f.same.capacity in
-    same_sizes t s words words' (sound_of t h.sound).sizes f.sound.sizes (omega arith) (leaves_length _ _ _ _ _ _ g.done)
 
 -- ---- one turn: the user i is at the watermark of s
 
@@ -145,51 +135,58 @@ pub last_kept : (s : Table) (u at g : ℕ) (words : List ℕ) → get_or s.globa
 last_kept s u at g words e =
     subst (λ (x : Result ℕ). (g ≡ x.value) × Leaves x at at s words words) (sym (map_user_has s u g e)) (refl, leaves_stay s at words)
 
--- the user has none: what `map_one` asks
-abbrev pub OneAsks : Table → ℕ → ℕ → ℕ → ℕ → Type 0
-OneAsks s u from at room =
-    let g = free_for s.records s.counts.global u in
-    (s.counts.global ≤ length s.records)
-    × ((NoneFree (free s.records) s.counts.global from)
-    × ((u < length s.global_from_user)
-    × ((u < length s.records)
-    × ((u < s.counts.capacity)
-    × ((s.counts.used + 1 < 2 ^ 32)
-    × ((g < length s.user_from_global)
-    × ((g < length s.records)
-    × ((g < s.counts.capacity)
-    × (at + 3 ≤ room)))))))))
+-- the user has none: what the search and `map_one` ask, where g is the global taken
+pub record OneAsks (s : Table) (u g at room : ℕ) : Type 0 where
+  pub marked : s.counts.global ≤ length s.records
+  pub place : u < length s.global_from_user
+  pub row : u < length s.records
+  pub within : u < s.counts.capacity
+  pub used : s.counts.used + 1 < 2 ^ 32
+  pub global_place : g < length s.user_from_global
+  pub global_row : g < length s.records
+  pub global_within : g < s.counts.capacity
+  pub words : at + 3 ≤ room
 
 -- and what it leaves
-abbrev pub OneLeft : Table → ℕ → ℕ → Counts → Global → ℕ → ℕ → List ℕ → List ℕ → List ℕ → List ℕ → List ℕ → Type 0
-OneLeft s u at c global from next gu ug rc notes noted =
-    let g = free_for s.records s.counts.global u in
-    (global.0 ≡ g)
-    × ((c ≡ map_counts s.counts u g (get_or s.records g 47))
-    × ((NoneFree (free s.records) s.counts.global from)
-    × ((next ≡ at + 3)
-    × ((gu ≡ set s.global_from_user u (g + 1))
-    × ((ug ≡ set s.user_from_global g (u + 1))
-    × ((rc ≡ set s.records g 9)
-    × (noted ≡ sets notes at (0 ∷ g ∷ (u + 1) ∷ []))))))))
+pub record OneLeft (s : Table) (u at : ℕ) (c : Counts) (g : Global) (from next : ℕ) (gu ug rc notes noted : List ℕ) : Type 0 where
+  pub global : g.0 ≡ free_for s.records s.counts.global u
+  pub counts : c ≡ map_counts s.counts u g.0 (get_or s.records g.0 47)
+  pub cursor : NoneFree (free s.records) s.counts.global from
+  pub moved : next ≡ at + 3
+  pub users : gu ≡ set s.global_from_user u (g.0 + 1)
+  pub globals : ug ≡ set s.user_from_global g.0 (u + 1)
+  pub rows : rc ≡ set s.records g.0 9
+  pub words : noted ≡ sets notes at (0 ∷ g.0 ∷ (u + 1) ∷ [])
 
--- the counts that `map_one` makes with 0 for those that it was not lent, with any others
-pub one_counts : (capacity users globals used u g n : ℕ) (d : Counts)
-    → d ≡ with_used (used + n) (cover_user (record { capacity = capacity; user = users; global = globals; solver = 0; used = used; next = 0 }) u g)
-    → (x : Rest) → counts_with capacity d.user d.global d.used x ≡ with_used (used + n) (cover_user (counts_with capacity users globals used x) u g)
-one_counts capacity users globals used u g n d e x = λ i. counts_with capacity (e i).user (e i).global (e i).used x
+-- from the global taken, t, and the cursor after its search
+pub one_left : (s : Table) (u at : ℕ) (c : Counts) (g t : Global) (from past next : ℕ) (gu ug rc notes noted : List ℕ)
+    → g ≡ t → past ≡ from
+    → t.0 ≡ free_for s.records s.counts.global u
+    → NoneFree (free s.records) s.counts.global from
+    → c ≡ map_counts s.counts u t.0 (get_or s.records t.0 47)
+    → next ≡ at + 3
+    → gu ≡ set s.global_from_user u (t.0 + 1)
+    → ug ≡ set s.user_from_global t.0 (u + 1)
+    → rc ≡ set s.records t.0 9
+    → noted ≡ sets notes at (0 ∷ t.0 ∷ (u + 1) ∷ [])
+    → OneLeft s u at c g past next gu ug rc notes noted
+one_left s u at c g t from past next gu ug rc notes noted p q a b d m x y z w =
+    subst (λ (k : Global). OneLeft s u at c k past next gu ug rc notes noted) (sym p)
+    (subst (λ (k : ℕ). OneLeft s u at c t k next gu ug rc notes noted) (sym q)
+    (record { global = a; counts = d; cursor = b; moved = m; users = x; globals = y; rows = z; words = w }))
 
 one_leaves : (s : Table) (u at : ℕ) (c : Counts) (g : Global) (from next : ℕ) (gu ug rc notes noted : List ℕ)
     → OneLeft s u at c g from next gu ug rc notes noted
     → (g.0 ≡ (map_one u s).value) × Leaves (map_one u s) at next (table_of c gu ug s.solver_from_global s.global_from_solver s.assignment rc) notes noted
 unfolding map_one give_user notes_words global_for free_for free
 one_leaves s u at c g from next gu ug rc notes noted o = (
-  o.0,
+  o.global,
   record {
-    table = λ i. table_of (o.1.0 i) (o.1.1.1.1.0 i) (o.1.1.1.1.1.0 i) s.solver_from_global s.global_from_solver s.assignment
-        (o.1.1.1.1.1.1.0 i);
-    noted = o.1.1.1.1.1.1.1;
-    moved = let x = o.1.1.1.0 in omega arith;
+    table = (λ i. table_of (o.counts i) (o.users i) (o.globals i) s.solver_from_global s.global_from_solver s.assignment (o.rows i))
+        ∙ ap (λ (w : ℕ). table_of (map_counts s.counts u w (get_or s.records w 47)) (set s.global_from_user u (w + 1))
+        (set s.user_from_global w (u + 1)) s.solver_from_global s.global_from_solver s.assignment (set s.records w 9)) o.global;
+    noted = o.words ∙ ap (λ (w : ℕ). sets notes at (0 ∷ w ∷ (u + 1) ∷ [])) o.global;
+    moved = let x = o.moved in omega arith;
   },
 )
 
@@ -203,18 +200,28 @@ module _ (s : Table) (u at room : ℕ) (h : MapAsks s u at room) (l : u ≤ s.co
       let r = h.enough in
       record { sound = p; free = e; within = omega arith; mark = omega arith; room = omega arith }
 
-  pub last_asks : (from : ℕ) → NoneFree (free s.records) s.counts.global from → OneAsks s u from at room
-  last_asks from k =
+  pub last_asks : (g : ℕ) → g ≡ free_for s.records s.counts.global u → OneAsks s u g at room
+  last_asks g q =
       let m = last_mappable in
-      let g = (map_one_fresh s u m).within in
+      let v = (map_one_fresh s u m).within in
       let o = own_free s u in
       let z = m.sound.sizes in
       let b = m.sound.stored.used in
       let w = m.within in
       let r = m.room in
-      let v = h.words in
+      let t = h.words in
       let x = to_map_free s u e in
-      (omega arith, (k, (omega arith, (omega arith, (omega arith, (omega arith, (omega arith, (omega arith, (omega arith, omega arith)))))))))
+      record {
+        marked = omega arith;
+        place = omega arith;
+        row = omega arith;
+        within = omega arith;
+        used = omega arith;
+        global_place = omega arith;
+        global_row = omega arith;
+        global_within = omega arith;
+        words = omega arith;
+      }
 
   -- what it leaves
   pub last_done : (c : Counts) (g : Global) (from next : ℕ) (gu ug rc words words2 : List ℕ) → OneLeft s u at c g from next gu ug rc words words2
@@ -222,13 +229,12 @@ module _ (s : Table) (u at room : ℕ) (h : MapAsks s u at room) (l : u ≤ s.co
       words2)
       × NoneFree (free rc) c.global from
   last_done c g from next gu ug rc words words2 o =
-      let q : c.global ≡ max s.counts.global (free_for s.records s.counts.global u + 1) = ap (λ (d : Counts). d.global) o.1.0 in
-      let r = (last_asks 0 (cursor_start _ _)).1.1.1.1.1.1.1.0 in (
+      let q : c.global ≡ max s.counts.global (g.0 + 1) = ap (λ (d : Counts). d.global) o.counts in
+      let r = (last_asks g.0 o.global).global_row in (
         subst (λ (x : Result ℕ). (g.0 ≡ x.value) × Leaves x at next (table_of c gu ug s.solver_from_global s.global_from_solver s.assignment rc)
             words words2)
             (sym (map_here s u e l)) (one_leaves s u at c g from next gu ug rc words words2 o),
-        rw o.1.1.1.1.1.1.0 (taken_passed s.records s.counts.global c.global (free_for s.records s.counts.global u) from r (omega arith)
-            o.1.1.0),
+        rw o.rows (taken_passed s.records s.counts.global c.global g.0 from r (omega arith) o.cursor),
       )
 
 -- ---- the user itself after its gap

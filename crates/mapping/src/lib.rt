@@ -69,7 +69,7 @@ fn global_for(records: &[u32], mark: u32, user: User, from: u32) -> Taken
     }
 }
 
-// One unmapped user, whose gap below is closed, gets a global. Its record becomes 9; note U.
+// One unmapped user, whose gap below is closed, gets the global taken for it. Its record becomes 9; note U.
 fn map_one(
     capacity: u32,
     users: u32,
@@ -79,43 +79,28 @@ fn map_one(
     ug: &mut [u32],
     records: &mut [u32],
     user: User,
-    from: u32,
+    taken: Taken,
     at: usize,
     notes: &mut [u32],
 ) -> Mapped
-    requires globals_in_bounds { globals ≤ length records.old }
-    requires none_free { NoneFree (free records.old) globals from }
     requires user_in_bounds { user.0 < length gu.old }
-    requires user_in_bounds_2 { user.0 < length records.old }
     requires user_lt_capacity { user.0 < capacity }
     requires used_bound { used + 1 < 2 ^ 32 }
-    requires g_in_bounds_1 { let g = free_for records.old globals user.0 in
-        g < length ug.old }
-    requires g_in_bounds_2 { let g = free_for records.old globals user.0 in
-        g < length records.old }
-    requires g_in_bounds_3 { let g = free_for records.old globals user.0 in
-        g < capacity }
+    requires global_in_bounds { taken.global.0 < length ug.old }
+    requires global_in_bounds_2 { taken.global.0 < length records.old }
+    requires global_lt_capacity { taken.global.0 < capacity }
     requires at_in_bounds { at + 3 ≤ length notes.old }
-    ensures global_value_1 { let g = free_for records.old globals user.0 in
-        result.global.0 ≡ g }
-    ensures global_value_2 { let g = free_for records.old globals user.0 in
-        ((x : Rest) → counts_with capacity result.users result.globals result.used x
-        ≡ map_counts (counts_with capacity users globals used x) user.0 g (get_or records.old g 47)) }
-    ensures global_value_3 { let g = free_for records.old globals user.0 in
-        NoneFree (free records.old) globals result.from }
-    ensures global_value_4 { let g = free_for records.old globals user.0 in
-        result.at ≡ at + 3 }
-    ensures gu_value_1 { let g = free_for records.old globals user.0 in
-        gu.new ≡ set gu.old user.0 (g + 1) }
-    ensures gu_value_2 { let g = free_for records.old globals user.0 in
-        ug.new ≡ set ug.old g (user.0 + 1) }
-    ensures gu_value_3 { let g = free_for records.old globals user.0 in
-        records.new ≡ set records.old g 9 }
-    ensures gu_value_4 { let g = free_for records.old globals user.0 in
-        Fills (change notes.old notes.new) at (0 ∷ g ∷ (user.0 + 1) ∷ []) }
+    ensures global_value { result.global ≡ taken.global }
+    ensures from_value { result.from ≡ taken.from }
+    ensures counts_value { (x : Rest) → counts_with capacity result.users result.globals result.used x
+        ≡ map_counts (counts_with capacity users globals used x) user.0 taken.global.0 (get_or records.old taken.global.0 47) }
+    ensures at_value { result.at ≡ at + 3 }
+    ensures gu_value { gu.new ≡ set gu.old user.0 (taken.global.0 + 1) }
+    ensures ug_value { ug.new ≡ set ug.old taken.global.0 (user.0 + 1) }
+    ensures records_value { records.new ≡ set records.old taken.global.0 9 }
+    ensures noted { Fills (change notes.old notes.new) at (0 ∷ taken.global.0 ∷ (user.0 + 1) ∷ []) }
 {
-    let t = global_for(records, globals, user, from);
-    let global = t.global;
+    let global = taken.global;
     let past = at + 3;
     put_note(notes, at, Note::UserGranted(global, user));
     let c = Counts {
@@ -132,7 +117,7 @@ fn map_one(
         globals: counts.global,
         used: counts.used,
         global,
-        from: t.from,
+        from: taken.from,
         at: past,
     }
 }
@@ -161,8 +146,9 @@ pub fn map_last(
     ensures none_free_2 { NoneFree (free records.new) result.globals result.from }
 {
     let Some(global) = global_of(gu, user) else {
+        let taken = global_for(records, globals, user, from);
         return map_one(
-            capacity, users, globals, used, gu, ug, records, user, from, at, notes,
+            capacity, users, globals, used, gu, ug, records, user, taken, at, notes,
         );
     };
     Mapped {
@@ -246,9 +232,10 @@ pub fn map_user(
 pub fn counts_after(c: Counts, m: Mapped) -> Counts
     ensures { result ≡ counts_after c m }
 {
-    let mut counts = c;
-    counts.user = m.users;
-    counts.global = m.globals;
-    counts.used = m.used;
-    counts
+    Counts {
+        user: m.users,
+        global: m.globals,
+        used: m.used,
+        ..c
+    }
 }

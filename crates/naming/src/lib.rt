@@ -1,4 +1,5 @@
 // Map and New user. How the contracts read: crates/scope/specs/Contract.antt.
+// The lists of a table are parameters of their own: each call lends by `&mut` only what it may change.
 #![tactic(auto)]
 
 ghost use Rattle.std.specs.Prelude.{◌≡◌, true, ◌+◌, ◌-◌, ◌<◌, length, get_or};

@@ -1,4 +1,5 @@
 // Open and Lookup (document 01; the crate's `VarMap::get`). How the contracts read: crates/scope/specs/Contract.antt.
+// The lists of a table are parameters of their own, as the C interface lends them.
 #![tactic(auto)]
 
 ghost use Rattle.std.specs.Prelude.{◌≡◌, true, []};

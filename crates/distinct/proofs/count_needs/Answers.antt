@@ -1,6 +1,6 @@
 use mathlib.Core.Path.{sym, ◌∙◌}
 use native.Mathlib.Omega.{arith}
-use Rattle.distinct.proofs.NeedLaws.{marks_start, marks_small, marks_held, marks_needs, marks_end}
+use Rattle.distinct.proofs.NeedLaws.{marks_start, marks_small, marks_held, marks_needs}
 use Rattle.distinct.proofs.count_needs.Goals as goal
 use Rattle.distinct.proofs.count_needs.Goals.{then-needs_grant, else-needs_grant}
 
@@ -23,6 +23,3 @@ loop-code-preserved c =
           (marks_held _ _ _ _ _ _ _ _ c.requires.within c.loop-code-test.true c.loop-code.invariant c.raised-n.ensures
           (sym c.needs_grant.ensures ∙ w.if-needs_grant.false))
     ]
-
-pub returns : goal.returns
-returns c = marks_end _ _ _ _ _ _ _ c.loop-code-test.false c.loop-code.invariant

@@ -2,7 +2,7 @@ use mathlib.Core.Path.{ap, ◌∙◌}
 use native.Mathlib.Omega.{arith}
 use Rattle.table.proofs.FoundLaws.{solver_word, solver_word_lem}
 use Rattle.held.specs.Parts.{none}
-use Rattle.held.proofs.RunLaws.{run_more, run_up, run_end, run_at, held_small}
+use Rattle.held.proofs.RunLaws.{run_more, held_small}
 use Rattle.held.proofs.held_lits.Goals as goal
 
 pub loop-i-init : goal.loop-i-init
@@ -24,10 +24,3 @@ pub loop-i-preserved : goal.loop-i-preserved
 loop-i-preserved c =
     let e = solver_word_lem _ _ c.held_solver.ensures ∙ ap solver_word c.in-Some.is in
     run_more _ _ c.loop-i.invariant c.loop-i-test.true e (omega arith)
-
-pub returns : goal.returns
-returns c =
-    let a = run_up c.loop-i.invariant in
-    let b = run_end c.loop-i.invariant in
-    let l = c.loop-i-test.false in
-    run_at (omega arith) c.loop-i.invariant
