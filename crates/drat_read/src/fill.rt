@@ -24,7 +24,7 @@ struct Start {
     first: usize,
 }
 
-// The place after separators that a token follows.
+// The place after separators that a token follows. No `for`: it would test for an end that is not met.
 fn past_gap(s: &[u8], at: usize) -> usize
     requires { IsGap s.now at }
     ensures { result ≡ at + seps (drop at s.now) }
@@ -54,6 +54,7 @@ fn code_at(s: &[u8], at: usize) -> Literal
     }
 }
 
+// Literals of text up to the 0. Apart from binary's: text passes separators, and so needs to know what is behind a literal.
 fn numbers_from(s: &[u8], codes: &mut [u32], from: usize, first: usize) -> Place
     requires { BodyFits Text s.now from first (length codes.old) }
     ensures { BodyFilled Text s.now from first codes.old codes.new result.at result.n }
@@ -69,6 +70,7 @@ fn numbers_from(s: &[u8], codes: &mut [u32], from: usize, first: usize) -> Place
     Place { at: at + 1, n }
 }
 
+// Literals of binary up to the byte 0.
 fn codes_from(s: &[u8], codes: &mut [u32], from: usize, first: usize) -> Place
     requires { BodyFits Binary s.now from first (length codes.old) }
     ensures { BodyFilled Binary s.now from first codes.old codes.new result.at result.n }

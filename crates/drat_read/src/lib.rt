@@ -44,6 +44,7 @@ fn room_for(size: Size, a: usize, b: usize, c: usize) -> Result<(), ReadError>
 }
 
 // What is judged whole is counted only where it might not fit. All else is scanned step by step.
+// A `match`, since no proof was found of `map_err(ReadError::NotWhole)?`.
 fn find(f: Format, bytes: &[u8], a: usize, b: usize, c: usize) -> Result<(), ReadError>
     ensures { Found f bytes.now a b c result }
 {
