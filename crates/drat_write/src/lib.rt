@@ -1,5 +1,6 @@
 // The DRAT writer: the length of a step before it is written, and the step written at a place.
 // Every byte is that of the plain definition, `encode_step` of drat's specs/Grammar.antt.
+// `out` and `at` are parameters, not a struct: `Fills (change out.old out.new) at ..` would then name two fields on either side.
 #![tactic(auto)]
 
 ghost use Rattle.std.specs.Prelude.{◌≡◌, [], ◌∷◌, ◌++◌, ◌+◌, ◌/◌, ◌%◌, ◌≤◌, ◌<◌, leb, ltb, length, get_or};

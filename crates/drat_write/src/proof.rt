@@ -27,6 +27,7 @@ pub fn ends_rise(ends: &[u64], last: usize) -> bool
     ok & (a == last as u64)
 }
 
+// Apart from `all_below`, which is over `u32`: a trait of words with two impls would be longer than this loop.
 #[tactic(auto, using(drat::proofs::WritingLaws::test_more), unfolding(base::specs::Bounded::all_below))]
 fn kinds_ok(kinds: &[u8]) -> bool
     ensures { result ≡ kinds_test kinds.now }

@@ -21,7 +21,7 @@ pub fn not_lit(c: u32) -> u32
     c / 2 * 2 + (1 - c % 2)
 }
 
-// Whether the words are n sections, each after its count, and where these stand.
+// Whether the words are n sections, each after its count, and where these stand. `place` is a slice, since its callers lend one.
 pub fn cut_sections(lists: &[u32], n: usize, place: &mut [usize]) -> bool
     requires n_bound { n ≤ 8192 }
     requires n_value { n % 2 ≡ 0 }
