@@ -6,20 +6,20 @@ ghost use Rattle.numbers.specs.Flat.{Numbered};
 
 use crate::posed::HzPosed;
 use modes::Observed;
-use scope::Counts;
+use scope::{Counts, Refusal};
 
-pub fn observed_out(r: Observed, c: Counts) -> HzPosed
+pub fn observed_out(r: Result<Observed, Refusal>, c: Counts) -> HzPosed
     ensures { Numbered (observed r c) (plain 2) (result.refusal ∷ result.filled ∷ result.notes ∷ []) result.counts }
 {
     match r {
-        Observed::Done(k, d, m) => HzPosed {
+        Ok(o) => HzPosed {
             refusal: 0,
-            counts: d,
-            filled: k,
-            notes: m,
+            counts: o.counts,
+            filled: o.users,
+            notes: o.notes,
         },
-        Observed::Refused(n) => HzPosed {
-            refusal: n,
+        Err(e) => HzPosed {
+            refusal: u32::from(e),
             counts: c,
             filled: 0,
             notes: 0,

@@ -1,4 +1,7 @@
 -- The members that pass a test, for a loop that has passed the first i.
+use Rattle.std.specs.Prelude.{cond}
+use Rattle.std.specs.List.{filter, count_by}
+use Rattle.std.proofs.lemmas.List.Sums.{length-filter}
 use Prim.Native.Nat.{ℕ, suc, ◌+◌, ◌≤◌, ◌<◌}
 use mathlib.Core.Path.{◌≡◌, refl, sym, ap, ◌∙◌}
 use mathlib.Core.Bool.{Bool, true, false, not, ◌||◌}
@@ -12,6 +15,19 @@ use Rattle.base.specs.Choice.{pick}
 use Rattle.base.specs.Bounded.{any_of, keep_of}
 use Rattle.base.proofs.MemberLaws.{keep_append, keep_step, keep_length}
 use Rattle.base.proofs.SetsLaws.{store_next}
+
+-- those that pass, and how many, as std has them
+kept_is : {A : Type 0} (p : A → Bool) (xs : List A) → filter p xs ≡ keep_of p xs
+unfolding keep_of
+kept_is p [] = refl
+kept_is {A = A} p (x ∷ xs) = go (p x) (kept_is p xs)
+  where
+    go : (b : Bool) → filter p xs ≡ keep_of p xs → cond b (x ∷ filter p xs) (filter p xs) ≡ pick b (x ∷ keep_of p xs) (keep_of p xs)
+    go true e = ap (λ (l : List A). x ∷ l) e
+    go false e = e
+
+pub count_is : {A : Type 0} (p : A → Bool) (xs : List A) → count_by p xs ≡ length (keep_of p xs)
+count_is p xs = sym (length-filter p xs) ∙ ap length (kept_is p xs)
 
 -- some member passes exactly if fewer do not
 pub some_go : (p : ℕ → Bool) (xs : List ℕ) → any_of p xs ≡ ltb (length (keep_of (λ x. not (p x)) xs)) (length xs)

@@ -1,4 +1,5 @@
 -- Laws of `every_of`, `any_of` and `keep_of`: at an index, and for a loop that has passed the first i members.
+use Rattle.std.specs.List.{list_any}
 use Prim.Native.Nat.{ℕ, zero, suc, ◌+◌, ◌≤◌, ◌<◌}
 use mathlib.Core.Path.{◌≡◌, refl, sym, ap, ◌∙◌}
 use mathlib.Core.Bool.{Bool, true, false, ◌&&◌, ◌||◌, true≢false}
@@ -164,6 +165,12 @@ module _ {A : Type 0} (p : A → Bool) where
       go : (b : Bool) → length (keep_of p xs) ≤ length xs → length (pick b (x ∷ keep_of p xs) (keep_of p xs)) ≤ suc (length xs)
       go true h = omega arith
       go false h = omega arith
+
+-- `any_of` as std has it
+pub any_is : {A : Type 0} (p : A → Bool) (xs : List A) → list_any p xs ≡ any_of p xs
+unfolding any_of
+any_is p [] = refl
+any_is p (x ∷ xs) = ap (λ (b : Bool). p x || b) (any_is p xs)
 
 -- a word other than the default stands in the list
 pub word_inside : (xs : List ℕ) (i : ℕ) → get_or xs i 0 ≢ 0 → i < length xs

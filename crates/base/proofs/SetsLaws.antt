@@ -1,11 +1,11 @@
 -- Laws of `sets`, a run of stores.
 use Prim.Native.Nat.{ℕ, suc, ◌+◌, ◌≤◌}
-use mathlib.Core.Path.{◌≡◌, sym, ap, ◌∙◌}
+use mathlib.Core.Path.{◌≡◌, refl, sym, ap, ◌∙◌}
 use mathlib.Core.List.{List, [], ◌∷◌, ◌++◌, append_assoc}
 use native.Mathlib.Nat.{add-zero}
 use native.Mathlib.Omega.{arith}
 use lib.ListN.{length, take, drop, set}
-use lib.Seq.{sets, drop-drop}
+use lib.Seq.{sets, drop-drop, set_comm}
 use Rattle.std.proofs.lemmas.List.Edits.{sets-eq}
 use borrow.Rule.Slice.PartMut.{put_mid}
 
@@ -30,3 +30,9 @@ part_sets a k l xs e h =
     ap (λ (r : List ℕ). take a l ++ (xs ++ r)) (drop-drop k a l ∙ ap (λ (n : ℕ). drop (a + n) l) e)
     ∙ sym (append_assoc (take a l) xs (drop (a + length xs) l))
     ∙ sym (sets-eq xs l a h)
+
+-- a store past a run of stores may come before it
+pub store_before : (bs o : List ℕ) (at j d : ℕ) → at + length bs ≤ j → sets (set o j d) at bs ≡ set (sets o at bs) j d
+store_before [] o at j d h = refl
+store_before (b ∷ bs) o at j d h =
+    ap (λ (l : List ℕ). sets l (suc at) bs) (set_comm o j at d b (λ e. omega arith)) ∙ store_before bs (set o at b) (suc at) j d (omega arith)

@@ -1,4 +1,5 @@
 -- The sections one after another, for a loop that has passed those before l.
+use Rattle.std.specs.Prelude.{Result, Ok, Err}
 use Prim.Native.Nat.{ℕ, zero, suc, ◌+◌, ◌-◌, ◌≤◌, ◌<◌}
 use mathlib.Core.Path.{◌≡◌, refl, sym, ap, ◌∙◌, subst}
 use mathlib.Core.Bool.{Bool, true, false, ◌||◌}
@@ -18,8 +19,8 @@ use Rattle.drat.proofs.Complete.{encode_append}
 use Rattle.scope.specs.Binary.{sections_of, section_at, each_section, filled_codes}
 use Rattle.scope.proofs.BinaryLaws.{sections_length, each_next, each_end}
 use Rattle.sections.specs.Places.{Placed}
-use Rattle.steps.specs.declared.write.Recorded.{Recorded}
-use Rattle.steps.specs.declared.write.Recorded.TheVariants.{Done, Refused}
+use Rattle.scope.specs.declared.Refusal.{Refusal}
+use Rattle.scope.specs.declared.Refusal.TheVariants.{Short}
 use Rattle.steps.specs.Refusals.{laid}
 use Rattle.binary.proofs.RowLaws.{row_length, row_put, row_whole, row_refused, row_done}
 
@@ -79,11 +80,11 @@ module _ (f : Format) (g : ℕ → List ℕ → List Step) (lists : List ℕ) (n
     pub bytes_put : (o m : List ℕ) (i j : ℕ) → m ≡ sets o i (piece l) → j ≡ i + length (piece l) → sets m j (bytes (l + 1)) ≡ sets o i (bytes l)
     bytes_put o m i j u v = row_put (bytes l) (piece l) (bytes (l + 1)) o m i j bytes_next u v
 
-    pub bytes_short : (room used k : ℕ) (r : Recorded) → used + length (bytes l) ≡ length (bytes 0) → used ≤ room → r ≡ laid (piece l) (room - used)
-        → r ≡ Refused k → Refused 2 ≡ laid (bytes 0) room
+    pub bytes_short : (room used : ℕ) (k : Refusal) (r : Result ℕ Refusal) → used + length (bytes l) ≡ length (bytes 0) → used ≤ room → r ≡ laid (piece l) (room - used)
+        → r ≡ Err k → Err k ≡ laid (bytes 0) room
     bytes_short room used k r a u x y = row_refused room used k (bytes 0) (bytes l) (piece l) (bytes (l + 1)) r a bytes_next u x y
 
-    pub bytes_fit : (room used k : ℕ) (r : Recorded) → used ≤ room → r ≡ laid (piece l) (room - used) → r ≡ Done k
+    pub bytes_fit : (room used k : ℕ) (r : Result ℕ Refusal) → used ≤ room → r ≡ laid (piece l) (room - used) → r ≡ Ok k
         → (used + k ≤ room) × (k ≡ length (piece l))
     bytes_fit room used k r u x y = row_done room used k (piece l) r u x y
 
@@ -91,7 +92,7 @@ module _ (f : Format) (g : ℕ → List ℕ → List Step) (lists : List ℕ) (n
   unfolding encode
   bytes_done l h = ap (encode f) (from_done g lists n place p l h)
 
-  pub bytes_whole : (l room used : ℕ) → n ≤ l → used + length (bytes l) ≡ length (bytes 0) → used ≤ room → Done used ≡ laid (bytes 0) room
+  pub bytes_whole : (l room used : ℕ) → n ≤ l → used + length (bytes l) ≡ length (bytes 0) → used ≤ room → Ok used ≡ laid (bytes 0) room
   bytes_whole l room used h a u = row_whole room used (bytes 0) (bytes l) a (bytes_done l h) u
 
 -- how long the section of l is

@@ -1,4 +1,5 @@
 -- One piece after another: a row of words is done up to some place, and the rest is left.
+use Rattle.std.specs.Prelude.{Result, Ok, Err}
 use Prim.Native.Nat.{ℕ, suc, ◌+◌, ◌-◌, ◌≤◌, ◌<◌}
 use mathlib.Core.Path.{◌≡◌, refl, sym, ap, ap₂, ◌∙◌}
 use mathlib.Core.Bool.{Bool, true, false}
@@ -15,8 +16,8 @@ use Rattle.drat.specs.Grammar.{Step, encode_step, encode}
 use Rattle.drat.specs.declared.Format.{Format}
 use Rattle.drat.proofs.Steps.{next}
 use Rattle.scope.specs.Binary.{section_words}
-use Rattle.steps.specs.declared.write.Recorded.{Recorded}
-use Rattle.steps.specs.declared.write.Recorded.TheVariants.{Done, Refused}
+use Rattle.scope.specs.declared.Refusal.{Refusal}
+use Rattle.scope.specs.declared.Refusal.TheVariants.{Short}
 use Rattle.steps.specs.Refusals.{laid}
 use Rattle.steps.proofs.WriteLaws.{laid_done, laid_refused}
 
@@ -32,25 +33,26 @@ row_put w x y o m p q e a b =
 
 -- the piece does not fit in what is left of the room, so the whole does not fit
 row_short : (room used : ℕ) (whole w x y : List ℕ) → used + length w ≡ length whole → w ≡ x ++ y → room - used < length x → used ≤ room
-    → Refused 2 ≡ laid whole room
+    → Err Short ≡ laid whole room
 row_short room used whole w x y h e l u =
     let k = row_length w x y e in
     rw (lt-ltb room (length whole) (omega arith))
 
 -- all of it fits
-pub row_whole : (room used : ℕ) (whole w : List ℕ) → used + length w ≡ length whole → w ≡ [] → used ≤ room → Done used ≡ laid whole room
+pub row_whole : (room used : ℕ) (whole w : List ℕ) → used + length w ≡ length whole → w ≡ [] → used ≤ room → Ok used ≡ laid whole room
 row_whole room used whole w h e u =
     let z = ap length e in
     let k : used ≡ length whole = omega arith in
-    rw (le-ltb room (length whole) (omega arith)) (ap Done k)
+    rw (le-ltb room (length whole) (omega arith)) (ap Ok k)
 
 -- the answer for the piece, opened
-pub row_refused : (room used n : ℕ) (whole w x y : List ℕ) (r : Recorded) → used + length w ≡ length whole → w ≡ x ++ y → used ≤ room
-    → r ≡ laid x (room - used) → r ≡ Refused n → Refused 2 ≡ laid whole room
+pub row_refused : (room used : ℕ) (n : Refusal) (whole w x y : List ℕ) (r : Result ℕ Refusal) → used + length w ≡ length whole → w ≡ x ++ y → used ≤ room
+    → r ≡ laid x (room - used) → r ≡ Err n → Err n ≡ laid whole room
 row_refused room used n whole w x y r h e u a b =
-    row_short room used whole w x y h e (ltb-true (room - used) (length x) (laid_refused x (room - used) n r a b)) u
+    let d = laid_refused x (room - used) n r a b in
+    ap Err d.1 ∙ row_short room used whole w x y h e (ltb-true (room - used) (length x) d.0) u
 
-pub row_done : (room used k : ℕ) (x : List ℕ) (r : Recorded) → used ≤ room → r ≡ laid x (room - used) → r ≡ Done k → (used + k ≤ room) × (k ≡ length x)
+pub row_done : (room used k : ℕ) (x : List ℕ) (r : Result ℕ Refusal) → used ≤ room → r ≡ laid x (room - used) → r ≡ Ok k → (used + k ≤ room) × (k ≡ length x)
 row_done room used k x r u a b =
     let d = laid_done x (room - used) k r a b in
     let l = ltb-false (room - used) (length x) d.0 in
@@ -130,7 +132,7 @@ module _ (q : ℕ → Bool) (es : List ℕ) where
       steps_pass o m p k e u v = λ j. sets (u j) (v j) (sym (steps_none e) j)
 
       pub steps_short : (room used k : ℕ) → q (get_or es i 0) ≡ true → used + length (steps_later i) ≡ length (steps_later 0) → used ≤ room
-          → k ≡ length (step_at i) → room - used < k → Refused 2 ≡ laid (steps_later 0) room
+          → k ≡ length (step_at i) → room - used < k → Err Short ≡ laid (steps_later 0) room
       steps_short room used k e a u v l =
           row_short room used (steps_later 0) (steps_later i) (step_at i) (steps_later (i + 1)) a (stepped e) (omega arith) u
 
@@ -139,5 +141,5 @@ module _ (q : ℕ → Bool) (es : List ℕ) where
     steps_done i h = ap (λ (xs : List ℕ). encode f (map d xs)) (kept_last i h)
 
     pub steps_whole : (i room used : ℕ) → length es ≤ i → used + length (steps_later i) ≡ length (steps_later 0) → used ≤ room
-        → Done used ≡ laid (steps_later 0) room
+        → Ok used ≡ laid (steps_later 0) room
     steps_whole i room used h a u = row_whole room used (steps_later 0) (steps_later i) a (steps_done i h) u

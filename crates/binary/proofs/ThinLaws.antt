@@ -1,4 +1,5 @@
 -- Binary clauses before the sweep: what the call comes to, by its refusals.
+use Rattle.std.specs.Prelude.{Result, Ok, Err}
 use Prim.Native.Nat.{ℕ, zero, suc, ◌+◌, ◌*◌, ◌/◌, ◌≤◌, ◌<◌}
 use mathlib.Core.Path.{◌≡◌, refl, sym, ap, ap₂, ◌∙◌}
 use mathlib.Core.Bool.{Bool, true, false, ◌&&◌}
@@ -23,12 +24,12 @@ use Rattle.scope.specs.Binary.{delete_bytes, binary_refusal, binary_of}
 use Rattle.scope.proofs.ResultLaws.{unless_some}
 use Rattle.scope.proofs.MarkLaws.{lits_else}
 use Rattle.scope.proofs.BinaryLaws.{sections_length, each_words}
-use Rattle.steps.specs.declared.write.Recorded.{Recorded}
-use Rattle.steps.specs.declared.write.Recorded.TheVariants as W
+use Rattle.scope.specs.declared.Refusal.{Refusal}
+use Rattle.scope.specs.declared.Refusal.TheVariants.{Unsound, Short}
+use Rattle.scope.specs.Refusals.{number}
 use Rattle.steps.specs.Refusals.{laid}
 use Rattle.steps.proofs.WriteLaws.{laid_done, laid_refused}
 use Rattle.binary.specs.declared.Thinned.{Thinned}
-use Rattle.binary.specs.declared.Thinned.TheVariants.{Done, Refused}
 use Rattle.binary.specs.Answers.{thinned, lacks, thinned_by, fills_words, fills_bytes}
 use Rattle.binary.specs.Entries.{kept_by, unheld_by, words_by, entries_by, bytes_by}
 
@@ -36,29 +37,30 @@ use Rattle.binary.specs.Entries.{kept_by, unheld_by, words_by, entries_by, bytes
 
 module _ (ws es bs o b : List ℕ) where
   -- what is answered and what the slices hold
-  abbrev pub Thins : Thinned → List ℕ → List ℕ → Type 0
+  abbrev pub Thins : Result Thinned Refusal → List ℕ → List ℕ → Type 0
   Thins r x y =
       (r ≡ thinned_by ws es bs (length o) (length b))
       × ((x ≡ sets o 0 (fills_words ws bs (length o) (length b))) × (y ≡ sets b 0 (fills_bytes ws bs (length o) (length b))))
 
-  by_room : (d : Bool) (r : Thinned) (x y : List ℕ) → lacks ws bs (length o) (length b) ≡ d
-      → r ≡ pick d (Refused 2) (Done (length ws) (length es / 2) (length bs)) → x ≡ sets o 0 (pick d [] ws) → y ≡ sets b 0 (pick d [] bs) → Thins r x y
+  by_room : (d : Bool) (r : Result Thinned Refusal) (x y : List ℕ) → lacks ws bs (length o) (length b) ≡ d
+      → r ≡ pick d (Err Short) (Ok (record { words = length ws; half = length es / 2; bytes = length bs })) → x ≡ sets o 0 (pick d [] ws) → y ≡ sets b 0 (pick d [] bs) → Thins r x y
   by_room d r x y e p u v = rw e (p, (u, v))
 
-  pub lacks_words : length o < length ws → Thins (Refused 2) o b
-  lacks_words h = by_room true (Refused 2) o b (rw (lt-ltb (length o) (length ws) h)) refl refl refl
+  pub lacks_words : length o < length ws → Thins (Err Short) o b
+  lacks_words h = by_room true (Err Short) o b (rw (lt-ltb (length o) (length ws) h)) refl refl refl
 
-  pub lacks_bytes : (r : Recorded) (k : ℕ) → length ws ≤ length o → r ≡ laid bs (length b) → r ≡ W.Refused k → Thins (Refused 2) o b
+  pub lacks_bytes : (r : Result ℕ Refusal) (k : Refusal) → length ws ≤ length o → r ≡ laid bs (length b) → r ≡ Err k → Thins (Err k) o b
   lacks_bytes r k h p q =
-      by_room true (Refused 2) o b (rw (le-ltb (length o) (length ws) h) (laid_refused bs (length b) k r p q)) refl refl refl
+      let w = laid_refused bs (length b) k r p q in
+      by_room true (Err k) o b (rw (le-ltb (length o) (length ws) h) w.0) (ap Err w.1) refl refl
 
-  pub fits : (r : Recorded) (m h k : ℕ) (x y : List ℕ) → r ≡ laid bs (length b) → r ≡ W.Done k → x ≡ sets o 0 ws → y ≡ sets b 0 bs → m ≡ length ws
-      → length ws ≤ length o → h ≡ length es / 2 → Thins (Done m h k) x y
+  pub fits : (r : Result ℕ Refusal) (m h k : ℕ) (x y : List ℕ) → r ≡ laid bs (length b) → r ≡ Ok k → x ≡ sets o 0 ws → y ≡ sets b 0 bs → m ≡ length ws
+      → length ws ≤ length o → h ≡ length es / 2 → Thins (Ok (record { words = m; half = h; bytes = k })) x y
   fits r m h k x y p q u v e l i =
       let w = laid_done bs (length b) k r p q in
-      by_room false (Done m h k) x y (rw (le-ltb (length o) (length ws) l) w.0) (λ d. Done (e d) (i d) (w.1 d)) u v
+      by_room false _ x y (rw (le-ltb (length o) (length ws) l) w.0) (λ d. Ok (record { words = e d; half = i d; bytes = w.1 d })) u v
 
-pub laid_room : (bs : List ℕ) (room k : ℕ) (r : Recorded) → r ≡ laid bs room → r ≡ W.Done k → length bs ≤ room
+pub laid_room : (bs : List ℕ) (room k : ℕ) (r : Result ℕ Refusal) → r ≡ laid bs room → r ≡ Ok k → length bs ≤ room
 laid_room bs room k r p q = ltb-false room (length bs) (laid_done bs room k r p q).0
 
 -- how many words there are
@@ -196,7 +198,7 @@ module _ (f : Format) (t : Table) (lists o b : List ℕ) where
       pub says_unheld : any_of (unheld_by gs) (filled_codes ss) ≡ true → CallSays (refused 8 []) o b
       says_unheld u = parts (refusal 8 t) (refused 8 []) o b (comes_8 f t lists (length o) (length b) s both (unheld_here ∙ u)) refl refl refl
 
-      pub says_thinned : (r : Thinned) (x y : List ℕ) → any_of (unheld_by gs) (filled_codes ss) ≡ false
+      pub says_thinned : (r : Result Thinned Refusal) (x y : List ℕ) → any_of (unheld_by gs) (filled_codes ss) ≡ false
           → Thins (words_by assignment ss) (entries_by assignment ss) (bytes_by f gs assignment ss) o b r x y → CallSays (thinned r t.counts).answer x y
       says_thinned r x y u w =
           let c = comes_last f t lists (length o) (length b) s both (unheld_here ∙ u) in
@@ -210,21 +212,25 @@ module _ (f : Format) (t : Table) (lists o b : List ℕ) where
 
           go : (d : Bool) → comes
               ≡ pick d (refusal 2 t) (filled_by (words_by assignment ss) (length (entries_by assignment ss)) (bytes_by f gs assignment ss))
-              → r ≡ pick d (Refused 2) (Done (length (words_by assignment ss)) (length (entries_by assignment ss) / 2) (length (bytes_by f gs assignment ss)))
+              → r ≡ pick d (Err Short) (Ok (record {
+                words = length (words_by assignment ss);
+                half = length (entries_by assignment ss) / 2;
+                bytes = length (bytes_by f gs assignment ss);
+              }))
               → x ≡ sets o 0 (pick d [] (words_by assignment ss)) → y ≡ sets b 0 (pick d [] (bytes_by f gs assignment ss))
               → CallSays (thinned r t.counts).answer x y
-          go true c p u v = parts (refusal 2 t) _ x y c (ap (λ (q : Thinned). (thinned q t.counts).answer) p) u v
-          go false c p u v = parts _ _ x y c (ap (λ (q : Thinned). (thinned q t.counts).answer) p) u v
+          go true c p u v = parts (refusal 2 t) _ x y c (ap (λ (q : Result Thinned Refusal). (thinned q t.counts).answer) p) u v
+          go false c p u v = parts _ _ x y c (ap (λ (q : Result Thinned Refusal). (thinned q t.counts).answer) p) u v
 
 -- ---- the call
 
 -- the table that an answer leaves is the one given
-thinned_same : (r : Thinned) (t : Table) → table_of (thinned r t.counts).counts t.global_from_user t.user_from_global t.solver_from_global
+thinned_same : (r : Result Thinned Refusal) (t : Table) → table_of (thinned r t.counts).counts t.global_from_user t.user_from_global t.solver_from_global
     t.global_from_solver t.assignment t.records ≡ t
-thinned_same (Done w k b) t = refl
-thinned_same (Refused n) t = refl
+thinned_same (Ok r) t = refl
+thinned_same (Err r) t = refl
 
-pub meets : (f : Format) (t : Table) (lists : List ℕ) (outs room : ℕ) (r : Thinned) → (thinned r t.counts).answer ≡ (outcome f t lists outs room).answer
+pub meets : (f : Format) (t : Table) (lists : List ℕ) (outs room : ℕ) (r : Result Thinned Refusal) → (thinned r t.counts).answer ≡ (outcome f t lists outs room).answer
     → Does (outcome f t lists outs room) (thinned r t.counts)
     (table_of (thinned r t.counts).counts t.global_from_user t.user_from_global t.solver_from_global t.global_from_solver t.assignment t.records)
     [] []
@@ -234,6 +240,6 @@ meets f t lists outs room r e =
     record { answer = e; table = thinned_same r t ∙ sym w.0; noted = sym (ap (λ (ns : List Note). sets [] 0 (notes_words ns)) w.1) }
 
 pub thin_unsound : (f : Format) (t : Table) (lists o b : List ℕ) → soundb t ≡ false
-    → Does (outcome f t lists (length o) (length b)) (thinned (Refused 1) t.counts) t [] []
+    → Does (outcome f t lists (length o) (length b)) (thinned (Err Unsound) t.counts) t [] []
     × ((o ≡ sets o 0 (outcome f t lists (length o) (length b)).words) × (b ≡ sets b 0 (outcome f t lists (length o) (length b)).bytes))
-thin_unsound f t lists o b s = let w = says_1 f t lists o b s in (meets f t lists (length o) (length b) (Refused 1) w.0, w.1)
+thin_unsound f t lists o b s = let w = says_1 f t lists o b s in (meets f t lists (length o) (length b) (Err Unsound) w.0, w.1)

@@ -11,11 +11,10 @@ ghost use Rattle.binary.specs.Entries.{goes_as, clause_by, deletes_by, bytes_by,
 use crate::keep::stays;
 use drat::{Format, Kind};
 use drat_write::{put_step, step_len};
-use scope::Solver;
+use scope::{Refusal, Solver};
 use sections::not_lit;
 use steps::rename::rename_lit;
-use steps::write::Recorded;
-use table::{FoundGlobal, holder};
+use table::holder;
 
 // Whether a section that is not empty is of an index with no holder.
 pub(crate) fn any_unheld(gs: &[u32], place: &[usize], n: usize) -> bool
@@ -25,7 +24,7 @@ pub(crate) fn any_unheld(gs: &[u32], place: &[usize], n: usize) -> bool
     for l in 0..n {
         if place[l] + 1 < place[l + 1] {
             let index = l as u32 / 2;
-            let FoundGlobal::At(_) = holder(gs, Solver(index)) else {
+            let Some(_) = holder(gs, Solver(index)) else {
                 return true;
             };
         }
@@ -68,7 +67,7 @@ fn section_len(
     l: u32,
     es: &[u32],
     room: usize,
-) -> Recorded
+) -> Result<usize, Refusal>
     requires { Named gs.now l es.now }
     ensures { result ≡ laid (encode f (deletes_by gs.now assignment.now l es.now)) room }
 {
@@ -78,12 +77,12 @@ fn section_len(
         if goes(assignment, l, x, m) {
             let k = delete_len(gs, f, x, m);
             if room - used < k {
-                return Recorded::Refused(2);
+                return Err(Refusal::Short);
             }
             used += k;
         }
     }
-    Recorded::Done(used)
+    Ok(used)
 }
 
 // The same of all sections.
@@ -95,7 +94,7 @@ pub(crate) fn deletes_len(
     place: &[usize],
     n: usize,
     room: usize,
-) -> Recorded
+) -> Result<usize, Refusal>
     requires placed { Placed lists.now n place.now }
     requires all_named { AllNamed gs.now (sections_of n lists.now) }
     ensures { result ≡ laid (bytes_by f gs.now assignment.now (sections_of n lists.now)) room }
@@ -104,13 +103,9 @@ pub(crate) fn deletes_len(
     for l in 0..n {
         let a = place[l] + 1;
         let b = place[l + 1];
-        let part = section_len(gs, assignment, f, l as u32, &lists[a..b], room - used);
-        let Recorded::Done(k) = part else {
-            return Recorded::Refused(2);
-        };
-        used += k;
+        used += section_len(gs, assignment, f, l as u32, &lists[a..b], room - used)?;
     }
-    Recorded::Done(used)
+    Ok(used)
 }
 
 // The delete steps of a section, from the place `at` on; the place after them.

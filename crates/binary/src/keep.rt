@@ -1,5 +1,6 @@
 // What stays of the lists: the entries of which neither literal has a value.
 ghost use Rattle.std.specs.Prelude.{◌≡◌, ◌+◌, ◌≤◌, ◌<◌, length};
+ghost use Rattle.std.specs.List.{count_by};
 ghost use Rattle.base.specs.Lent.{Fills, change};
 ghost use Rattle.scope.specs.Binary.{sections_of, section_words};
 ghost use Rattle.sections.specs.Places.{Placed};
@@ -16,15 +17,9 @@ pub(crate) fn stays(assignment: &[u32], l: u32, m: u32) -> bool
 
 // How many entries of the section of l stay.
 fn count_kept(assignment: &[u32], l: u32, es: &[u32]) -> usize
-    ensures { result ≡ length (kept_by assignment.now l es.now) }
+    ensures { result ≡ count_by (stays_by assignment.now l) es.now }
 {
-    let mut k = 0;
-    for &m in es {
-        if stays(assignment, l, m) {
-            k += 1;
-        }
-    }
-    k
+    es.iter().filter(|m| stays(assignment, l, **m)).count()
 }
 
 // What stays of the section of l, from the place `at` on; the place after it.

@@ -1,4 +1,5 @@
 // Binary clauses before the sweep: those with a literal that has a value go, and the delete steps that say so are written.
+// The calls take each list apart, as the C interface lends them.
 #![tactic(auto)]
 
 mod deletes;
@@ -17,16 +18,16 @@ ghost use Rattle.binary.specs.Entries.{words_by, entries_by, bytes_by, AllNamed,
 use deletes::{any_unheld, deletes_len, put_deletes};
 use drat::Format;
 use keep::{count_all, put_lists};
-use scope::Counts;
+use scope::{Counts, Refusal};
 use sections::{all_mirrored, cut_sections};
-use steps::write::Recorded;
-use table::is_sound;
+use table::Lists;
 
 // How many words the lists have, half the number of their entries, and how many bytes were filled.
 #[derive(Clone, Copy)]
-pub enum Thinned {
-    Done(usize, usize, usize),
-    Refused(u32),
+pub struct Thinned {
+    pub words: usize,
+    pub half: usize,
+    pub bytes: usize,
 }
 
 // Lists that are judged, and whose sections are placed: 2.
@@ -39,7 +40,7 @@ fn thin_placed(
     n: usize,
     out: &mut [u32],
     bytes: &mut [u8],
-) -> Thinned
+) -> Result<Thinned, Refusal>
     requires placed { Placed lists.now n place.now }
     requires all_named { AllNamed gs.now (sections_of n lists.now) }
     ensures value { let ss = sections_of n lists.now in
@@ -58,15 +59,16 @@ fn thin_placed(
     let kept = count_all(assignment, lists, place, n);
     let words = n + kept;
     if out.len() < words {
-        return Thinned::Refused(2);
+        return Err(Refusal::Short);
     }
-    let laid = deletes_len(gs, assignment, f, lists, place, n, bytes.len());
-    let Recorded::Done(k) = laid else {
-        return Thinned::Refused(2);
-    };
+    let deleted = deletes_len(gs, assignment, f, lists, place, n, bytes.len())?;
     put_lists(assignment, lists, place, n, out);
     put_deletes(gs, assignment, f, lists, place, n, bytes);
-    Thinned::Done(words, kept / 2, k)
+    Ok(Thinned {
+        words,
+        half: kept / 2,
+        bytes: deleted,
+    })
 }
 
 // The lists of a sound table: 15, 8, 2.
@@ -78,7 +80,7 @@ fn thin_lists(
     lists: &[u32],
     out: &mut [u32],
     bytes: &mut [u8],
-) -> Thinned
+) -> Result<Thinned, Refusal>
     requires { Small solver gs.now }
     ensures { (t : Table) → soundb t ≡ true → t.counts.solver ≡ solver → t.global_from_solver ≡ gs.now → t.assignment ≡ assignment.now →
         let o = binary_of f t lists.now (length out.old) (length bytes.old) in
@@ -87,13 +89,13 @@ fn thin_lists(
     let n = 2 * solver as usize;
     let mut place = [0usize; 8193];
     if !cut_sections(lists, n, &mut place) {
-        return Thinned::Refused(15);
+        return Err(Refusal::BadLists);
     }
     if !all_mirrored(lists, &place, n) {
-        return Thinned::Refused(15);
+        return Err(Refusal::BadLists);
     }
     if any_unheld(gs, &place, n) {
-        return Thinned::Refused(8);
+        return Err(Refusal::NotHeld);
     }
     thin_placed(gs, assignment, f, lists, &place, n, out, bytes)
 }
@@ -112,7 +114,7 @@ pub fn simplify_binary(
     lists: &[u32],
     out: &mut [u32],
     bytes: &mut [u8],
-) -> Thinned
+) -> Result<Thinned, Refusal>
     ensures meets { Meets (λ t room. binary_of f t lists.now (length out.old) (length bytes.old)) (thinned result c)
         (reads c gu.now ug.now sg.now gs.now assignment.now records.now) }
     ensures out { Fills (change out.old out.new) 0
@@ -120,9 +122,16 @@ pub fn simplify_binary(
     ensures bytes { Fills (change bytes.old bytes.new) 0
         (binary_of f (given c gu.now ug.now sg.now gs.now assignment.now records.now) lists.now (length out.old) (length bytes.old)).bytes }
 {
-    if !is_sound(c, gu, ug, sg, gs, assignment, records) {
-        return Thinned::Refused(1);
-    }
+    let t = Lists {
+        counts: c,
+        gu,
+        ug,
+        sg,
+        gs,
+        assignment,
+        records,
+    };
+    t.check_sound()?;
     known_simplify_binary(c, gu, ug, sg, gs, assignment, records, f, lists, out, bytes)
 }
 
@@ -140,7 +149,7 @@ pub fn known_simplify_binary(
     lists: &[u32],
     out: &mut [u32],
     bytes: &mut [u8],
-) -> Thinned
+) -> Result<Thinned, Refusal>
     requires { soundb (given c gu.now ug.now sg.now gs.now assignment.now records.now) ≡ true }
     ensures meets { Meets (λ t room. binary_of f t lists.now (length out.old) (length bytes.old)) (thinned result c)
         (reads c gu.now ug.now sg.now gs.now assignment.now records.now) }

@@ -61,7 +61,14 @@ fn filled(variables: u32, lits: usize, clauses: usize) -> Result<CnfSize, CnfErr
 }
 
 // Whether Read CNF with a and b words lent gives the answer and these words.
-fn gives(bytes: &[u8], a: usize, b: usize, answer: Result<CnfSize, CnfError>, codes: &[u32], ends: &[u64]) -> bool
+fn gives(
+    bytes: &[u8],
+    a: usize,
+    b: usize,
+    answer: Result<CnfSize, CnfError>,
+    codes: &[u32],
+    ends: &[u64],
+) -> bool
     requires a_bound { a ≤ 32 }
     requires b_bound { b ≤ 32 }
 {
@@ -88,7 +95,16 @@ fn file(
 fn wrong(rt: &impl Print, t: &mut Score, bytes: &[u8], place: usize) -> io::Result<()> {
     let none = [0u32; 0];
     let nowhere = [0u64; 0];
-    t.told(rt, gives(bytes, 32, 32, Err(CnfError::WrongLine(place)), &none, &nowhere),
+    t.told(
+        rt,
+        gives(
+            bytes,
+            32,
+            32,
+            Err(CnfError::WrongLine(place)),
+            &none,
+            &nowhere,
+        ),
     )
 }
 
@@ -421,7 +437,10 @@ fn shorts(rt: &impl Print, t: &mut Score) -> io::Result<()> {
     t.told(rt, gives(two, 3, 1, Err(CnfError::Room), &none, &nowhere))?;
     t.told(rt, gives(two, 0, 0, Err(CnfError::Room), &none, &nowhere))?;
     let bad = b"p cnf 3 2\n1 -2 0\n4 0\n";
-    t.told(rt, gives(bad, 0, 0, Err(CnfError::WrongLine(17)), &none, &nowhere))?;
+    t.told(
+        rt,
+        gives(bad, 0, 0, Err(CnfError::WrongLine(17)), &none, &nowhere),
+    )?;
     let empty = filled(9, 0, 0);
     t.told(rt, gives(b"p cnf 9 0\n", 0, 0, empty, &none, &nowhere))
 }
@@ -447,8 +466,15 @@ fn refused(rt: &impl Print, t: &mut Score) -> io::Result<()> {
 }
 
 // The first e bytes read.
-fn first(out: &[u8], e: usize, answer: Result<CnfSize, CnfError>, codes: &[u32], ends: &[u64]) -> bool {
-    out.get(..e).is_some_and(|part| gives(part, 32, 32, answer, codes, ends))
+fn first(
+    out: &[u8],
+    e: usize,
+    answer: Result<CnfSize, CnfError>,
+    codes: &[u32],
+    ends: &[u64],
+) -> bool {
+    out.get(..e)
+        .is_some_and(|part| gives(part, 32, 32, answer, codes, ends))
 }
 
 // A clause of one literal, written and read back.

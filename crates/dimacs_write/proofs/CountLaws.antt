@@ -5,9 +5,9 @@ use mathlib.Core.List.{List, [], ◌∷◌, ◌++◌}
 use mathlib.Core.Logic.{⊎_elim}
 use native.Mathlib.Omega.{arith}
 use lib.ListN.{length, set, length-append}
-use lib.Seq.{sets, set_comm}
+use lib.Seq.{sets}
 use Rattle.base.proofs.Truth.{split}
-use Rattle.base.proofs.SetsLaws.{sets_append}
+use Rattle.base.proofs.SetsLaws.{sets_append, store_before}
 use Rattle.drat.specs.Numeral.{decimal, bytes_of}
 use Rattle.drat.proofs.Numerals.{bytes_top, bytes_below}
 use Rattle.dimacs.proofs.Written.{nought_bytes}
@@ -50,12 +50,6 @@ unfolding tens
 digits_most n h = digits_le 19 n (omega arith)
 
 -- ---- how they are stored
-
--- a store past a run of stores may come before it
-store_before : (bs o : List ℕ) (at j d : ℕ) → at + length bs ≤ j → sets (set o j d) at bs ≡ set (sets o at bs) j d
-store_before [] o at j d h = refl
-store_before (b ∷ bs) o at j d h =
-    ap (λ (l : List ℕ). sets l (suc at) bs) (set_comm o j at d b (λ e. omega arith)) ∙ store_before bs (set o at b) (suc at) j d (omega arith)
 
 pub digit_sets : (n : ℕ) (o : List ℕ) (at p : ℕ) → 10 ≤ n → p ≡ at + length (bytes_of decimal n)
     → sets (set o (p - 1) (48 + n % 10)) at (bytes_of decimal (n / 10)) ≡ sets o at (bytes_of decimal n)

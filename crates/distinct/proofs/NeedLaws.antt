@@ -8,7 +8,6 @@ use native.Mathlib.Omega.{arith}
 use lib.Dec.{eqb, ltb, leb}
 use lib.ListN.{length, get_or, set, take, replicate, length-set}
 use lib.Seq.{take_all, get_or-set_same, get_or-set_other}
-use mir.Val.{bool_byte}
 use borrow.Author.Tests.{eq-eqb, ne_eqb, eqb-true, ltb-true, ltb-false, lt-ltb}
 use Rattle.base.specs.Answer.{accepted, refused}
 use Rattle.base.specs.Choice.{pick}
@@ -18,9 +17,15 @@ use Rattle.base.proofs.BelowLaws.{and_true, and_both, and_left, and_right, and_n
 use Rattle.base.proofs.CountLaws.{count_most, count_none}
 use Rattle.base.proofs.StoreLaws.{zeros}
 use Rattle.base.proofs.MemberLaws.{or_none, or_left, or_right}
+use Rattle.std.specs.Prelude.{Option, Some, None}
+use Rattle.std.specs.Option.{is_some}
+use Rattle.scope.specs.declared.Solver.{Solver}
+use Rattle.table.proofs.FoundLaws.{solver_word}
 use Rattle.scope.specs.Literals.{index_of}
 use Rattle.scope.proofs.ResultLaws.{word_none, word_some}
 use Rattle.distinct.specs.declared.Needs.{Needs}
+use Rattle.distinct.specs.declared.UsersCounted.{UsersCounted}
+use Rattle.std.specs.List.{list_any}
 use Rattle.scope.specs.Distinct.{named, count_named, is_first, plain_count, top_of, is_low, needs_grant, Counting, users_by, Within}
 use Rattle.distinct.specs.Users.{needs_by}
 use Rattle.scope.proofs.DistinctLaws.{named_start, named_more, named_count_start, named_count_more, named_most}
@@ -37,11 +42,12 @@ needs_some : (gu sg : List ℕ) (u g : ℕ) → get_or gu u 0 ≡ g + 1 → eqb 
 unfolding needs_grant
 needs_some gu sg u g e = sym (word_some true (λ g. eqb (get_or sg g 0) 0) _ g e)
 
-pub needs_free : (gu sg : List ℕ) (u g : ℕ) → get_or gu u 0 ≡ g + 1 → get_or sg g 0 ≡ 0 → true ≡ needs_grant gu sg u
-needs_free gu sg u g e q = sym (eq-eqb (get_or sg g 0) 0 q) ∙ needs_some gu sg u g e
-
-pub needs_held : (gu sg : List ℕ) (u g s : ℕ) → get_or gu u 0 ≡ g + 1 → get_or sg g 0 ≡ s + 1 → false ≡ needs_grant gu sg u
-needs_held gu sg u g s e q = sym (ne_eqb (get_or sg g 0) 0 (λ z. omega arith)) ∙ needs_some gu sg u g e
+pub needs_solver : (gu sg : List ℕ) (u g : ℕ) (o : Option Solver) (b : Bool) → get_or gu u 0 ≡ g + 1 → get_or sg g 0 ≡ solver_word o → is_some o ≡ not b
+    → b ≡ needs_grant gu sg u
+needs_solver gu sg u g None true e q s = sym (eq-eqb (get_or sg g 0) 0 q) ∙ needs_some gu sg u g e
+needs_solver gu sg u g (Some i) false e q s = sym (ne_eqb (get_or sg g 0) 0 (λ z. omega arith)) ∙ needs_some gu sg u g e
+needs_solver gu sg u g None false e q s = absurd (true≢false (sym s))
+needs_solver gu sg u g (Some i) true e q s = absurd (true≢false s)
 
 -- a user that has a solver index is mapped
 held_mapped : (gu sg : List ℕ) (mark u : ℕ) → needs_grant gu sg u ≡ false → is_low gu mark u ≡ false
@@ -49,14 +55,6 @@ unfolding is_low
 held_mapped gu sg mark u e =
     let n : get_or gu u 0 ≡ 0 → ⊥ = λ z. true≢false (needs_none gu sg u z ∙ e) in
     and_not_right (ltb u mark) _ (ne_eqb (get_or gu u 0) 0 n)
-
--- a test as a number
-byte_one : (b : Bool) → bool_byte b ≡ pick b 1 0
-byte_one true = refl
-byte_one false = refl
-
-pub byte_adds : (m : ℕ) (b : Bool) → m + bool_byte b ≡ m + pick b 1 0
-byte_adds m b = ap (λ (k : ℕ). m + k) (byte_one b)
 
 -- a test that says of a user that it is unmapped and below the watermark
 pub low_is : (a : Bool) (gu : List ℕ) (mark u : ℕ) → (a ≡ true → (u < mark) × (get_or gu u 0 ≡ 0)) → (u < mark → get_or gu u 0 ≡ 0 → a ≡ true)
@@ -68,13 +66,6 @@ low_is false gu mark u f g = go (ltb u mark && eqb (get_or gu u 0) 0) refl
     go : (b : Bool) → ltb u mark && eqb (get_or gu u 0) 0 ≡ b → false ≡ b
     go false e = refl
     go true e = g (ltb-true u mark (and_left (ltb u mark) _ e)) (eqb-true (get_or gu u 0) 0 (and_right (ltb u mark) _ e))
-
-byte_most : (b : Bool) → bool_byte b ≤ 1
-byte_most true = omega arith
-byte_most false = omega arith
-
-pub byte_fits : (m : ℕ) (b : Bool) → m ≤ 8192 → m + bool_byte b < 2 ^ 32
-byte_fits m b l = let x = byte_most b in omega arith
 
 -- ---- the counts after i literals
 
@@ -90,43 +81,57 @@ pub record CountedTo (f : (ℕ → Bool) → ℕ) (mark : ℕ) (gu sg lits : Lis
   pub top : n.top ≡ top_of mark (take i lits)
   pub grants : n.grants ≡ f (needs_grant gu sg)
 
--- n with the watermark after raised above the user u, and the same with u counted if it is the first
-abbrev pub Raised : Needs → Needs → ℕ → Type 0
-Raised n m u = (m.low ≡ n.low) × ((m.top ≡ max n.top (u + 1)) × (m.grants ≡ n.grants))
+-- n with the watermark after raised above the user u, and m with u counted if it is the first
+abbrev pub with_top : Needs → ℕ → Needs
+with_top n u = record n { top = max n.top (u + 1) }
 
-abbrev pub Counts : ℕ → List ℕ → Needs → Needs → Bool → ℕ → Type 0
-Counts mark gu m r first u = (r.low ≡ m.low + pick (first && is_low gu mark u) 1 0) × ((r.top ≡ m.top) × (r.grants ≡ m.grants + pick first 1 0))
+abbrev pub with_user : ℕ → List ℕ → Needs → Bool → ℕ → Needs
+with_user mark gu m first u = record m { low = m.low + pick (first && is_low gu mark u) 1 0; grants = m.grants + pick first 1 0 }
 
-counted_start : (f : (ℕ → Bool) → ℕ) (mark : ℕ) (gu sg lits : List ℕ) → ((p : ℕ → Bool) → f p ≡ 0)
-    → CountedTo f mark gu sg lits 0 (record { low = 0; top = mark; grants = 0 })
-counted_start f mark gu sg lits z = record { low = sym (z (is_low gu mark)); top = top_start mark lits; grants = sym (z (needs_grant gu sg)) }
+low_eq : {n m : Needs} → n ≡ m → n.low ≡ m.low
+low_eq e = ap (λ (k : Needs). k.low) e
+
+top_eq : {n m : Needs} → n ≡ m → n.top ≡ m.top
+top_eq e = ap (λ (k : Needs). k.top) e
+
+grants_eq : {n m : Needs} → n ≡ m → n.grants ≡ m.grants
+grants_eq e = ap (λ (k : Needs). k.grants) e
+
+counted_start : (f : (ℕ → Bool) → ℕ) (mark : ℕ) (gu sg lits : List ℕ) (n : Needs) → ((p : ℕ → Bool) → f p ≡ 0)
+    → n ≡ record { low = 0; top = mark; grants = 0 } → CountedTo f mark gu sg lits 0 n
+counted_start f mark gu sg lits n z e =
+    record {
+      low = low_eq e ∙ sym (z (is_low gu mark));
+      top = top_eq e ∙ top_start mark lits;
+      grants = grants_eq e ∙ sym (z (needs_grant gu sg));
+    }
 
 -- one literal more, whose user is u: what it adds, where `first` says that no earlier one has its user
 module _ (f g : (ℕ → Bool) → ℕ) (first : Bool) (mark : ℕ) (gu sg lits : List ℕ) (i : ℕ) (n m : Needs)
     (a : (p : ℕ → Bool) → g p ≡ f p + pick (first && p (index_of (get_or lits i 0))) 1 0) (l : i < length lits)
-    (d : CountedTo f mark gu sg lits i n) (e : Raised n m (index_of (get_or lits i 0))) where
+    (d : CountedTo f mark gu sg lits i n) (e : m ≡ with_top n (index_of (get_or lits i 0))) where
   counted_top : m.top ≡ top_of mark (take (i + 1) lits)
-  counted_top = let x = e.1.0 in let y = d.top in let z = top_more mark lits i l in omega arith
+  counted_top = let x = top_eq e in let y = d.top in let z = top_more mark lits i l in omega arith
 
   -- a user that has a solver index adds nothing
   counted_held : needs_grant gu sg (index_of (get_or lits i 0)) ≡ false → CountedTo g mark gu sg lits (i + 1) m
   counted_held h =
       record {
-        low = e.0 ∙ d.low ∙ sym (none (is_low gu mark) (held_mapped gu sg mark _ h));
+        low = low_eq e ∙ d.low ∙ sym (none (is_low gu mark) (held_mapped gu sg mark _ h));
         top = counted_top;
-        grants = e.1.1 ∙ d.grants ∙ sym (none (needs_grant gu sg) h);
+        grants = grants_eq e ∙ d.grants ∙ sym (none (needs_grant gu sg) h);
       }
     where
       none : (p : ℕ → Bool) → p (index_of (get_or lits i 0)) ≡ false → g p ≡ f p
       none p q = let x = a p in let y : ◌≡◌ {A = ℕ} (pick (first && p (index_of (get_or lits i 0))) 1 0) 0 = rw (and_not_right first _ q) in omega arith
 
-  counted_needs : (r : Needs) → needs_grant gu sg (index_of (get_or lits i 0)) ≡ true → Counts mark gu m r first (index_of (get_or lits i 0))
+  counted_needs : (r : Needs) → needs_grant gu sg (index_of (get_or lits i 0)) ≡ true → r ≡ with_user mark gu m first (index_of (get_or lits i 0))
       → CountedTo g mark gu sg lits (i + 1) r
   counted_needs r h c =
       record {
-        low = c.0 ∙ ap (λ (k : ℕ). k + pick (first && is_low gu mark (index_of (get_or lits i 0))) 1 0) (e.0 ∙ d.low) ∙ sym (a (is_low gu mark));
-        top = c.1.0 ∙ counted_top;
-        grants = c.1.1 ∙ ap (λ (k : ℕ). k + pick first 1 0) (e.1.1 ∙ d.grants)
+        low = low_eq c ∙ ap (λ (k : ℕ). k + pick (first && is_low gu mark (index_of (get_or lits i 0))) 1 0) (low_eq e ∙ d.low) ∙ sym (a (is_low gu mark));
+        top = top_eq c ∙ counted_top;
+        grants = grants_eq c ∙ ap (λ (k : ℕ). k + pick first 1 0) (grants_eq e ∙ d.grants)
             ∙ ap (λ (b : Bool). f (needs_grant gu sg) + pick b 1 0) (sym (and_true first) ∙ ap (λ (b : Bool). first && b) (sym h))
             ∙ sym (a (needs_grant gu sg));
       }
@@ -192,7 +197,6 @@ marked_needs gu sg lits i seen l k h m =
 -- ---- the loop with marks
 
 pub record MarkedTo (mark : ℕ) (gu sg lits : List ℕ) (i : ℕ) (seen : List ℕ) (n : Needs) : Type 0 where
-  pub most : i ≤ length lits
   pub counted : CountedTo (by_users lits i) mark gu sg lits i n
   pub marked : Marked gu sg lits i seen
 
@@ -202,25 +206,25 @@ adds_user : (lits : List ℕ) (i : ℕ) → i < length lits → index_of (get_or
 unfolding is_first
 adds_user lits i l k p = named_count_more lits i p l k
 
-pub marks_start : (mark : ℕ) (gu sg lits : List ℕ) → MarkedTo mark gu sg lits 0 (replicate 4096 0) (record { low = 0; top = mark; grants = 0 })
-marks_start mark gu sg lits =
+pub marks_start : (mark : ℕ) (gu sg lits : List ℕ) (n : Needs) → n ≡ record { low = 0; top = mark; grants = 0 }
+    → MarkedTo mark gu sg lits 0 (replicate 4096 0) n
+marks_start mark gu sg lits n e =
     record {
-      most = omega arith;
-      counted = counted_start (by_users lits 0) mark gu sg lits (named_count_start lits);
+      counted = counted_start (by_users lits 0) mark gu sg lits n (named_count_start lits) e;
       marked = marked_start gu sg lits;
     }
 
-pub marks_small : (mark : ℕ) (gu sg lits : List ℕ) (i u : ℕ) (seen : List ℕ) (n m : Needs) → MarkedTo mark gu sg lits i seen n → Raised n m u
+pub marks_small : (mark : ℕ) (gu sg lits : List ℕ) (i u : ℕ) (seen : List ℕ) (n m : Needs) → MarkedTo mark gu sg lits i seen n → m ≡ with_top n u
     → (m.low ≤ 8192) × (m.grants ≤ 8192)
 marks_small mark gu sg lits i u seen n m d e =
-    let a = e.0 ∙ d.counted.low in
-    let b = e.1.1 ∙ d.counted.grants in
+    let a = low_eq e ∙ d.counted.low in
+    let b = grants_eq e ∙ d.counted.grants in
     let x = named_most 4096 (is_low gu mark) (take i lits) in
     let y = named_most 4096 (needs_grant gu sg) (take i lits) in
     (omega arith, omega arith)
 
 module _ (mark : ℕ) (gu sg lits : List ℕ) (i : ℕ) (seen : List ℕ) (n m : Needs) (w : Within lits 4096) (l : i < length lits)
-    (d : MarkedTo mark gu sg lits i seen n) (e : Raised n m (index_of (get_or lits i 0))) where
+    (d : MarkedTo mark gu sg lits i seen n) (e : m ≡ with_top n (index_of (get_or lits i 0))) where
   first : Bool
   first = not (named (take i lits) (index_of (get_or lits i 0)))
 
@@ -228,22 +232,20 @@ module _ (mark : ℕ) (gu sg lits : List ℕ) (i : ℕ) (seen : List ℕ) (n m :
   unfolding first
   marks_held h =
       record {
-        most = omega arith;
         counted = counted_held (by_users lits i) (by_users lits (i + 1)) first mark gu sg lits i n m (adds_user lits i l (w.at i l)) l d.counted e h;
         marked = marked_held gu sg lits i seen l h d.marked;
       }
 
   pub marks_needs : (place : ℕ) (r : Needs) → place ≡ index_of (get_or lits i 0) → needs_grant gu sg (index_of (get_or lits i 0)) ≡ true
-      → Counts mark gu m r (eqb (get_or seen place 0) 0) (index_of (get_or lits i 0))
+      → r ≡ with_user mark gu m (eqb (get_or seen place 0) 0) (index_of (get_or lits i 0))
       → MarkedTo mark gu sg lits (i + 1) (set seen place 1) r
   unfolding first
   marks_needs place r q h c =
       let u = index_of (get_or lits i 0) in
       let f = ap (λ (v : ℕ). eqb (get_or seen v 0) 0) q ∙ seen_first gu sg lits i u seen (w.at i l) h d.marked in
       record {
-        most = omega arith;
         counted = counted_needs (by_users lits i) (by_users lits (i + 1)) first mark gu sg lits i n m (adds_user lits i l (w.at i l)) l d.counted e r h
-            (subst (λ (b : Bool). Counts mark gu m r b u) f c);
+            (subst (λ (b : Bool). r ≡ with_user mark gu m b u) f c);
         marked = subst (λ (v : ℕ). Marked gu sg lits (i + 1) (set seen v 1)) (sym q) (marked_needs gu sg lits i seen l (w.at i l) h d.marked);
       }
 
@@ -254,56 +256,52 @@ marks_end mark gu sg lits i seen n l d =
 
 -- ---- the plain loop
 
-pub record PlainTo (mark : ℕ) (gu sg lits : List ℕ) (i : ℕ) (n : Needs) : Type 0 where
-  pub most : i ≤ length lits
-  pub counted : CountedTo (by_lits lits i) mark gu sg lits i n
+abbrev pub PlainTo : ℕ → List ℕ → List ℕ → List ℕ → ℕ → Needs → Type 0
+PlainTo mark gu sg lits i n = CountedTo (by_lits lits i) mark gu sg lits i n
 
 adds_lit : (lits : List ℕ) (i : ℕ) (p : ℕ → Bool)
     → by_lits lits (i + 1) p ≡ by_lits lits i p + pick (not (named (take i lits) (index_of (get_or lits i 0))) && p (index_of (get_or lits i 0))) 1 0
 unfolding is_first
 adds_lit lits i p = first_count_more lits i p
 
-pub plain_start : (mark : ℕ) (gu sg lits : List ℕ) → PlainTo mark gu sg lits 0 (record { low = 0; top = mark; grants = 0 })
-plain_start mark gu sg lits =
-    record { most = omega arith; counted = counted_start (by_lits lits 0) mark gu sg lits (λ p. count_none (is_first p lits)) }
+pub plain_start : (mark : ℕ) (gu sg lits : List ℕ) (n : Needs) → n ≡ record { low = 0; top = mark; grants = 0 } → PlainTo mark gu sg lits 0 n
+plain_start mark gu sg lits n e = counted_start (by_lits lits 0) mark gu sg lits n (λ p. count_none (is_first p lits)) e
 
-pub plain_small : (mark : ℕ) (gu sg lits : List ℕ) (i u : ℕ) (n m : Needs) → length lits ≤ 8192 → PlainTo mark gu sg lits i n → Raised n m u
-    → (m.low ≤ 8192) × (m.grants ≤ 8192)
-plain_small mark gu sg lits i u n m l d e =
-    let a = e.0 ∙ d.counted.low in
-    let b = e.1.1 ∙ d.counted.grants in
-    let c = d.most in
+pub plain_small : (mark : ℕ) (gu sg lits : List ℕ) (i u : ℕ) (n m : Needs) → length lits ≤ 8192 → i ≤ length lits → PlainTo mark gu sg lits i n
+    → m ≡ with_top n u → (m.low ≤ 8192) × (m.grants ≤ 8192)
+plain_small mark gu sg lits i u n m l c d e =
+    let a = low_eq e ∙ d.low in
+    let b = grants_eq e ∙ d.grants in
     let x = count_most i (is_first (is_low gu mark) lits) in
     let y = count_most i (is_first (needs_grant gu sg) lits) in
     (omega arith, omega arith)
 
 module _ (mark : ℕ) (gu sg lits : List ℕ) (i : ℕ) (n m : Needs) (l : i < length lits)
-    (d : PlainTo mark gu sg lits i n) (e : Raised n m (index_of (get_or lits i 0))) where
+    (d : PlainTo mark gu sg lits i n) (e : m ≡ with_top n (index_of (get_or lits i 0))) where
   pub plain_held : needs_grant gu sg (index_of (get_or lits i 0)) ≡ false → PlainTo mark gu sg lits (i + 1) m
   plain_held h =
-      record {
-        most = omega arith;
-        counted = counted_held (by_lits lits i) (by_lits lits (i + 1)) (not (named (take i lits) (index_of (get_or lits i 0)))) mark gu sg lits i n m
-            (adds_lit lits i) l d.counted e h;
-      }
+      counted_held (by_lits lits i) (by_lits lits (i + 1)) (not (named (take i lits) (index_of (get_or lits i 0)))) mark gu sg lits i n m
+      (adds_lit lits i) l d e h
 
   pub plain_needs : (before : Bool) (r : Needs) → before ≡ named (take i lits) (index_of (get_or lits i 0))
       → needs_grant gu sg (index_of (get_or lits i 0)) ≡ true
-      → Counts mark gu m r (not before) (index_of (get_or lits i 0))
+      → r ≡ with_user mark gu m (not before) (index_of (get_or lits i 0))
       → PlainTo mark gu sg lits (i + 1) r
   plain_needs before r b h c =
-      record {
-        most = omega arith;
-        counted = counted_needs (by_lits lits i) (by_lits lits (i + 1)) (not (named (take i lits) (index_of (get_or lits i 0)))) mark gu sg lits i n m
-            (adds_lit lits i) l d.counted e r h (subst (λ (x : Bool). Counts mark gu m r (not x) (index_of (get_or lits i 0))) b c);
-      }
+      counted_needs (by_lits lits i) (by_lits lits (i + 1)) (not (named (take i lits) (index_of (get_or lits i 0)))) mark gu sg lits i n m
+      (adds_lit lits i) l d e r h (subst (λ (x : Bool). r ≡ with_user mark gu m (not x) (index_of (get_or lits i 0))) b c)
 
-pub plain_end : (mark : ℕ) (gu sg lits : List ℕ) (i : ℕ) (n : Needs) → length lits ≤ i → PlainTo mark gu sg lits i n
+pub plain_end : (mark : ℕ) (gu sg lits : List ℕ) (i : ℕ) (n : Needs) → i ≡ length lits → PlainTo mark gu sg lits i n
     → n ≡ needs_by plain_count mark gu sg lits
 unfolding plain_count
-plain_end mark gu sg lits i n l d =
-    let e : i ≡ length lits = let x = d.most in omega arith in
-    counted_end plain_count (by_lits lits i) mark gu sg lits i n l (λ p. ap (λ (m : ℕ). count m (is_first p lits)) e) d.counted
+plain_end mark gu sg lits i n e d =
+    counted_end plain_count (by_lits lits i) mark gu sg lits i n (omega arith) (λ p. ap (λ (m : ℕ). count m (is_first p lits)) e) d
+
+-- a test that std makes
+pub named_is : (xs : List ℕ) (v : ℕ) → list_any (λ c. eqb (index_of c) v) xs ≡ named xs v
+unfolding any_of
+named_is [] v = refl
+named_is (x ∷ xs) v = ap (λ (b : Bool). eqb (index_of x) v || b) (named_is xs v)
 
 -- ---- the answers
 
@@ -319,10 +317,13 @@ module _ (lits : List ℕ) (b : Bool) (q : b ≡ ltb 8192 (length lits) || any_o
       within_of lits 4096 (or_right (ltb 8192 (length lits)) _ (sym q ∙ e)),
     )
 
-    pub users_told : (k : Counting) (mark : ℕ) (gu sg : List ℕ) (n : Needs) → n ≡ needs_by k mark gu sg lits
-        → accepted ((n.low + (n.top - mark)) ∷ n.grants ∷ []) ≡ users_by k mark gu sg lits
+    pub users_told : (k : Counting) (mark : ℕ) (gu sg : List ℕ) (n : Needs) (r : UsersCounted) → n ≡ needs_by k mark gu sg lits
+        → r ≡ record { users = n.low + (n.top - mark); grants = n.grants }
+        → accepted (r.users ∷ r.grants ∷ []) ≡ users_by k mark gu sg lits
     unfolding users_by
-    users_told k mark gu sg n h = rw (sym q ∙ e) (λ i. accepted (((h i).low + ((h i).top - mark)) ∷ (h i).grants ∷ []))
+    users_told k mark gu sg n r h z =
+        ap (λ (x : UsersCounted). accepted (x.users ∷ x.grants ∷ [])) z
+        ∙ rw (sym q ∙ e) (λ i. accepted (((h i).low + ((h i).top - mark)) ∷ (h i).grants ∷ []))
 
     pub users_fit : (k : Counting) (mark : ℕ) (gu sg : List ℕ) (n : Needs) → k (is_low gu mark) lits ≤ 8192 → n ≡ needs_by k mark gu sg lits
         → (mark ≤ n.top) × (n.low + (n.top - mark) < 2 ^ 32)

@@ -1,15 +1,17 @@
 // The distinct users of a clause that Pose will map, and grant a solver index: counted in one pass, and plainly.
+// The two ways differ in how a user is known to be new, by its mark or by the literals before; what they share is in `Needs`.
+// The watermark and the two maps are parameters of their own, as the C interface lends them.
 #![tactic(auto)]
 
-ghost use Rattle.std.specs.Prelude.{◌≡◌, ◌&&◌, ◌||◌, ◌+◌, ◌≤◌, ◌<◌, max, ltb, leb, length, get_or, take};
+ghost use Rattle.std.specs.Prelude.{◌≡◌, ◌&&◌, ◌||◌, ◌+◌, ◌-◌, ◌^◌, ◌≤◌, ◌<◌, max, ltb, leb, length, get_or, take};
 ghost use Rattle.base.specs.Bounded.{any_of};
 ghost use Rattle.base.specs.Choice.{pick};
 ghost use Rattle.scope.specs.Literals.{index_of};
 ghost use Rattle.scope.specs.Distinct.{named, count_named, plain_count, is_low, needs_grant, users_by, Within};
 ghost use Rattle.distinct.specs.Users.{needs_by, users_counted};
 
-use scope::{User, larger};
-use table::{FoundGlobal, FoundSolver, any_outside, global_of, solver_of, word_at};
+use scope::{Refusal, User};
+use table::{any_outside, global_of, solver_of, word_at};
 
 // What the literals need: unmapped users below the watermark, the watermark after, and solver indices.
 #[derive(Clone, Copy)]
@@ -20,23 +22,20 @@ pub struct Needs {
 }
 
 // The answer: how many users are to be mapped, and how many to be granted a solver index.
-#[derive(Clone, Copy)]
-pub enum UsersCounted {
-    Done(u32, u32),
-    Refused(u32),
+#[derive(Clone, Copy, Debug, PartialEq, Eq)]
+pub struct UsersCounted {
+    pub users: u32,
+    pub grants: u32,
 }
 
 // A user that is unmapped, or whose global has no solver index.
 fn needs_grant(gu: &[u32], sg: &[u32], user: User) -> bool
     ensures { result ≡ needs_grant gu.now sg.now user.0 }
 {
-    let FoundGlobal::At(g) = global_of(gu, user) else {
+    let Some(g) = global_of(gu, user) else {
         return true;
     };
-    let FoundSolver::At(_) = solver_of(sg, g) else {
-        return true;
-    };
-    false
+    solver_of(sg, g).is_none()
 }
 
 // An unmapped user below the watermark.
@@ -47,35 +46,55 @@ fn is_low(mark: u32, gu: &[u32], user: User) -> bool
     (user.0 < mark) & (word == 0)
 }
 
-// One user more that needs a grant; it counts if it was not seen before.
-fn count_one(mark: u32, gu: &[u32], user: User, fresh: bool, n: Needs) -> Needs
-    requires low_bound { n.low ≤ 8192 }
-    requires grants_bound { n.grants ≤ 8192 }
-    ensures low_value { result.low ≡ n.low + pick (fresh && is_low gu.now mark user.0) 1 0 }
-    ensures top_value { result.top ≡ n.top }
-    ensures grants_value { result.grants ≡ n.grants + pick fresh 1 0 }
-{
-    let low = n.low + (fresh & is_low(mark, gu, user)) as u32;
-    let grants = n.grants + fresh as u32;
-    Needs {
-        low,
-        top: n.top,
-        grants,
+impl Needs {
+    // No literal yet.
+    fn none(mark: u32) -> Needs
+        ensures { result ≡ record { low = 0; top = mark; grants = 0 } }
+    {
+        Needs {
+            low: 0,
+            top: mark,
+            grants: 0,
+        }
     }
-}
 
-// A literal more: the watermark after is above its user.
-fn raised(user: User, n: Needs) -> Needs
-    requires { user.0 < 4096 }
-    ensures low_value { result.low ≡ n.low }
-    ensures top_value { result.top ≡ max n.top (user.0 + 1) }
-    ensures grants_value { result.grants ≡ n.grants }
-{
-    let top = larger(n.top, user.0 + 1);
-    Needs {
-        low: n.low,
-        top,
-        grants: n.grants,
+    // A literal more: the watermark after is above its user.
+    fn raised(self, user: User) -> Needs
+        requires { user.0 < 4096 }
+        ensures { result ≡ record self { top = max self.top (user.0 + 1) } }
+    {
+        Needs {
+            top: self.top.max(user.0 + 1),
+            ..self
+        }
+    }
+
+    // One user more that needs a grant; it counts if it was not seen before.
+    fn counted(self, mark: u32, gu: &[u32], user: User, fresh: bool) -> Needs
+        requires low_bound { self.low ≤ 8192 }
+        requires grants_bound { self.grants ≤ 8192 }
+        ensures { result ≡ record self {
+          low = self.low + pick (fresh && is_low gu.now mark user.0) 1 0;
+          grants = self.grants + pick fresh 1 0;
+        } }
+    {
+        Needs {
+            low: self.low + u32::from(fresh & is_low(mark, gu, user)),
+            grants: self.grants + u32::from(fresh),
+            ..self
+        }
+    }
+
+    // What it comes to: the users from the watermark up are to be mapped too.
+    fn told(self, mark: u32) -> UsersCounted
+        requires mark_le_top { mark ≤ self.top }
+        requires users_bound { self.low + (self.top - mark) < 2 ^ 32 }
+        ensures { result ≡ record { users = self.low + (self.top - mark); grants = self.grants } }
+    {
+        UsersCounted {
+            users: self.low + (self.top - mark),
+            grants: self.grants,
+        }
     }
 }
 
@@ -86,21 +105,14 @@ pub fn count_needs(mark: u32, gu: &[u32], sg: &[u32], lits: &[u32]) -> Needs
     ensures { result ≡ needs_by (count_named 4096) mark gu.now sg.now lits.now }
 {
     let mut seen = [0u8; 4096];
-    let mut n = Needs {
-        low: 0,
-        top: mark,
-        grants: 0,
-    };
-    let mut i = 0;
-    while i < lits.len() {
-        let code = lits[i];
-        let user = User(code / 2);
-        i += 1;
-        n = raised(user, n);
+    let mut n = Needs::none(mark);
+    for code in lits {
+        let user = User(*code / 2);
+        n = n.raised(user);
         if needs_grant(gu, sg, user) {
-            let place = (code / 2) as usize;
+            let place = (*code / 2) as usize;
             let fresh = seen[place] == 0;
-            n = count_one(mark, gu, user, fresh, n);
+            n = n.counted(mark, gu, user, fresh);
             seen[place] = 1;
         }
     }
@@ -113,14 +125,7 @@ fn named_before(lits: &[u32], i: usize) -> bool
     ensures { result ≡ named (take i lits.now) (index_of (get_or lits.now i 0)) }
 {
     let u = lits[i] / 2;
-    let mut j = 0;
-    while j < i {
-        if lits[j] / 2 == u {
-            return true;
-        }
-        j += 1;
-    }
-    false
+    lits[..i].iter().any(|code| *code / 2 == u)
 }
 
 // The same with no marks: for each literal those before it are gone through.
@@ -129,20 +134,13 @@ fn count_needs_plain(mark: u32, gu: &[u32], sg: &[u32], lits: &[u32]) -> Needs
     requires within { Within lits.now 4096 }
     ensures { result ≡ needs_by plain_count mark gu.now sg.now lits.now }
 {
-    let mut n = Needs {
-        low: 0,
-        top: mark,
-        grants: 0,
-    };
-    let mut i = 0;
-    while i < lits.len() {
-        let code = lits[i];
-        let user = User(code / 2);
+    let mut n = Needs::none(mark);
+    for (i, code) in lits.iter().enumerate() {
+        let user = User(*code / 2);
         let fresh = !named_before(lits, i);
-        i += 1;
-        n = raised(user, n);
+        n = n.raised(user);
         if needs_grant(gu, sg, user) {
-            n = count_one(mark, gu, user, fresh, n);
+            n = n.counted(mark, gu, user, fresh);
         }
     }
     n
@@ -168,25 +166,33 @@ fn out_of_range(lits: &[u32]) -> bool
 }
 
 // How many users Pose would map, and grant a solver index, by the user watermark and the two maps: `users_by (count_named 4096)`; 3.
-pub fn users_to_map(mark: u32, gu: &[u32], sg: &[u32], lits: &[u32]) -> UsersCounted
+pub fn users_to_map(
+    mark: u32,
+    gu: &[u32],
+    sg: &[u32],
+    lits: &[u32],
+) -> Result<UsersCounted, Refusal>
     ensures { users_counted result ≡ users_by (count_named 4096) mark gu.now sg.now lits.now }
 {
     if out_of_range(lits) {
-        return UsersCounted::Refused(3);
+        return Err(Refusal::OutOfRange);
     }
     let n = count_needs(mark, gu, sg, lits);
-    let users = n.low + (n.top - mark);
-    UsersCounted::Done(users, n.grants)
+    Ok(n.told(mark))
 }
 
 // The same, counted plainly: `users_by plain_count`; 3.
-pub fn users_to_map_plain(mark: u32, gu: &[u32], sg: &[u32], lits: &[u32]) -> UsersCounted
+pub fn users_to_map_plain(
+    mark: u32,
+    gu: &[u32],
+    sg: &[u32],
+    lits: &[u32],
+) -> Result<UsersCounted, Refusal>
     ensures { users_counted result ≡ users_by plain_count mark gu.now sg.now lits.now }
 {
     if out_of_range(lits) {
-        return UsersCounted::Refused(3);
+        return Err(Refusal::OutOfRange);
     }
     let n = count_needs_plain(mark, gu, sg, lits);
-    let users = n.low + (n.top - mark);
-    UsersCounted::Done(users, n.grants)
+    Ok(n.told(mark))
 }

@@ -1,5 +1,5 @@
 -- The bytes of small numbers, digit by digit: decimal up to four digits, LEB128 up to two bytes; and their lengths by comparisons.
-use Prim.Native.Nat.{ℕ, suc, ◌+◌, ◌*◌, ◌/◌, ◌%◌, ◌≤◌, ◌<◌}
+use Prim.Native.Nat.{ℕ, zero, suc, ◌+◌, ◌*◌, ◌/◌, ◌%◌, ◌≤◌, ◌<◌}
 use mathlib.Core.Path.{◌≡◌, refl, sym, ap, ap₂, ◌∙◌}
 use mathlib.Core.List.{List, [], ◌∷◌, ◌++◌, append_assoc}
 use mathlib.Core.Bool.{Bool, true, false}
@@ -8,6 +8,7 @@ use native.Mathlib.Omega.{arith}
 use lib.Dec.{eqb, leb}
 use lib.ListN.{length, get_or, set, drop, length-append}
 use lib.Seq.{sets, set-set}
+use Rattle.base.proofs.SetsLaws.{sets_append, store_before}
 use borrow.Author.Tests.{eqb-true, eqb-false, leb-true, leb-false}
 use Rattle.base.specs.Choice.{pick}
 use Rattle.base.proofs.Truth.{split}
@@ -19,7 +20,7 @@ use Rattle.drat.specs.declared.Format.TheVariants.{Text, Binary}
 use Rattle.drat.proofs.Numerals.{bytes_top, bytes_below}
 use Rattle.drat.proofs.Steps.{step_length, numbers_sets, opens_le, ends_le}
 
--- a digit more in front of the blank
+-- a digit more
 more_digit : (n : ℕ) (ds : List ℕ) → 10 ≤ n → bytes_of decimal (n / 10) ≡ ds → bytes_of decimal n ≡ ds ++ (48 + n % 10) ∷ []
 more_digit n ds h e = bytes_below decimal (omega arith) n h ∙ ap (λ (bs : List ℕ). bs ++ (48 + n % 10) ∷ []) e
 
@@ -41,17 +42,62 @@ digits_4 n h k =
     more_digit n _ (omega arith) (digits_3 (n / 10) (omega arith) (omega arith))
     ∙ ap₂ (λ (x y : ℕ). (48 + x) ∷ (48 + y % 10) ∷ (48 + n / 10 % 10) ∷ (48 + n % 10) ∷ []) e d
 
-pub blanked_1 : (n : ℕ) → 0 < n → n < 10 → blanked n ≡ (48 + n) ∷ 32 ∷ []
-blanked_1 n h k = ap (λ (bs : List ℕ). bs ++ 32 ∷ []) (digits_1 n h k)
+-- the last k digits
+unfoldable pub last_digits : ℕ → ℕ → List ℕ
+last_digits zero n = []
+last_digits (suc k) n = last_digits k (n / 10) ++ (48 + n % 10) ∷ []
 
-pub blanked_2 : (n : ℕ) → 10 ≤ n → n < 100 → blanked n ≡ (48 + n / 10) ∷ (48 + n % 10) ∷ 32 ∷ []
-blanked_2 n h k = ap (λ (bs : List ℕ). bs ++ 32 ∷ []) (digits_2 n h k)
+pub last_digits_length : (k n : ℕ) → length (last_digits k n) ≡ k
+unfolding last_digits
+last_digits_length zero n = refl
+last_digits_length (suc k) n = omega (arith, length-append (last_digits k (n / 10)) ((48 + n % 10) ∷ []), last_digits_length k (n / 10))
 
-pub blanked_3 : (n : ℕ) → 100 ≤ n → n < 1000 → blanked n ≡ (48 + n / 100) ∷ (48 + n / 10 % 10) ∷ (48 + n % 10) ∷ 32 ∷ []
-blanked_3 n h k = ap (λ (bs : List ℕ). bs ++ 32 ∷ []) (digits_3 n h k)
+-- a digit stored, and then those before it
+pub last_digits_sets : (k n : ℕ) (o : List ℕ) (at j d : ℕ) → j ≡ at + k → sets (set o j d) at (last_digits k n) ≡ sets o at (last_digits k n ++ d ∷ [])
+last_digits_sets k n o at j d e =
+    let ds = last_digits k n in
+    let z : j ≡ at + length ds = omega (arith, e, last_digits_length k n) in
+    store_before ds o at j d (omega (arith, z)) ∙ ap (λ (i : ℕ). set (sets o at ds) i d) z ∙ sym (sets_append ds (d ∷ []) o at)
 
-pub blanked_4 : (n : ℕ) → 1000 ≤ n → n < 10000 → blanked n ≡ (48 + n / 1000) ∷ (48 + n / 100 % 10) ∷ (48 + n / 10 % 10) ∷ (48 + n % 10) ∷ 32 ∷ []
-blanked_4 n h k = ap (λ (bs : List ℕ). bs ++ 32 ∷ []) (digits_4 n h k)
+-- a digit more, and none
+pub last_digits_step : (m k n : ℕ) (o : List ℕ) (at j : ℕ) → m ≡ suc k → j ≡ at + k
+    → sets (set o j (48 + n % 10)) at (last_digits k (n / 10)) ≡ sets o at (last_digits m n)
+unfolding last_digits
+last_digits_step m k n o at j e h = last_digits_sets k (n / 10) o at j (48 + n % 10) h ∙ ap (λ (i : ℕ). sets o at (last_digits i n)) (sym e)
+
+pub last_digits_none : (m n : ℕ) (o : List ℕ) (at : ℕ) → m ≡ 0 → sets o at (last_digits m n) ≡ o
+unfolding last_digits
+last_digits_none m n o at e = ap (λ (i : ℕ). sets o at (last_digits i n)) e
+
+-- all digits of a number with so many
+all_1 : (n : ℕ) → 0 < n → n < 10 → bytes_of decimal n ≡ last_digits 1 n
+unfolding last_digits
+all_1 n h k = let e : n ≡ n % 10 = omega arith in bytes_top decimal (omega arith) n h k ∙ ap (λ (d : ℕ). (48 + d) ∷ []) e
+
+one_digit : (k n : ℕ) → 10 ≤ n → bytes_of decimal (n / 10) ≡ last_digits k (n / 10) → bytes_of decimal n ≡ last_digits (suc k) n
+unfolding last_digits
+one_digit k n h e = bytes_below decimal (omega arith) n h ∙ ap (λ (bs : List ℕ). bs ++ (48 + n % 10) ∷ []) e
+
+all_2 : (n : ℕ) → 10 ≤ n → n < 100 → bytes_of decimal n ≡ last_digits 2 n
+all_2 n h k = one_digit 1 n h (all_1 (n / 10) (omega arith) (omega arith))
+
+all_3 : (n : ℕ) → 100 ≤ n → n < 1000 → bytes_of decimal n ≡ last_digits 3 n
+all_3 n h k = one_digit 2 n (omega arith) (all_2 (n / 10) (omega arith) (omega arith))
+
+all_4 : (n : ℕ) → 1000 ≤ n → n < 10000 → bytes_of decimal n ≡ last_digits 4 n
+all_4 n h k = one_digit 3 n (omega arith) (all_3 (n / 10) (omega arith) (omega arith))
+
+pub blanked_1 : (n : ℕ) → 0 < n → n < 10 → blanked n ≡ last_digits 1 n ++ 32 ∷ []
+blanked_1 n h k = ap (λ (bs : List ℕ). bs ++ 32 ∷ []) (all_1 n h k)
+
+pub blanked_2 : (n : ℕ) → 10 ≤ n → n < 100 → blanked n ≡ last_digits 2 n ++ 32 ∷ []
+blanked_2 n h k = ap (λ (bs : List ℕ). bs ++ 32 ∷ []) (all_2 n h k)
+
+pub blanked_3 : (n : ℕ) → 100 ≤ n → n < 1000 → blanked n ≡ last_digits 3 n ++ 32 ∷ []
+blanked_3 n h k = ap (λ (bs : List ℕ). bs ++ 32 ∷ []) (all_3 n h k)
+
+pub blanked_4 : (n : ℕ) → 1000 ≤ n → n < 10000 → blanked n ≡ last_digits 4 n ++ 32 ∷ []
+blanked_4 n h k = ap (λ (bs : List ℕ). bs ++ 32 ∷ []) (all_4 n h k)
 
 pub leb_1 : (n : ℕ) → 0 < n → n < 128 → bytes_of leb128 n ≡ n ∷ []
 leb_1 n h k = bytes_top leb128 (omega arith) n h k
@@ -77,6 +123,7 @@ leb_most n p q =
 
 -- 10, 100 and 1000 are the numbers of the codes 18, 198 and 1998
 blanked_length : (c : ℕ) → c < 8192 → length (blanked (c / 2 + 1)) ≡ 2 + pick (leb 18 c) 1 0 + pick (leb 198 c) 1 0 + pick (leb 1998 c) 1 0
+unfolding last_digits
 blanked_length c h = go (leb 18 c) (leb 198 c) (leb 1998 c) refl refl refl
   where
     go : (x y z : Bool) → leb 18 c ≡ x → leb 198 c ≡ y → leb 1998 c ≡ z → length (blanked (c / 2 + 1)) ≡ 2 + pick x 1 0 + pick y 1 0 + pick z 1 0

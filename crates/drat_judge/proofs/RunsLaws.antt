@@ -11,7 +11,6 @@ use native.Mathlib.Omega.{arith}
 use borrow.Author.Tests.{lt-ltb, le-ltb}
 use Rattle.base.specs.Choice.{pick}
 use Rattle.drat.proofs.Steps.{next}
-use Rattle.drat.specs.declared.Format.TheVariants.{Text, Binary}
 use Rattle.drat.specs.declared.Format.{Format}
 use Rattle.drat.proofs.Shapes.{one_le}
 use Rattle.drat.specs.Numeral.{in_range}

@@ -2,7 +2,7 @@
 // Every byte is that of the plain definition, `encode_step` of drat's specs/Grammar.antt.
 #![tactic(auto)]
 
-ghost use Rattle.std.specs.Prelude.{◌≡◌, [], ◌∷◌, ◌+◌, ◌/◌, ◌%◌, ◌≤◌, ◌<◌, leb, ltb, length, get_or};
+ghost use Rattle.std.specs.Prelude.{◌≡◌, [], ◌∷◌, ◌++◌, ◌+◌, ◌/◌, ◌%◌, ◌≤◌, ◌<◌, leb, ltb, length, get_or};
 ghost use Rattle.base.specs.Lent.{Fills, change};
 ghost use Rattle.base.specs.Choice.{pick};
 ghost use Rattle.base.specs.Bounded.{all_below};
@@ -11,7 +11,7 @@ ghost use Rattle.drat.specs.Numeral.{bytes_of, leb128};
 ghost use Rattle.drat.specs.Grammar.{blanked, number, numbers, opens, ends, step_of, encode_step, Codes};
 ghost use Rattle.drat.specs.Writing.{no_clause, write_clause_of, wrote};
 ghost use Rattle.drat.specs.Listed.{write_all_of};
-ghost use Rattle.drat.proofs.Shapes.{Short};
+ghost use Rattle.drat.proofs.Shapes.{Short, last_digits};
 
 use drat::{Format, Kind, WriteError};
 use proof::{no_proof, numbers_len, proof_fits, put_proof};
@@ -86,55 +86,19 @@ pub fn put_bytes(bytes: &[u8], out: &mut [u8], at: usize) -> usize
     end
 }
 
-// A number of one to four digits and a blank, from the place `at` on.
-fn put1(n: u32, out: &mut [u8], at: usize) -> usize
-    requires n_bound { n < 10 }
-    requires at_in_bounds { at + 2 ≤ length out.old }
-    ensures value { result ≡ at + 2 }
-    ensures fills { Fills (change out.old out.new) at ((48 + n) ∷ 32 ∷ []) }
+// Writes the last N digits of a number and a blank, and gives the place after them.
+fn put_digits<const N: usize>(n: u32, out: &mut [u8], at: usize) -> usize
+    requires { at + (N + 1) ≤ length out.old }
+    ensures value { result ≡ at + (N + 1) }
+    ensures fills { Fills (change out.old out.new) at (last_digits N n ++ 32 ∷ []) }
 {
-    out[at] = (48 + n) as u8;
-    out[at + 1] = 32;
-    at + 2
-}
-
-fn put2(n: u32, out: &mut [u8], at: usize) -> usize
-    requires n_bound { n < 100 }
-    requires at_in_bounds { at + 3 ≤ length out.old }
-    ensures value { result ≡ at + 3 }
-    ensures fills { Fills (change out.old out.new) at ((48 + n / 10) ∷ (48 + n % 10) ∷ 32 ∷ []) }
-{
-    out[at] = (48 + n / 10) as u8;
-    out[at + 1] = (48 + n % 10) as u8;
-    out[at + 2] = 32;
-    at + 3
-}
-
-fn put3(n: u32, out: &mut [u8], at: usize) -> usize
-    requires n_bound { n < 1000 }
-    requires at_in_bounds { at + 4 ≤ length out.old }
-    ensures value { result ≡ at + 4 }
-    ensures fills { Fills (change out.old out.new) at ((48 + n / 100) ∷ (48 + n / 10 % 10) ∷ (48 + n % 10) ∷ 32 ∷ []) }
-{
-    out[at] = (48 + n / 100) as u8;
-    out[at + 1] = (48 + n / 10 % 10) as u8;
-    out[at + 2] = (48 + n % 10) as u8;
-    out[at + 3] = 32;
-    at + 4
-}
-
-fn put4(n: u32, out: &mut [u8], at: usize) -> usize
-    requires n_bound { n < 10000 }
-    requires at_in_bounds { at + 5 ≤ length out.old }
-    ensures value { result ≡ at + 5 }
-    ensures fills { Fills (change out.old out.new) at ((48 + n / 1000) ∷ (48 + n / 100 % 10) ∷ (48 + n / 10 % 10) ∷ (48 + n % 10) ∷ 32 ∷ []) }
-{
-    out[at] = (48 + n / 1000) as u8;
-    out[at + 1] = (48 + n / 100 % 10) as u8;
-    out[at + 2] = (48 + n / 10 % 10) as u8;
-    out[at + 3] = (48 + n % 10) as u8;
-    out[at + 4] = 32;
-    at + 5
+    out[at + N] = b' ';
+    let mut rest = n;
+    for i in 0..N {
+        out[at + (N - 1 - i)] = (48 + rest % 10) as u8;
+        rest = rest / 10;
+    }
+    at + (N + 1)
 }
 
 // Writes a number and a blank, and gives the place after them.
@@ -145,15 +109,15 @@ fn put_decimal(n: u32, out: &mut [u8], at: usize) -> usize
     ensures fills { Fills (change out.old out.new) at (blanked n) }
 {
     if n < 10 {
-        return put1(n, out, at);
+        return put_digits::<1>(n, out, at);
     }
     if n < 100 {
-        return put2(n, out, at);
+        return put_digits::<2>(n, out, at);
     }
     if n < 1000 {
-        return put3(n, out, at);
+        return put_digits::<3>(n, out, at);
     }
-    put4(n, out, at)
+    put_digits::<4>(n, out, at)
 }
 
 // Writes a code + 2 in LEB128: one byte or two.

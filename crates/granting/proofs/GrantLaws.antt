@@ -1,4 +1,5 @@
 -- Laws of Grant.
+use Rattle.std.specs.Prelude.{Option, Some, None, Result, Ok, Err}
 use Prim.Native.Nat.{ℕ, zero, suc, ◌+◌, ◌*◌, ◌/◌, ◌^◌, ◌≤◌, ◌<◌}
 use mathlib.Core.Path.{◌≡◌, refl, sym, ap, ◌∙◌, subst}
 use mathlib.Core.Bool.{Bool, true, false, ◌&&◌, not}
@@ -8,7 +9,7 @@ use lib.Dec.{eqb, ltb, leb}
 use lib.ListN.{length, get_or, set}
 use lib.Seq.{sets}
 use borrow.Author.Tests.{le-ltb, le-leb, lt-leb, ne_eqb, leb-true, leb-false, ltb-false, not-false}
-use Rattle.base.specs.Answer.{number_of, values_of}
+use Rattle.base.specs.Answer.{Answer, accepted, refused}
 use Rattle.base.proofs.MemberLaws.{get_d_default}
 use Rattle.scope.specs.declared.Counts.{Counts}
 use Rattle.scope.specs.declared.Solver.{Solver}
@@ -17,13 +18,11 @@ use Rattle.scope.specs.Sound.{soundb, Sound}
 use Rattle.scope.specs.Notes.{notes_words}
 use Rattle.scope.specs.Outcome.{short}
 use Rattle.scope.specs.Grant.{grant_one, grant, grant_refusal, grant_of}
-use Rattle.scope.specs.Contract.{Said, Does}
+use Rattle.scope.specs.Contract.{Does}
 use Rattle.scope.proofs.SoundLaws.{sound_of}
 use Rattle.scope.proofs.PairLaws.{below_mark, pair_flip}
 use Rattle.scope.proofs.GrantLaws.{next_solver_below, grant_free, grant_has, to_grant, grant_count}
 use Rattle.scope.proofs.ResultLaws.{past, word_none}
-use Rattle.table.specs.declared.FoundSolver.{FoundSolver}
-use Rattle.table.specs.declared.FoundSolver.TheVariants as S
 use Rattle.table.specs.Found.{found_solver}
 use Rattle.table.proofs.FoundLaws.{solver_word, solver_word_lem}
 use Rattle.changes.specs.AtOnce.{solver_found, AtOnce}
@@ -32,7 +31,11 @@ use Rattle.changes.proofs.LeavesLaws.{leaves_stay}
 use Rattle.changes.proofs.AtOnceLaws.{at_once_found, at_once_noted}
 use Rattle.changes.proofs.CallLaws.{call_refused, call_accepted, call_noted}
 use Rattle.granting.specs.declared.Granted.{Granted}
-use Rattle.granting.specs.declared.Granted.TheVariants.{Done, Refused}
+use Rattle.scope.specs.declared.Refusal.{Refusal}
+use Rattle.scope.specs.declared.Refusal.TheVariants.{Unsound}
+use Rattle.scope.specs.Refusals.{number, refused_by}
+use Rattle.scope.proofs.RefusedLaws.{number_not_0, refused_err, refusal_at, refusal_back}
+use Rattle.table.proofs.AnswerLaws.{one_of}
 use Rattle.granting.specs.Asks.{GrantAsks}
 use Rattle.granting.specs.Answers.{granted}
 
@@ -193,31 +196,37 @@ grant_few t g = let e = grant_count t g in let x = go (get_or t.solver_from_glob
 
 -- ---- the call
 
-pub grant_refused : (t : Table) (g n : ℕ) (words : List ℕ) → n ≡ grant_refusal t g (length words) → (n ≡ 0 → ⊥)
-    → Does (grant_of t g (length words)) (granted (Refused n) t.counts) t words words
+pub grant_refused : {A : Type 0} (t : Table) (g : ℕ) (x : Result A Refusal) (r : Refusal) (words : List ℕ)
+    → refused_by x ≡ grant_refusal t g (length words) → x ≡ Err r → Does (grant_of t g (length words)) (granted (Err r) t.counts) t words words
 unfolding grant_of
-grant_refused t g n words q e = call_refused (grant_refusal t g (length words)) n t _ words q e
+grant_refused t g x r words q e =
+    call_refused (grant_refusal t g (length words)) (number r) t _ words (sym (refused_err x r e) ∙ q) (number_not_0 r)
 
 pub grant_unsound : (t : Table) (g : ℕ) (words : List ℕ) → soundb t ≡ false
-    → Does (grant_of t g (length words)) (granted (Refused 1) t.counts) t words words
-grant_unsound t g words n = grant_refused t g 1 words (grant_1 t g (length words) n) (λ z. omega arith)
+    → Does (grant_of t g (length words)) (granted (Err Unsound) t.counts) t words words
+grant_unsound t g words n = grant_refused {A = Unit {0}} t g (Err Unsound) Unsound words (grant_1 t g (length words) n) refl
 
 pub grant_done : (t : Table) (g n at : ℕ) (s : Solver) (left : Table) (words words' : List ℕ) → n ≡ grant_refusal t g (length words) → n ≡ 0
     → s.0 ≡ (grant g t).value → Leaves (grant g t) 0 at left words words'
-    → Does (grant_of t g (length words)) (granted (Done s left.counts (at / 3)) t.counts) left words words'
+    → Does (grant_of t g (length words)) (granted (Ok (record { solver = s; counts = left.counts; notes = at / 3 })) t.counts) left words words'
 unfolding grant_of
 grant_done t g n at s left words words' q e v h =
     call_accepted (grant_refusal t g (length words)) n t _ _ left words words' q e
     (call_noted (λ s. s ∷ []) (s.0 ∷ []) (grant g t) at left.counts left words words' h (ap (λ (i : ℕ). i ∷ []) v))
 
 -- The number and the values tell the answer.
-pub granted_one : (x y : Granted) (c : Counts) → granted x c ≡ granted y c → x ≡ y
-granted_one (Done s d n) (Done s' d' n') c e =
-    let v = ap (λ (k : Said). values_of k.answer) e in
-    λ i. Done (record { 0 = get_or (v i) 0 0 }) (e i).counts (get_or (v i) 1 0)
-granted_one (Done s d n) (Refused m) c e = let z = ap (λ (k : Said). length (values_of k.answer)) e in absurd (omega arith)
-granted_one (Refused n) (Done s d m) c e = let z = ap (λ (k : Said). length (values_of k.answer)) e in absurd (omega arith)
-granted_one (Refused n) (Refused m) c e = λ i. Refused (number_of (e i).answer)
+abbrev granted_from : Answer → Counts → Result Granted Refusal
+granted_from (accepted []) d = Err Unsound
+granted_from (accepted (s ∷ [])) d = Err Unsound
+granted_from (accepted (s ∷ n ∷ ns)) d = Ok (record { solver = record { 0 = s }; counts = d; notes = n })
+granted_from (refused n vs) d = Err (refusal_at n)
+
+granted_back : (c : Counts) (x : Result Granted Refusal) → granted_from (granted x c).answer (granted x c).counts ≡ x
+granted_back c (Ok x) = refl
+granted_back c (Err r) = ap Err (refusal_back r)
+
+pub granted_one : (x y : Result Granted Refusal) (c : Counts) → granted x c ≡ granted y c → x ≡ y
+granted_one x y c = one_of (λ z. granted z c) (λ s. granted_from s.answer s.counts) (granted_back c) x y
 
 -- ---- a solver index held already
 
@@ -246,10 +255,10 @@ module _ (t : Table) (g : ℕ) (k : soundb t ≡ true) where
   unfolding grant_of to_grant
   free_nothing h = at_once_noted (grant_refusal t g) t (grant g t) 0 (grant_count t g ∙ word_none 1 (λ s. 0) _ h)
 
-pub grant_at_once : (g : ℕ) (sg : List ℕ) (f : FoundSolver) → f ≡ found_solver (get_or sg g 0) → (t : Table) → soundb t ≡ true → t.solver_from_global ≡ sg
+pub grant_at_once : (g : ℕ) (sg : List ℕ) (f : Option Solver) → f ≡ found_solver (get_or sg g 0) → (t : Table) → soundb t ≡ true → t.solver_from_global ≡ sg
     → AtOnce (λ room. grant_of t g room) t (solver_found f)
 grant_at_once g sg f e t k p = go f (ap (λ (l : List ℕ). get_or l g 0) p ∙ solver_word_lem (get_or sg g 0) f e)
   where
-    go : (f : FoundSolver) → get_or t.solver_from_global g 0 ≡ solver_word f → AtOnce (λ room. grant_of t g room) t (solver_found f)
-    go (S.At s) h = held_found t g k s.0 h
-    go S.Nothing h = free_nothing t g k h
+    go : (f : Option Solver) → get_or t.solver_from_global g 0 ≡ solver_word f → AtOnce (λ room. grant_of t g room) t (solver_found f)
+    go (Some s) h = held_found t g k s.0 h
+    go None h = free_nothing t g k h

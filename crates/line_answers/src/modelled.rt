@@ -6,6 +6,7 @@ ghost use Rattle.numbers.specs.Surface.{plain};
 ghost use Rattle.numbers.specs.Flat.{Numbered};
 
 use model::Modelled;
+use scope::Refusal;
 
 // How many global words and how many user literals were filled.
 #[repr(C)]
@@ -16,17 +17,17 @@ pub struct HzModelled {
     pub users: u32,
 }
 
-pub fn modelled_out(r: Modelled) -> HzModelled
+pub fn modelled_out(r: Result<Modelled, Refusal>) -> HzModelled
     ensures { (c : Counts) → Numbered (modelled r c) (plain 2) (result.refusal ∷ result.globals ∷ result.users ∷ []) c }
 {
     match r {
-        Modelled::Done(globals, users) => HzModelled {
+        Ok(m) => HzModelled {
             refusal: 0,
-            globals: globals,
-            users: users,
+            globals: m.globals,
+            users: m.users,
         },
-        Modelled::Refused(n) => HzModelled {
-            refusal: n,
+        Err(e) => HzModelled {
+            refusal: u32::from(e),
             globals: 0,
             users: 0,
         },

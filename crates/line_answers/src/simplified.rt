@@ -7,7 +7,7 @@ ghost use Rattle.scope.specs.Steps.{flag};
 ghost use Rattle.numbers.specs.Surface.{plain};
 ghost use Rattle.numbers.specs.Flat.{Numbered};
 
-use scope::Simplified;
+use scope::{Refusal, Simplified};
 use simplify::Reduced;
 
 // What was made of the clause, how many literals were filled, the add step's flag, and how many bytes were filled.
@@ -32,19 +32,19 @@ fn made_out(what: Simplified) -> u32
     }
 }
 
-pub fn reduced_out(r: Reduced) -> HzSimplified
+pub fn reduced_out(r: Result<Reduced, Refusal>) -> HzSimplified
     ensures { (c : Counts) → Numbered (reduced r c) (plain 4) (result.refusal ∷ result.made ∷ result.lits ∷ flag result.redundant ∷ result.bytes ∷ []) c }
 {
     match r {
-        Reduced::Done(what, k, redundant, m) => HzSimplified {
+        Ok(r) => HzSimplified {
             refusal: 0,
-            made: made_out(what),
-            lits: k,
-            redundant: redundant,
-            bytes: m,
+            made: made_out(r.what),
+            lits: r.left,
+            redundant: r.redundant,
+            bytes: r.bytes,
         },
-        Reduced::Refused(n) => HzSimplified {
-            refusal: n,
+        Err(e) => HzSimplified {
+            refusal: u32::from(e),
             made: 0,
             lits: 0,
             redundant: false,

@@ -6,6 +6,7 @@ ghost use Rattle.numbers.specs.Surface.{plain};
 ghost use Rattle.numbers.specs.Flat.{Numbered};
 
 use binary::Thinned;
+use scope::Refusal;
 
 // How many words of lists were filled, half the number of their entries, and how many bytes were filled.
 #[repr(C)]
@@ -17,18 +18,18 @@ pub struct HzThinned {
     pub bytes: usize,
 }
 
-pub fn thinned_out(r: Thinned) -> HzThinned
+pub fn thinned_out(r: Result<Thinned, Refusal>) -> HzThinned
     ensures { (c : Counts) → Numbered (thinned r c) (plain 3) (result.refusal ∷ result.words ∷ result.half ∷ result.bytes ∷ []) c }
 {
     match r {
-        Thinned::Done(words, half, bytes) => HzThinned {
+        Ok(t) => HzThinned {
             refusal: 0,
-            words: words,
-            half: half,
-            bytes: bytes,
+            words: t.words,
+            half: t.half,
+            bytes: t.bytes,
         },
-        Thinned::Refused(n) => HzThinned {
-            refusal: n,
+        Err(e) => HzThinned {
+            refusal: u32::from(e),
             words: 0,
             half: 0,
             bytes: 0,

@@ -1,4 +1,6 @@
 -- The call: what its refusal and its accepted outcome say of the answer and of the lent memory.
+use Rattle.std.specs.Prelude.{Ok, Err}
+use Rattle.std.specs.Prelude as P
 use Prim.Native.Nat.{ℕ, ◌≤◌, ◌<◌}
 use mathlib.Core.Path.{◌≡◌, refl, sym, ap, ◌∙◌}
 use mathlib.Core.Bool.{true, false, ◌||◌, not}
@@ -9,7 +11,7 @@ use lib.ListN.{length}
 use lib.Seq.{sets}
 use borrow.Author.Tests.{lt-ltb, le-ltb, ltb-false, not-false}
 use Rattle.base.specs.Choice.{pick}
-use Rattle.base.specs.Answer.{accepted}
+use Rattle.base.specs.Answer.{Answer, accepted, refused}
 use Rattle.base.proofs.MemberLaws.{or_left, or_right}
 use Rattle.scope.proofs.ResultLaws.{past, unless_some}
 use Rattle.scope.specs.Table.{Table}
@@ -19,18 +21,27 @@ use Rattle.scope.specs.Outcome.{Outcome, refusal, unless}
 use Rattle.scope.specs.Contract.{Said, Does}
 use Rattle.scope.specs.Models.{global_model, user_model, model_refusal, model_of}
 use Rattle.model.specs.declared.Modelled.{Modelled}
-use Rattle.model.specs.declared.Modelled.TheVariants.{Done, Refused}
+use Rattle.scope.specs.declared.Counts.{Counts}
+use Rattle.scope.specs.declared.Refusal.{Refusal}
+use Rattle.scope.specs.declared.Refusal.TheVariants.{Unsound}
+use Rattle.scope.specs.Refusals.{number, refused_by}
+use Rattle.scope.proofs.RefusedLaws.{number_not_0, refused_err, refusal_at, refusal_back}
 use Rattle.model.specs.Answers.{modelled}
-use Rattle.model.specs.Values.{Readable, OfSound, read_table}
-use Rattle.model.proofs.ValueLaws.{readable, globals_are, users_are}
 use Rattle.model.proofs.RowLaws.{globals_count, users_most}
 
 -- the number and the values tell the answer
-pub modelled_one : (r s : Modelled) (t : Table) → (modelled r t.counts).answer ≡ (modelled s t.counts).answer → r ≡ s
-modelled_one (Done a b) (Done d e) t h = let p : a ≡ d = cc in let q : b ≡ e = cc in cc
-modelled_one (Done a b) (Refused n) t h = cc
-modelled_one (Refused n) (Done a b) t h = cc
-modelled_one (Refused n) (Refused m) t h = let p : n ≡ m = cc in cc
+abbrev modelled_from : Answer → P.Result Modelled Refusal
+modelled_from (accepted []) = Err Unsound
+modelled_from (accepted (a ∷ [])) = Err Unsound
+modelled_from (accepted (a ∷ b ∷ vs)) = Ok (record { globals = a; users = b })
+modelled_from (refused n vs) = Err (refusal_at n)
+
+modelled_back : (r : P.Result Modelled Refusal) (c : Counts) → modelled_from (modelled r c).answer ≡ r
+modelled_back (Ok x) c = refl
+modelled_back (Err r) c = ap Err (refusal_back r)
+
+pub modelled_one : (r s : P.Result Modelled Refusal) (t : Table) → (modelled r t.counts).answer ≡ (modelled s t.counts).answer → r ≡ s
+modelled_one r s t h = sym (modelled_back r t.counts) ∙ ap modelled_from h ∙ modelled_back s t.counts
 
 -- ---- refusals
 
@@ -42,24 +53,18 @@ pub refusal_2_globals : (t : Table) (a b : ℕ) → soundb t ≡ true → a < t.
 unfolding model_refusal
 refusal_2_globals t a b h l = rw (h, globals_count t, lt-ltb a t.counts.global l)
 
--- the users counted, by the lists that are read
-users_told : (t : Table) (k : ℕ) → k ≡ length (user_model (read_table t.counts t.global_from_user t.solver_from_global t.assignment t.records))
-    → k ≡ length (user_model t)
-users_told t k e = e ∙ ap length (users_are t)
-
-module _ (t : Table) (a b k : ℕ) (h : soundb t ≡ true) (l : t.counts.global ≤ a)
-    (e : k ≡ length (user_model (read_table t.counts t.global_from_user t.solver_from_global t.assignment t.records))) where
+module _ (t : Table) (a b k : ℕ) (h : soundb t ≡ true) (l : t.counts.global ≤ a) (e : k ≡ length (user_model t)) where
   pub refusal_2_users : b < k → 2 ≡ model_refusal t a b
   unfolding model_refusal
-  refusal_2_users m = rw (h, globals_count t, le-ltb a t.counts.global l, ← users_told t k e, lt-ltb b k m)
+  refusal_2_users m = rw (h, globals_count t, le-ltb a t.counts.global l, ← e, lt-ltb b k m)
 
   pub refusal_0 : k ≤ b → 0 ≡ model_refusal t a b
   unfolding model_refusal
-  refusal_0 m = rw (h, globals_count t, le-ltb a t.counts.global l, ← users_told t k e, le-ltb b k m)
+  refusal_0 m = rw (h, globals_count t, le-ltb a t.counts.global l, ← e, le-ltb b k m)
 
 -- with room for a literal for each user
 pub refusal_0_ample : (t : Table) (a b : ℕ) → soundb t ≡ true → t.counts.global ≤ a → t.counts.user ≤ b → 0 ≡ model_refusal t a b
-refusal_0_ample t a b h l m = let k = users_most t in refusal_0 t a b (length (user_model t)) h l (ap length (sym (users_are t))) (omega arith)
+refusal_0_ample t a b h l m = let k = users_most t in refusal_0 t a b (length (user_model t)) h l refl (omega arith)
 
 -- where none applies
 pub record ModelAsks (t : Table) (a b : ℕ) : Type 0 where
@@ -77,19 +82,6 @@ model_asks t a b n e z =
     let k = ltb-false a (length (global_model t)) (or_left x y q.0) in
     let g = globals_count t in
     record { sound = not-false (soundb t) p.0; globals = omega arith; users = ltb-false b (length (user_model t)) (or_right x y q.0) }
-
--- what the two functions inside ask
-module _ (t : Table) where
-  pub of_sound : soundb t ≡ true → OfSound t.counts t.global_from_user t.solver_from_global t.assignment t.records
-  of_sound h = record { ug = t.user_from_global; gs = t.global_from_solver; sound = h }
-
-  module _ (a b n : ℕ) (e : n ≡ model_refusal t a b) (z : n ≡ 0) where
-    pub globals_asks : ((g : ℕ) → g < t.counts.global → Readable t.solver_from_global t.assignment t.records g) × (t.counts.global ≤ a)
-    globals_asks = let k = model_asks t a b n e z in (readable t k.sound, k.globals)
-
-    pub users_asks : OfSound t.counts t.global_from_user t.solver_from_global t.assignment t.records
-        × (length (user_model (read_table t.counts t.global_from_user t.solver_from_global t.assignment t.records)) ≤ b)
-    users_asks = let k = model_asks t a b n e z in let l = k.users in (of_sound k.sound, rw (users_are t) l)
 
 -- ---- the call
 
@@ -133,18 +125,18 @@ model_told_by t a b o e z said left x y p q r s =
       users = s ∙ sym (ap (λ (w : Outcome). sets b 0 w.more) e);
     }
 
-pub model_told_refused : (t : Table) (a b : List ℕ) (n : ℕ) → n ≡ model_refusal t (length a) (length b) → (n ≡ 0 → ⊥)
-    → ModelTold t a b (modelled (Refused n) t.counts) t a b
-model_told_refused t a b n e h = model_told_by t a b (refusal n t) (model_refused t (length a) (length b) n e h) refl _ _ _ _ refl refl refl refl
+pub model_told_refused : {A : Type 0} (t : Table) (a b : List ℕ) (x : P.Result A Refusal) (r : Refusal)
+    → refused_by x ≡ model_refusal t (length a) (length b) → x ≡ Err r → ModelTold t a b (modelled (Err r) t.counts) t a b
+model_told_refused t a b x r e w =
+    model_told_by t a b (refusal (number r) t)
+    (model_refused t (length a) (length b) (number r) (sym (refused_err x r w) ∙ e) (number_not_0 r)) refl _ _ _ _ refl refl refl refl
 
-pub model_told_unsound : (t : Table) (a b : List ℕ) → soundb t ≡ false → ModelTold t a b (modelled (Refused 1) t.counts) t a b
-model_told_unsound t a b h = model_told_refused t a b 1 (refusal_1 t (length a) (length b) h) (λ z. omega arith)
+pub model_told_unsound : (t : Table) (a b : List ℕ) → soundb t ≡ false → ModelTold t a b (modelled (Err Unsound) t.counts) t a b
+model_told_unsound t a b h = model_told_refused {A = Unit {0}} t a b (Err Unsound) Unsound (refusal_1 t (length a) (length b) h) refl
 
 pub model_told_done : (t : Table) (a b : List ℕ) (n k : ℕ) (x y : List ℕ) → n ≡ model_refusal t (length a) (length b) → n ≡ 0
-    → x ≡ sets a 0 (global_model (read_table t.counts [] t.solver_from_global t.assignment t.records))
-    → k ≡ length (user_model (read_table t.counts t.global_from_user t.solver_from_global t.assignment t.records))
-    → y ≡ sets b 0 (user_model (read_table t.counts t.global_from_user t.solver_from_global t.assignment t.records))
-    → ModelTold t a b (modelled (Done t.counts.global k) t.counts) t x y
+    → x ≡ sets a 0 (global_model t) → k ≡ length (user_model t) → y ≡ sets b 0 (user_model t)
+    → ModelTold t a b (modelled (Ok (record { globals = t.counts.global; users = k })) t.counts) t x y
 model_told_done t a b n k x y e z p q r =
     model_told_by t a b (model_done t) (model_done_lem t (length a) (length b) n e z) refl _ _ _ _
-    (rw (globals_count t, users_told t k q)) refl (p ∙ ap (sets a 0) (globals_are t)) (r ∙ ap (sets b 0) (users_are t))
+    (rw (globals_count t, q)) refl p r

@@ -16,7 +16,7 @@ use Rattle.base.proofs.SetsLaws.{store_next}
 use Rattle.scope.specs.Literals.{code_of}
 use Rattle.scope.specs.Table.{Table, word}
 use Rattle.scope.specs.Models.{global_value, row_of, global_model, user_literal, user_model}
-use Rattle.model.specs.Values.{value_of, user_value}
+use Rattle.model.specs.Values.{user_value}
 
 -- ---- any row
 
@@ -91,15 +91,11 @@ user_row t u = word [] (λ g. user_literal u (global_value t g)) (get_or t.globa
 abbrev pub users_to : Table → ℕ → List ℕ
 users_to t i = row_of i (user_row t)
 
--- the value of user u
-abbrev pub user_at : Table → ℕ → ℕ
-user_at t u = user_value t.global_from_user t.solver_from_global t.assignment t.records u
-
-row_literal : (t : Table) (u : ℕ) → user_row t u ≡ user_literal u (user_at t u)
-unfolding user_value value_of global_value word user_literal
+row_literal : (t : Table) (u : ℕ) → user_row t u ≡ user_literal u (user_value t u)
+unfolding user_value word user_literal
 row_literal t u = go (get_or t.global_from_user u 0)
   where
-    go : (w : ℕ) → word [] (λ g. user_literal u (global_value t g)) w ≡ user_literal u (word 0 (value_of t.solver_from_global t.assignment t.records) w)
+    go : (w : ℕ) → word [] (λ g. user_literal u (global_value t g)) w ≡ user_literal u (word 0 (global_value t) w)
     go zero = refl
     go (suc g) = refl
 
@@ -114,22 +110,22 @@ literal_small u v = go (eqb v 0)
 pub users_start : (t : Table) → users_to t 0 ≡ []
 users_start t = row_zero (user_row t)
 
-pub users_none : (t : Table) (u v : ℕ) → v ≡ user_at t u → v ≡ 0 → users_to t (u + 1) ≡ users_to t u
+pub users_none : (t : Table) (u v : ℕ) → v ≡ user_value t u → v ≡ 0 → users_to t (u + 1) ≡ users_to t u
 unfolding user_literal
 users_none t u v e z =
-    row_suc (user_row t) u ∙ ap (λ (l : List ℕ). users_to t u ++ l) (row_literal t u ∙ rw (eq-eqb (user_at t u) 0 (sym e ∙ z))) ∙ append-nil (users_to t u)
+    row_suc (user_row t) u ∙ ap (λ (l : List ℕ). users_to t u ++ l) (row_literal t u ∙ rw (eq-eqb (user_value t u) 0 (sym e ∙ z))) ∙ append-nil (users_to t u)
 
-pub users_some : (t : Table) (u v : ℕ) → v ≡ user_at t u → (v ≡ 0 → ⊥) → users_to t (u + 1) ≡ users_to t u ++ code_of u (2 - v) ∷ []
+pub users_some : (t : Table) (u v : ℕ) → v ≡ user_value t u → (v ≡ 0 → ⊥) → users_to t (u + 1) ≡ users_to t u ++ code_of u (2 - v) ∷ []
 unfolding user_literal
 users_some t u v e n =
     row_suc (user_row t) u
-    ∙ ap (λ (l : List ℕ). users_to t u ++ l) (row_literal t u ∙ rw (ne_eqb (user_at t u) 0 (λ z. n (e ∙ z)), e))
+    ∙ ap (λ (l : List ℕ). users_to t u ++ l) (row_literal t u ∙ rw (ne_eqb (user_value t u) 0 (λ z. n (e ∙ z)), e))
 
 -- a user with a value is one literal more
-pub users_count_some : (t : Table) (u v k : ℕ) → v ≡ user_at t u → (v ≡ 0 → ⊥) → k ≡ length (users_to t u) → k + 1 ≡ length (users_to t (u + 1))
+pub users_count_some : (t : Table) (u v k : ℕ) → v ≡ user_value t u → (v ≡ 0 → ⊥) → k ≡ length (users_to t u) → k + 1 ≡ length (users_to t (u + 1))
 users_count_some t u v k e n q = let x = ap length (users_some t u v e n) in omega (arith, length-append (users_to t u) (code_of u (2 - v) ∷ []))
 
-pub users_count_none : (t : Table) (u v k : ℕ) → v ≡ user_at t u → v ≡ 0 → k ≡ length (users_to t u) → k ≡ length (users_to t (u + 1))
+pub users_count_none : (t : Table) (u v k : ℕ) → v ≡ user_value t u → v ≡ 0 → k ≡ length (users_to t u) → k ≡ length (users_to t (u + 1))
 users_count_none t u v k e z q = q ∙ sym (ap length (users_none t u v e z))
 
 pub users_count_end : (t : Table) (u k : ℕ) → k ≡ length (users_to t u) → u ≤ t.counts.user → t.counts.user ≤ u → k ≡ length (user_model t)
@@ -138,7 +134,7 @@ users_count_end t u k q a b = q ∙ ap (λ (i : ℕ). length (users_to t i)) (om
 
 -- no more literals than users
 users_count_small : (t : Table) (u : ℕ) → length (users_to t u) ≤ u
-users_count_small t u = row_small (user_row t) (λ i. subst (λ (l : List ℕ). length l ≤ 1) (sym (row_literal t i)) (literal_small i (user_at t i))) u
+users_count_small t u = row_small (user_row t) (λ i. subst (λ (l : List ℕ). length l ≤ 1) (sym (row_literal t i)) (literal_small i (user_value t i))) u
 
 pub users_count_bound : (t : Table) (u k : ℕ) → k ≡ length (users_to t u) → k ≤ u
 users_count_bound t u k e = let x = users_count_small t u in omega arith
@@ -148,7 +144,7 @@ unfolding user_model
 users_most t = users_count_small t t.counts.user
 
 -- so there is room for it
-pub users_count_room : (t : Table) (u v k : ℕ) → u < t.counts.user → v ≡ user_at t u → (v ≡ 0 → ⊥) → k ≡ length (users_to t u) → k < length (user_model t)
+pub users_count_room : (t : Table) (u v k : ℕ) → u < t.counts.user → v ≡ user_value t u → (v ≡ 0 → ⊥) → k ≡ length (users_to t u) → k < length (user_model t)
 unfolding user_model
 users_count_room t u v k l e z q =
     let x = users_count_some t u v k e z q in
@@ -160,15 +156,15 @@ users_count_room t u v k l e z q =
 pub users_fill_start : (t : Table) (l : List ℕ) → l ≡ sets l 0 (users_to t 0)
 users_fill_start t l = rw (users_start t)
 
-users_fill_code : (t : Table) (l m : List ℕ) (u v k : ℕ) → m ≡ sets l 0 (users_to t u) → k ≡ length (users_to t u) → v ≡ user_at t u → (v ≡ 0 → ⊥)
+users_fill_code : (t : Table) (l m : List ℕ) (u v k : ℕ) → m ≡ sets l 0 (users_to t u) → k ≡ length (users_to t u) → v ≡ user_value t u → (v ≡ 0 → ⊥)
     → set m k (code_of u (2 - v)) ≡ sets l 0 (users_to t (u + 1))
 users_fill_code t l m u v k e q p n = rw (e, users_some t u v p n) (store_next l _ (users_to t u) 0 k (code_of u (2 - v)) refl (omega arith))
 
-pub users_fill_some : (t : Table) (l m : List ℕ) (u v k w : ℕ) → m ≡ sets l 0 (users_to t u) → k ≡ length (users_to t u) → v ≡ user_at t u → (v ≡ 0 → ⊥)
+pub users_fill_some : (t : Table) (l m : List ℕ) (u v k w : ℕ) → m ≡ sets l 0 (users_to t u) → k ≡ length (users_to t u) → v ≡ user_value t u → (v ≡ 0 → ⊥)
     → w ≡ code_of u (2 - v) → set m k w ≡ sets l 0 (users_to t (u + 1))
 users_fill_some t l m u v k w e q p n h = ap (λ (x : ℕ). set m k x) h ∙ users_fill_code t l m u v k e q p n
 
-pub users_fill_none : (t : Table) (l m : List ℕ) (u v : ℕ) → m ≡ sets l 0 (users_to t u) → v ≡ user_at t u → v ≡ 0 → m ≡ sets l 0 (users_to t (u + 1))
+pub users_fill_none : (t : Table) (l m : List ℕ) (u v : ℕ) → m ≡ sets l 0 (users_to t u) → v ≡ user_value t u → v ≡ 0 → m ≡ sets l 0 (users_to t (u + 1))
 users_fill_none t l m u v e p z = e ∙ sym (ap (sets l 0) (users_none t u v p z))
 
 pub users_fill_kept : (t : Table) (l m : List ℕ) (u : ℕ) → m ≡ sets l 0 (users_to t u) → length m ≡ length l

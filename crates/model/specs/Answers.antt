@@ -1,11 +1,12 @@
--- The number and the values of each case of `Modelled`; no count changes.
-use Rattle.std.specs.Prelude.{[], ◌∷◌}
+-- The number and the values of the answer of Model; no count changes.
+use Rattle.std.specs.Prelude.{[], ◌∷◌, Result, Ok, Err}
 use Rattle.base.specs.Answer.{accepted, refused}
 use Rattle.scope.specs.Contract.{Said}
+use Rattle.scope.specs.Refusals.{number}
 use Rattle.scope.specs.declared.Counts.{Counts}
+use Rattle.scope.specs.declared.Refusal.{Refusal}
 use Rattle.model.specs.declared.Modelled.{Modelled}
-use Rattle.model.specs.declared.Modelled.TheVariants.{Done, Refused}
 
-abbrev pub modelled : Modelled → Counts → Said
-modelled (Done globals users) c = record { answer = accepted (globals ∷ users ∷ []); counts = c }
-modelled (Refused n) c = record { answer = refused n []; counts = c }
+abbrev pub modelled : Result Modelled Refusal → Counts → Said
+modelled (Ok x) c = record { answer = accepted (x.globals ∷ x.users ∷ []); counts = c }
+modelled (Err r) c = record { answer = refused (number r) []; counts = c }

@@ -1,148 +1,118 @@
 // Model: the value of every global, and the literals of the users that have one (src/model.rs, `model` of src/solver.rs).
 #![tactic(auto)]
 
-ghost use Rattle.std.specs.Prelude.{◌≡◌, true, [], ℕ, ◌+◌, ◌≤◌, ◌<◌, length, get_or};
+ghost use Rattle.std.specs.Prelude.{◌≡◌, true, ◌≤◌, ◌<◌, length};
 ghost use Rattle.base.specs.Lent.{Fills, change};
 ghost use Rattle.scope.specs.Sound.{soundb};
 ghost use Rattle.scope.specs.Contract.{given, Meets, reads};
-ghost use Rattle.scope.specs.Models.{global_model, user_model, model_refusal, model_of};
-ghost use Rattle.model.specs.Values.{value_of, user_value, Readable, read_table, OfSound};
+ghost use Rattle.scope.specs.Models.{global_value, global_model, user_model, model_refusal, model_of};
+ghost use Rattle.scope.specs.Refusals.{refused_by};
+ghost use Rattle.table.specs.Lists.{seen};
+ghost use Rattle.model.specs.Values.{user_value};
 ghost use Rattle.model.specs.Answers.{modelled};
 
-use scope::{Counts, Global, User};
-use table::is_sound;
+use scope::{Counts, Global, Refusal, User};
+use table::{Lists, global_of, solver_of};
 
 // The value of a global, coded like the assignment.
-fn global_value(sg: &[u32], assignment: &[u32], records: &[u32], global: Global) -> u32
-    requires { Readable sg.now assignment.now records.now global.0 }
-    ensures value { result ≡ value_of sg.now assignment.now records.now global.0 }
+fn global_value(t: &Lists, global: Global) -> u32
+    requires sound { soundb (seen t.now) ≡ true }
+    requires below { global.0 < t.now.counts.global }
+    ensures value { result ≡ global_value (seen t.now) global.0 }
     ensures upper_bound { result ≤ 2 }
 {
-    let g = global.0 as usize;
-    let x = records[g];
+    let x = t.records[global.0 as usize];
     if 36 <= x {
         return 0;
     }
-    let w = sg[g];
-    if w != 0 {
-        let s = (w - 1) as usize;
-        return assignment[s];
-    }
-    let unit = x / 3 % 3;
-    if unit == 0 { 1 } else { unit }
+    let Some(solver) = solver_of(t.sg, global) else {
+        let unit = x / 3 % 3;
+        return if unit == 0 { 1 } else { unit };
+    };
+    t.assignment[solver.0 as usize]
 }
 
 // The value of a user: none if it is not mapped.
-fn user_value(gu: &[u32], sg: &[u32], assignment: &[u32], records: &[u32], user: User) -> u32
-    requires user_in_bounds { user.0 < length gu.now }
-    requires by_index { (g : ℕ) → get_or gu.now user.0 0 ≡ g + 1 → Readable sg.now assignment.now records.now g }
-    ensures value { result ≡ user_value gu.now sg.now assignment.now records.now user.0 }
+fn user_value(t: &Lists, user: User) -> u32
+    requires { soundb (seen t.now) ≡ true }
+    ensures value { result ≡ user_value (seen t.now) user.0 }
     ensures upper_bound { result ≤ 2 }
 {
-    let w = gu[user.0 as usize];
-    if w == 0 {
+    let Some(global) = global_of(t.gu, user) else {
         return 0;
-    }
-    global_value(sg, assignment, records, Global(w - 1))
+    };
+    global_value(t, global)
 }
 
 // How many users have a value.
-fn count_users(c: Counts, gu: &[u32], sg: &[u32], assignment: &[u32], records: &[u32]) -> u32
-    requires { OfSound c gu.now sg.now assignment.now records.now }
-    ensures { result ≡ length (user_model (read_table c gu.now sg.now assignment.now records.now)) }
+fn count_users(t: &Lists) -> u32
+    requires { soundb (seen t.now) ≡ true }
+    ensures { result ≡ length (user_model (seen t.now)) }
 {
     let mut k: u32 = 0;
-    let mut u: u32 = 0;
-    while u < c.user {
-        let v = user_value(gu, sg, assignment, records, User(u));
+    for u in 0..t.counts.user {
+        let v = user_value(t, User(u));
         if v != 0 {
             k += 1;
         }
-        u += 1;
     }
     k
 }
 
 // One word for each global below the watermark, on a sound table.
-fn reconstruct_global_model(
-    c: Counts,
-    sg: &[u32],
-    assignment: &[u32],
-    records: &[u32],
-    globals: &mut [u32],
-)
-    requires by_index { (g : ℕ) → g < c.global → Readable sg.now assignment.now records.now g }
-    requires global_in_bounds { c.global ≤ length globals.old }
-    ensures { Fills (change globals.old globals.new) 0 (global_model (read_table c [] sg.now assignment.now records.now)) }
+fn reconstruct_global_model(t: &Lists, globals: &mut [u32])
+    requires sound { soundb (seen t.now) ≡ true }
+    requires room { t.now.counts.global ≤ length globals.old }
+    ensures { Fills (change globals.old globals.new) 0 (global_model (seen t.now)) }
 {
-    let mut g: u32 = 0;
-    while g < c.global {
-        globals[g as usize] = global_value(sg, assignment, records, Global(g));
-        g += 1;
+    for g in 0..t.counts.global {
+        globals[g as usize] = global_value(t, Global(g));
     }
 }
 
 // The literals of the users that have a value, in ascending order, on a sound table; how many.
-fn fill_users(
-    c: Counts,
-    gu: &[u32],
-    sg: &[u32],
-    assignment: &[u32],
-    records: &[u32],
-    users: &mut [u32],
-) -> u32
-    requires of_sound { OfSound c gu.now sg.now assignment.now records.now }
-    requires records_in_bounds { length (user_model (read_table c gu.now sg.now assignment.now records.now)) ≤ length users.old }
-    ensures value { result ≡ length (user_model (read_table c gu.now sg.now assignment.now records.now)) }
-    ensures fills { Fills (change users.old users.new) 0 (user_model (read_table c gu.now sg.now assignment.now records.now)) }
+fn fill_users(t: &Lists, users: &mut [u32]) -> u32
+    requires sound { soundb (seen t.now) ≡ true }
+    requires room { length (user_model (seen t.now)) ≤ length users.old }
+    ensures value { result ≡ length (user_model (seen t.now)) }
+    ensures fills { Fills (change users.old users.new) 0 (user_model (seen t.now)) }
 {
     let mut k: u32 = 0;
-    let mut u: u32 = 0;
-    while u < c.user {
-        let v = user_value(gu, sg, assignment, records, User(u));
+    for u in 0..t.counts.user {
+        let v = user_value(t, User(u));
         if v != 0 {
             users[k as usize] = 2 * u + (2 - v);
             k += 1;
         }
-        u += 1;
     }
     k
 }
 
-// The first refusal that applies to a sound table, 0 for none: 2.
-fn model_refusal(
-    c: Counts,
-    gu: &[u32],
-    ug: &[u32],
-    sg: &[u32],
-    gs: &[u32],
-    assignment: &[u32],
-    records: &[u32],
-    globals: usize,
-    users: usize,
-) -> u32
-    requires { soundb (given c gu.now ug.now sg.now gs.now assignment.now records.now) ≡ true }
-    ensures { result ≡ model_refusal (given c gu.now ug.now sg.now gs.now assignment.now records.now) globals users }
+// The first refusal that applies to a sound table: 2.
+fn model_refusal(t: &Lists, globals: usize, users: usize) -> Result<(), Refusal>
+    requires { soundb (seen t.now) ≡ true }
+    ensures { refused_by result ≡ model_refusal (seen t.now) globals users }
 {
+    let c = t.counts;
     if globals < c.global as usize {
-        return 2;
+        return Err(Refusal::Short);
     }
     // No more literals than users.
     if c.user as usize <= users {
-        return 0;
+        return Ok(());
     }
-    let k = count_users(c, gu, sg, assignment, records);
+    let k = count_users(t);
     if users < k as usize {
-        return 2;
+        return Err(Refusal::Short);
     }
-    0
+    Ok(())
 }
 
 // How many global words and how many user literals were filled.
-#[derive(Clone, Copy)]
-pub enum Modelled {
-    Done(u32, u32),
-    Refused(u32),
+#[derive(Clone, Copy, Debug, PartialEq, Eq)]
+pub struct Modelled {
+    pub globals: u32,
+    pub users: u32,
 }
 
 // Model (document 01, "Afterwards: the model"; 1, 2): `reconstruct_global_model` and `model`, run straight after.
@@ -157,7 +127,7 @@ pub fn model(
     records: &[u32],
     globals: &mut [u32],
     users: &mut [u32],
-) -> Modelled
+) -> Result<Modelled, Refusal>
     ensures meets { Meets (λ t room. model_of t (length globals.old) (length users.old)) (modelled result c)
         (reads c gu.now ug.now sg.now gs.now assignment.now records.now) }
     ensures globals { Fills (change globals.old globals.new) 0
@@ -165,9 +135,16 @@ pub fn model(
     ensures users { Fills (change users.old users.new) 0
         (model_of (given c gu.now ug.now sg.now gs.now assignment.now records.now) (length globals.old) (length users.old)).more }
 {
-    if !is_sound(c, gu, ug, sg, gs, assignment, records) {
-        return Modelled::Refused(1);
-    }
+    let t = Lists {
+        counts: c,
+        gu,
+        ug,
+        sg,
+        gs,
+        assignment,
+        records,
+    };
+    t.check_sound()?;
     known_model(c, gu, ug, sg, gs, assignment, records, globals, users)
 }
 
@@ -183,7 +160,7 @@ pub fn known_model(
     records: &[u32],
     globals: &mut [u32],
     users: &mut [u32],
-) -> Modelled
+) -> Result<Modelled, Refusal>
     requires { soundb (given c gu.now ug.now sg.now gs.now assignment.now records.now) ≡ true }
     ensures meets { Meets (λ t room. model_of t (length globals.old) (length users.old)) (modelled result c)
         (reads c gu.now ug.now sg.now gs.now assignment.now records.now) }
@@ -192,21 +169,20 @@ pub fn known_model(
     ensures users { Fills (change users.old users.new) 0
         (model_of (given c gu.now ug.now sg.now gs.now assignment.now records.now) (length globals.old) (length users.old)).more }
 {
-    let n = model_refusal(
-        c,
+    let t = Lists {
+        counts: c,
         gu,
         ug,
         sg,
         gs,
         assignment,
         records,
-        globals.len(),
-        users.len(),
-    );
-    if n != 0 {
-        return Modelled::Refused(n);
-    }
-    reconstruct_global_model(c, sg, assignment, records, globals);
-    let k = fill_users(c, gu, sg, assignment, records, users);
-    Modelled::Done(c.global, k)
+    };
+    model_refusal(&t, globals.len(), users.len())?;
+    reconstruct_global_model(&t, globals);
+    let k = fill_users(&t, users);
+    Ok(Modelled {
+        globals: c.global,
+        users: k,
+    })
 }

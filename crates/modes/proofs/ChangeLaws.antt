@@ -77,26 +77,28 @@ module _ (t : Table) (g m from : ℕ) (h : Shows t g m from) where
       omega arith
 
 module _ (t : Table) (g m : ℕ) (l : g < length t.records) (u : ℕ) (e : u ≡ least_free t.global_from_user t.counts.user)
-    (d : Counts) (gu ug records : List ℕ) (p : (d ≡ map_counts t.counts u g (record_of t g)) × ((gu ≡ set t.global_from_user u (g + 1))
-    × ((ug ≡ set t.user_from_global g (u + 1)) × (records ≡ set t.records g (get_or t.records g 0 / 3 * 3 + m)))))
+    (d : Counts) (gu ug records : List ℕ) (w : ℕ) (a : w ≡ get_or t.records g 0 / 3 * 3 + m)
+    (p : (d ≡ map_counts t.counts u g (record_of t g)) × ((gu ≡ set t.global_from_user u (g + 1))
+    × ((ug ≡ set t.user_from_global g (u + 1)) × (records ≡ set t.records g w))))
+    (b : Bool) (y : b ≡ eqb m 0)
   where
     shown_is : table_of d gu ug t.solver_from_global t.global_from_solver t.assignment records ≡ give_user g u (with_mode (record_of t g) m) t
     unfolding give_user
     shown_is = λ i. table_of (p.0 i) (p.1.0 i) (p.1.1.0 i) t.solver_from_global t.global_from_solver t.assignment
-        ((p.1.1.1 ∙ mode_read t g m l) i)
+        ((p.1.1.1 ∙ ap (set t.records g) a ∙ mode_read t g m l) i)
 
     next_user_is : u ≡ next_user t
     unfolding next_user
     next_user_is = e
 
-    pub show_leaves : (at : ℕ) (words words2 words3 : List ℕ) → words2 ≡ sets words at (3 ∷ g ∷ pick (eqb m 0) 1 0 ∷ [])
+    pub show_leaves : (at : ℕ) (words words2 words3 : List ℕ) → words2 ≡ sets words at (3 ∷ g ∷ pick b 1 0 ∷ [])
         → words3 ≡ sets words2 (at + 3) (0 ∷ g ∷ (u + 1) ∷ [])
         → Leaves (show g m t) at (at + 6) (table_of d gu ug t.solver_from_global t.global_from_solver t.assignment records) words words3
     unfolding show notes_words
     show_leaves at words words2 words3 q r = record {
       table = shown_is ∙ ap (λ (v : ℕ). give_user g v (with_mode (record_of t g) m) t) next_user_is;
       noted = r
-          ∙ ap (λ (l : List ℕ). sets l (at + 3) (0 ∷ g ∷ (u + 1) ∷ [])) q
+          ∙ ap (λ (l : List ℕ). sets l (at + 3) (0 ∷ g ∷ (u + 1) ∷ [])) (q ∙ ap (λ (v : Bool). sets words at (3 ∷ g ∷ pick v 1 0 ∷ [])) y)
           ∙ sym (sets_append (3 ∷ g ∷ pick (eqb m 0) 1 0 ∷ []) (0 ∷ g ∷ (u + 1) ∷ []) words at)
           ∙ ap (λ (v : ℕ). sets words at (3 ∷ g ∷ pick (eqb m 0) 1 0 ∷ 0 ∷ g ∷ (v + 1) ∷ [])) next_user_is;
       moved = omega arith;

@@ -6,6 +6,7 @@ use mathlib.Core.List.{List}
 use native.Mathlib.Omega.{arith}
 use lib.Dec.{eqb, ltb}
 use lib.ListN.{length, get_or}
+use mir.Val.{bool_byte}
 use Rattle.base.specs.Choice.{pick}
 use Rattle.base.specs.Bounded.{all_below, count}
 use Rattle.base.proofs.BelowLaws.{and_both}
@@ -32,17 +33,22 @@ fine_more records mark g ok b w k e h =
     (ap not (ap (λ (y : Bool). y && eqb (get_or records g 0 / 18 % 2) 1) e
     ∙ ap (λ (r : ℕ). is_hidden r && eqb (assumed_of r) 1) (sym (get_d_default records g 47 0 (omega arith)))))
 
+pub fine_end : (records : List ℕ) (mark g : ℕ) (ok : Bool) → g ≡ mark → ok ≡ all_below g (fine records) → ok ≡ all_below mark (fine records)
+fine_end records mark g ok e h = h ∙ ap (λ (i : ℕ). all_below i (fine records)) e
+
 -- ---- how many there are
 
 -- 1 where the test holds, else 0
 abbrev pub one_if : Bool → ℕ
 one_if b = pick b 1 0
 
-pub hidden_one : (b : Bool) (w : ℕ) → b ≡ is_hidden w → b ≡ true → 1 ≡ one_if (is_hidden w)
-hidden_one b w e q = rw (sym e ∙ q)
+byte_one : (b : Bool) → bool_byte b ≡ one_if b
+byte_one true = refl
+byte_one false = refl
 
-pub hidden_zero : (b : Bool) (w : ℕ) → b ≡ is_hidden w → b ≡ false → 0 ≡ one_if (is_hidden w)
-hidden_zero b w e q = rw (sym e ∙ q)
+-- so is the test as a number
+pub hidden_word : (b : Bool) (w k : ℕ) → b ≡ is_hidden w → k ≡ bool_byte b → k ≡ one_if (is_hidden w)
+hidden_word b w k e q = q ∙ byte_one b ∙ ap one_if e
 
 abbrev pub hidden_at : List ℕ → ℕ → Bool
 hidden_at records g = is_hidden (get_or records g 47)

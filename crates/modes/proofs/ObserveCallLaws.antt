@@ -1,4 +1,6 @@
 -- Observe: the refusals, by the tests that the code makes, the loop, and the call.
+use Rattle.std.specs.Prelude.{Ok, Err}
+use Rattle.std.specs.Prelude as P
 use Prim.Native.Nat.{ℕ, ◌+◌, ◌*◌, ◌/◌, ◌≤◌, ◌<◌, ◌^◌}
 use mathlib.Core.Path.{◌≡◌, refl, sym, ap, ◌∙◌, subst}
 use mathlib.Core.Bool.{Bool, true, false, ◌||◌, not}
@@ -29,7 +31,10 @@ use Rattle.changes.proofs.LeavesLaws.{leaves_stay, leaves_length, notes_told, no
 use Rattle.changes.proofs.TurnLaws.{turns_none, turns_more, turns_room}
 use Rattle.changes.proofs.CallLaws.{call_refused, call_accepted, refused_words, accepted_words}
 use Rattle.modes.specs.Asks.{UsersFilled, ObservesAll, ObserveAsks, ObserveAllAsks}
-use Rattle.modes.specs.declared.Observed.TheVariants.{Done, Refused}
+use Rattle.scope.specs.declared.Refusal.{Refusal}
+use Rattle.scope.specs.declared.Refusal.TheVariants.{Unsound}
+use Rattle.scope.specs.Refusals.{number, refused_by}
+use Rattle.scope.proofs.RefusedLaws.{number_not_0, refused_err}
 use Rattle.modes.specs.Answers.{observed}
 use Rattle.modes.proofs.HiddenLaws.{fine, hidden_at, none_fine}
 use Rattle.modes.proofs.ObserveLaws.{observe_count, observe_stays, filled_none, filled_more, values_up, values_more}
@@ -132,30 +137,31 @@ module _ (t : Table) (g from n at : ℕ) (left : Table) (users users2 words word
         let k = o.same.capacity in
         same_sizes t left words words2 a.sound.sizes x (omega arith) (leaves_length (each g observe_one t) 0 at left words words2 h.leaves)
 
-  pub observing_end : g ≤ t.counts.global → t.counts.global ≤ g → Leaves (observe t) 0 at left words words2 × UsersFilled (observe t) 0 n users users2
+  pub observing_end : g ≡ t.counts.global → Leaves (observe t) 0 at left words words2 × UsersFilled (observe t) 0 n users users2
   unfolding observe
-  observing_end l m =
-      let e : g ≡ t.counts.global = omega arith in (
-        subst (λ (i : ℕ). Leaves (each i observe_one t) 0 at left words words2) e h.leaves,
-        subst (λ (i : ℕ). UsersFilled (each i observe_one t) 0 n users users2) e h.filled,
-      )
+  observing_end e = (
+    subst (λ (i : ℕ). Leaves (each i observe_one t) 0 at left words words2) e h.leaves,
+    subst (λ (i : ℕ). UsersFilled (each i observe_one t) 0 n users users2) e h.filled,
+  )
 
 -- ---- the call
 
-pub observe_refused : (t : Table) (n : ℕ) (users words : List ℕ) → n ≡ observe_refusal t (length users) (length words) → (n ≡ 0 → ⊥)
-    → Does (observe_of t (length users) (length words)) (observed (Refused n) t.counts) t words words
+pub observe_refused : {A : Type 0} (t : Table) (x : P.Result A Refusal) (r : Refusal) (users words : List ℕ)
+    → refused_by x ≡ observe_refusal t (length users) (length words) → x ≡ Err r
+    → Does (observe_of t (length users) (length words)) (observed (Err r) t.counts) t words words
     × (users ≡ sets users 0 (observe_of t (length users) (length words)).words)
 unfolding observe_of
-observe_refused t n users words e z = (
-  call_refused (observe_refusal t (length users) (length words)) n t _ words e z,
-  ap (sets users 0)
-      (sym (refused_words (observe_refusal t (length users) (length words)) n t _ e z)),
-)
+observe_refused t x r users words e w =
+    let q : number r ≡ observe_refusal t (length users) (length words) = sym (refused_err x r w) ∙ e in (
+      call_refused (observe_refusal t (length users) (length words)) (number r) t _ words q (number_not_0 r),
+      ap (sets users 0) (sym (refused_words (observe_refusal t (length users) (length words)) (number r) t _ q (number_not_0 r))),
+    )
 
 pub observe_unsound : (t : Table) (users words : List ℕ) → soundb t ≡ false
-    → Does (observe_of t (length users) (length words)) (observed (Refused 1) t.counts) t words words
+    → Does (observe_of t (length users) (length words)) (observed (Err Unsound) t.counts) t words words
     × (users ≡ sets users 0 (observe_of t (length users) (length words)).words)
-observe_unsound t users words n = observe_refused t 1 users words (observe_1 t (length users) (length words) n) (λ z. omega arith)
+observe_unsound t users words n =
+    observe_refused {A = Unit {0}} t (Err Unsound) Unsound users words (observe_1 t (length users) (length words) n) refl
 
 module _ (t : Table) (outs room n : ℕ) (e : n ≡ observe_refusal t outs room) (z : n ≡ 0) where
   -- what an accepted call knows, with a cursor
@@ -190,7 +196,7 @@ module _ (t : Table) (outs room n : ℕ) (e : n ≡ observe_refusal t outs room)
 
   pub observe_does : (k at : ℕ) (d : Counts) (left : Table) (users users2 words words2 : List ℕ) → Leaves (observe t) 0 at left words words2
       × UsersFilled (observe t) 0 k users users2
-      → Does (observe_of t outs room) (observed (Done k d (at / 3)) d) left words words2 × (users2 ≡ sets users 0 (observe_of t outs room).words)
+      → Does (observe_of t outs room) (observed (Ok (record { users = k; counts = d; notes = at / 3 })) d) left words words2 × (users2 ≡ sets users 0 (observe_of t outs room).words)
   unfolding observe_of
   observe_does k at d left users users2 words words2 h =
       let b = h.1.moved in
@@ -203,7 +209,7 @@ module _ (t : Table) (outs room n : ℕ) (e : n ≡ observe_refusal t outs room)
 
 -- without a hidden global
 pub observe_none : (t : Table) (k : ℕ) (users words : List ℕ) → soundb t ≡ true → k ≡ count t.counts.global (hidden_at t.records) → k ≡ 0
-    → Does (observe_of t (length users) (length words)) (observed (Done 0 t.counts 0) t.counts) t words words
+    → Does (observe_of t (length users) (length words)) (observed (Ok (record { users = 0; counts = t.counts; notes = 0 })) t.counts) t words words
     × (users ≡ sets users 0 (observe_of t (length users) (length words)).words)
 observe_none t k users words y e z = observe_does t (length users) (length words) 0 none_refused refl 0 0 t.counts t users users words words (
   subst (λ (x : Result (List ℕ)). Leaves x 0 0 t words words) (sym stays) (leaves_stay t 0 words),

@@ -1,4 +1,6 @@
 -- Set mode: the refusals, by the tests that the code makes, and the call.
+use Rattle.std.specs.Prelude.{Some, None, Ok, Err}
+use Rattle.std.specs.Prelude as P
 use Prim.Native.Nat.{ℕ, ◌*◌, ◌/◌, ◌%◌, ◌≤◌, ◌<◌, ◌^◌}
 use mathlib.Core.Path.{◌≡◌, refl, sym, ap, ◌∙◌, subst}
 use mathlib.Core.Bool.{true, false, not}
@@ -29,7 +31,10 @@ use Rattle.changes.proofs.CallLaws.{call_refused, call_accepted, call_noted}
 use Rattle.changes.proofs.DeletionLaws.{record_read}
 use Rattle.modes.specs.Asks.{There, ShowAsks, HideAsks, Sets, SetAsks}
 use Rattle.modes.specs.Counting.{mode_notes}
-use Rattle.modes.specs.declared.ModeSet.TheVariants.{Done, Shown, Refused}
+use Rattle.scope.specs.declared.Refusal.{Refusal}
+use Rattle.scope.specs.declared.Refusal.TheVariants.{Unsound}
+use Rattle.scope.specs.Refusals.{number, refused_by}
+use Rattle.scope.proofs.RefusedLaws.{number_not_0, refused_err}
 use Rattle.modes.specs.Answers.{mode_set}
 use Rattle.modes.proofs.NotesLaws.{there_live, mode_notes_lem, mode_notes_few}
 use Rattle.modes.proofs.ChangeLaws.{change_leaves}
@@ -71,8 +76,8 @@ module _ (t : Table) (g : ℕ) (mode : SamplingMode) (room : ℕ) where
         unfolding set_mode_refusal
         set_7 a = let e = read in rw (y, lt-leb _ _ l, lt-leb 36 (record_of t g) (omega arith), eq-eqb (assumed_of (record_of t g)) 1 (omega arith))
 
-        module _ (a : get_or t.records g 0 / 18 % 2 ≡ 1 → ⊥) (m : ℕ) (e : m ≡ mode_number mode) (n : ℕ)
-            (q : n ≡ mode_notes (get_or t.solver_from_global g 0) (get_or t.records g 0) m) where
+        module _ (a : get_or t.records g 0 / 18 % 2 ≡ 1 → ⊥) (n : ℕ)
+            (q : n ≡ mode_notes (get_or t.solver_from_global g 0) (get_or t.records g 0) (mode_number mode)) where
           unassumed : eqb (assumed_of (record_of t g)) 1 ≡ false
           unassumed = let x = read in ne_eqb (assumed_of (record_of t g)) 1 (λ z. a (omega arith))
 
@@ -80,7 +85,6 @@ module _ (t : Table) (g : ℕ) (mode : SamplingMode) (room : ℕ) where
           notes_are =
               mode_notes_lem t g set_there (mode_number mode)
               ∙ ap (λ (r : ℕ). mode_notes (get_or t.solver_from_global g 0) r (mode_number mode)) (sym read)
-              ∙ ap (mode_notes (get_or t.solver_from_global g 0) (get_or t.records g 0)) (sym e)
               ∙ sym q
 
           pub set_2 : room < 3 * n → 2 ≡ set_mode_refusal t g mode room
@@ -93,20 +97,22 @@ module _ (t : Table) (g : ℕ) (mode : SamplingMode) (room : ℕ) where
 
 -- ---- the call
 
-pub set_refused : (t : Table) (g : ℕ) (mode : SamplingMode) (n : ℕ) (words : List ℕ) → n ≡ set_mode_refusal t g mode (length words) → (n ≡ 0 → ⊥)
-    → Does (set_mode_of t g mode (length words)) (mode_set (Refused n) t.counts) t words words
+pub set_refused : {A : Type 0} (t : Table) (g : ℕ) (mode : SamplingMode) (x : P.Result A Refusal) (r : Refusal) (words : List ℕ)
+    → refused_by x ≡ set_mode_refusal t g mode (length words) → x ≡ Err r
+    → Does (set_mode_of t g mode (length words)) (mode_set (Err r) t.counts) t words words
 unfolding set_mode_of
-set_refused t g mode n words e z = call_refused (set_mode_refusal t g mode (length words)) n t _ words e z
+set_refused t g mode x r words e w =
+    call_refused (set_mode_refusal t g mode (length words)) (number r) t _ words (sym (refused_err x r w) ∙ e) (number_not_0 r)
 
 pub set_unsound : (t : Table) (g : ℕ) (mode : SamplingMode) (words : List ℕ) → soundb t ≡ false
-    → Does (set_mode_of t g mode (length words)) (mode_set (Refused 1) t.counts) t words words
-set_unsound t g mode words n = set_refused t g mode 1 words (set_1 t g mode (length words) n) (λ z. omega arith)
+    → Does (set_mode_of t g mode (length words)) (mode_set (Err Unsound) t.counts) t words words
+set_unsound t g mode words n = set_refused {A = Unit {0}} t g mode (Err Unsound) Unsound words (set_1 t g mode (length words) n) refl
 
 module _ (t : Table) (g : ℕ) (mode : SamplingMode) (room n : ℕ) (e : n ≡ set_mode_refusal t g mode room) (z : n ≡ 0) where
-  pub set_asks : (m : ℕ) → m ≡ mode_number mode → (from : ℕ) → AllMapped t.global_from_user t.counts.user from
-      → SetAsks t.counts t.global_from_user t.user_from_global t.solver_from_global t.records g m from room
+  pub set_asks : (from : ℕ) → AllMapped t.global_from_user t.counts.user from
+      → SetAsks t.counts t.global_from_user t.user_from_global t.solver_from_global t.records g (mode_number mode) from room
   unfolding set_mode_refusal
-  set_asks m q from h =
+  set_asks from h =
       let a = past (not (soundb t)) 1 _ (omega arith) (sym e ∙ z) in
       let b = past (leb t.counts.global g) 3 _ (omega arith) a.1 in
       let d = past (is_deleted (record_of t g)) 6 _ (omega arith) b.1 in
@@ -115,20 +121,18 @@ module _ (t : Table) (g : ℕ) (mode : SamplingMode) (room n : ℕ) (e : n ≡ s
       record {
         gs = t.global_from_solver;
         a = t.assignment;
-        sets = rw q (record {
+        sets = record {
           there = record { sound = sound_of t (not-false (soundb t) a.0); undeleted = leb-false 36 (record_of t g) d.0 };
           mode = mode_small mode;
           mapped = h;
           words = ltb-false room (3 * length (set_mode g (mode_number mode) t).notes) k.0;
-        });
+        };
       }
 
-  pub set_does : (m : ℕ) (said : Said) (left : Table) (words words2 : List ℕ) → m ≡ mode_number mode
-      → Does (noting (λ us. us) (set_mode g m t)) said left words words2 → Does (set_mode_of t g mode room) said left words words2
+  pub set_does : (said : Said) (left : Table) (words words2 : List ℕ) → Does (noting (λ us. us) (set_mode g (mode_number mode) t)) said left words words2
+      → Does (set_mode_of t g mode room) said left words words2
   unfolding set_mode_of
-  set_does m said left words words2 q k =
-      call_accepted (set_mode_refusal t g mode room) n t _ said left words words2 e z
-      (subst (λ (i : ℕ). Does (noting (λ us. us) (set_mode g i t)) said left words words2) q k)
+  set_does said left words words2 k = call_accepted (set_mode_refusal t g mode room) n t _ said left words words2 e z k
 
 -- ---- by the old mode and the new one
 
@@ -144,13 +148,13 @@ module _ (t : Table) (g m : ℕ) (l : g < length t.records) where
   -- what is left, where no user is answered, and where one is
   plain_does : (x : Result (List ℕ)) → set_mode g m t ≡ x → x.value ≡ [] → (next : ℕ) (d : Counts) (left : Table) (words words2 : List ℕ)
       → Leaves x 0 next left words words2
-      → Does (noting (λ us. us) (set_mode g m t)) (mode_set (Done d (next / 3)) d) left words words2
+      → Does (noting (λ us. us) (set_mode g m t)) (mode_set (Ok (record { user = None; counts = d; notes = next / 3 })) d) left words words2
   plain_does x e v next d left words words2 k =
-      subst (λ (r : Result (List ℕ)). Does (noting (λ us. us) r) (mode_set (Done d (next / 3)) d) left words words2) (sym e)
+      subst (λ (r : Result (List ℕ)). Does (noting (λ us. us) r) (mode_set (Ok (record { user = None; counts = d; notes = next / 3 })) d) left words words2) (sym e)
       (call_noted (λ us. us) [] x next d left words words2 k (sym v))
 
   pub same_does : mode_of (get_or t.records g 0) ≡ m → (words : List ℕ)
-      → Does (noting (λ us. us) (set_mode g m t)) (mode_set (Done t.counts 0) t.counts) t words words
+      → Does (noting (λ us. us) (set_mode g m t)) (mode_set (Ok (record { user = None; counts = t.counts; notes = 0 })) t.counts) t words words
   unfolding set_mode
   same_does e words = plain_does (stay [] t) (choose_then _ _ _ (eq-eqb _ _ (sym old_mode ∙ e))) refl 0 t.counts t words words (leaves_stay t 0 words)
 
@@ -164,7 +168,7 @@ module _ (t : Table) (g m : ℕ) (l : g < length t.records) where
       hide_is = choose_else _ _ _ other_mode ∙ choose_then _ _ _ (eq-eqb _ _ e)
 
       pub hide_does : (next : ℕ) (d : Counts) (left : Table) (words words2 : List ℕ) → Leaves (hide g t) 0 next left words words2
-          → Does (noting (λ us. us) (set_mode g m t)) (mode_set (Done d (next / 3)) d) left words words2
+          → Does (noting (λ us. us) (set_mode g m t)) (mode_set (Ok (record { user = None; counts = d; notes = next / 3 })) d) left words words2
       hide_does = plain_does (hide g t) hide_is (hide_value t g)
 
     module _ (k : m ≡ 2 → ⊥) where
@@ -175,10 +179,10 @@ module _ (t : Table) (g m : ℕ) (l : g < length t.records) where
 
         pub show_does : (next : ℕ) (u : User) (d : Counts) (left : Table) (words words2 : List ℕ) → Leaves (show g m t) 0 next left words words2
             → u.0 ≡ least_free t.global_from_user t.counts.user
-            → Does (noting (λ us. us) (set_mode g m t)) (mode_set (Shown u d (next / 3)) d) left words words2
+            → Does (noting (λ us. us) (set_mode g m t)) (mode_set (Ok (record { user = Some u; counts = d; notes = next / 3 })) d) left words words2
         unfolding show next_user
         show_does next u d left words words2 w q =
-            subst (λ (r : Result (List ℕ)). Does (noting (λ us. us) r) (mode_set (Shown u d (next / 3)) d) left words words2) (sym show_is)
+            subst (λ (r : Result (List ℕ)). Does (noting (λ us. us) r) (mode_set (Ok (record { user = Some u; counts = d; notes = next / 3 })) d) left words words2) (sym show_is)
             (call_noted (λ us. us) (u.0 ∷ []) (show g m t) next d left words words2 w (ap (λ (v : ℕ). v ∷ []) q))
 
       module _ (e : mode_of (get_or t.records g 0) ≡ 2 → ⊥) where
@@ -188,7 +192,7 @@ module _ (t : Table) (g m : ℕ) (l : g < length t.records) where
 
         pub change_does : (records words words2 : List ℕ) → records ≡ set t.records g (with_mode (get_or t.records g 0) m)
             → words2 ≡ sets words 0 (3 ∷ g ∷ pick (eqb m 0) 1 0 ∷ [])
-            → Does (noting (λ us. us) (set_mode g m t)) (mode_set (Done t.counts 1) t.counts)
+            → Does (noting (λ us. us) (set_mode g m t)) (mode_set (Ok (record { user = None; counts = t.counts; notes = 1 })) t.counts)
             (table_of t.counts t.global_from_user t.user_from_global t.solver_from_global t.global_from_solver t.assignment records) words words2
         unfolding change
         change_does records words words2 p q =

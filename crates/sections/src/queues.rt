@@ -26,10 +26,9 @@ struct Walk {
 }
 
 // Each head is the first entry.
-fn start_heads(place: &[usize], n: usize, head: &mut [usize])
+fn start_heads(place: &[usize], n: usize, head: &mut [usize; 8192])
     requires n_bound { n ≤ 8192 }
     requires place_len { length place.now ≡ 8193 }
-    requires head_len { length head.old ≡ 8192 }
     requires by_index { (l : ℕ) → l < n → get_or place.now l 0 < get_or place.now (l + 1) 0 }
     ensures { (l : ℕ) → l < n → get_or head.new l 0 ≡ get_or place.now l 0 + 1 }
 {
@@ -46,10 +45,9 @@ fn meet_mirror(
     x: usize,
     h: usize,
     y: usize,
-    head: &mut [usize],
+    head: &mut [usize; 8192],
 ) -> Met
     requires placed { Placed lists.now n place.now }
-    requires head_len { length head.old ≡ 8192 }
     requires even { Even lists.now n place.now head.old }
     requires facing { Facing lists.now n place.now head.old x h y }
     ensures { Even lists.now n place.now head.new }
@@ -67,10 +65,9 @@ fn meet_mirror(
 }
 
 // What comes of the head of x.
-fn meet_head(lists: &[u32], place: &[usize], n: usize, x: usize, head: &mut [usize]) -> Met
+fn meet_head(lists: &[u32], place: &[usize], n: usize, x: usize, head: &mut [usize; 8192]) -> Met
     requires placed { Placed lists.now n place.now }
     requires inside { Inside lists.now n }
-    requires head_len { length head.old ≡ 8192 }
     requires even { Even lists.now n place.now head.old }
     ensures { Even lists.now n place.now head.new }
 {
@@ -89,90 +86,74 @@ fn meet_head(lists: &[u32], place: &[usize], n: usize, x: usize, head: &mut [usi
     Met::Taken
 }
 
-// The section that is looked at: the last one on the path, else the next one.
-fn looked_at(walk: Walk, path: &[usize]) -> usize
-    requires path_len { length path.now ≡ 8192 }
-    requires waiting_bound { walk.waiting ≤ 8192 }
-{
-    if walk.waiting == 0 {
-        return walk.next;
+impl Walk {
+    // The section that is looked at: the last one on the path, else the next one.
+    fn looked_at(self, path: &[usize; 8192]) -> usize
+        requires waiting_bound { self.waiting ≤ 8192 }
+    {
+        if self.waiting == 0 {
+            self.next
+        } else {
+            path[self.waiting - 1]
+        }
     }
-    path[walk.waiting - 1]
-}
 
-// The last section leaves the path; where there is none, the next section moves up by `done`.
-fn came_back(walk: Walk, done: usize) -> Walk
-    requires going { Going walk.next walk.waiting walk.turns }
-    requires done_bound { done ≤ 1 }
-    ensures { Turned walk.next walk.turns result.next result.waiting result.turns }
-{
-    let turns = walk.turns - 1;
-    if walk.waiting == 0 {
-        let next = walk.next + done;
-        return Walk {
-            next,
-            waiting: 0,
-            turns,
-        };
+    // No turn is left.
+    fn ended(mut self) -> Walk
+        requires { Going self.next self.waiting self.turns }
+        ensures { Turned self.next self.turns result.next result.waiting result.turns }
+    {
+        self.waiting = 0;
+        self.turns = 0;
+        self
     }
-    let next = walk.next;
-    let waiting = walk.waiting - 1;
-    Walk {
-        next,
-        waiting,
-        turns,
-    }
-}
 
-// The section of y is put on the path. Where the path is full, the walk ends.
-fn goes_to(walk: Walk, y: usize, path: &mut [usize]) -> Walk
-    requires path_len { length path.old ≡ 8192 }
-    requires going { Going walk.next walk.waiting walk.turns }
-    ensures { Turned walk.next walk.turns result.next result.waiting result.turns }
-{
-    let next = walk.next;
-    let top = walk.waiting;
-    if top == 8192 {
-        return Walk {
-            next,
-            waiting: 0,
-            turns: 0,
-        };
+    // The last section leaves the path; where there is none, the next section moves up by `done`.
+    fn came_back(mut self, done: usize) -> Walk
+        requires going { Going self.next self.waiting self.turns }
+        requires done_bound { done ≤ 1 }
+        ensures { Turned self.next self.turns result.next result.waiting result.turns }
+    {
+        self.turns -= 1;
+        if self.waiting == 0 {
+            self.next += done;
+        } else {
+            self.waiting -= 1;
+        }
+        self
     }
-    path[top] = y;
-    let turns = walk.turns - 1;
-    Walk {
-        next,
-        waiting: top + 1,
-        turns,
-    }
-}
 
-fn after_meeting(met: Met, walk: Walk, path: &mut [usize]) -> Walk
-    requires path_len { length path.old ≡ 8192 }
-    requires going { Going walk.next walk.waiting walk.turns }
-    ensures { Turned walk.next walk.turns result.next result.waiting result.turns }
-{
-    match met {
-        Met::Done => came_back(walk, 1),
-        Met::Taken => came_back(walk, 0),
-        Met::Waits(y) => goes_to(walk, y, path),
-        Met::Missing => {
-            let next = walk.next;
-            Walk {
-                next,
-                waiting: 0,
-                turns: 0,
-            }
+    // The section of y is put on the path. Where the path is full, the walk ends.
+    fn goes_to(mut self, y: usize, path: &mut [usize; 8192]) -> Walk
+        requires going { Going self.next self.waiting self.turns }
+        ensures { Turned self.next self.turns result.next result.waiting result.turns }
+    {
+        if self.waiting == 8192 {
+            return self.ended();
+        }
+        path[self.waiting] = y;
+        self.waiting += 1;
+        self.turns -= 1;
+        self
+    }
+
+    fn after(self, met: Met, path: &mut [usize; 8192]) -> Walk
+        requires going { Going self.next self.waiting self.turns }
+        ensures { Turned self.next self.turns result.next result.waiting result.turns }
+    {
+        match met {
+            Met::Done => self.came_back(1),
+            Met::Taken => self.came_back(0),
+            Met::Waits(y) => self.goes_to(y, path),
+            Met::Missing => self.ended(),
         }
     }
 }
 
 // Whether every queue is at its end.
-fn all_taken(place: &[usize], n: usize, head: &[usize]) -> bool
+fn all_taken(place: &[usize], n: usize, head: &[usize; 8192]) -> bool
     requires n_bound { n ≤ 8192 }
     requires place_len { length place.now ≡ 8193 }
-    requires head_len { length head.now ≡ 8192 }
     ensures { result ≡ true → (l : ℕ) → l < n → get_or head.now l 0 ≡ get_or place.now (l + 1) 0 }
 {
     head[..n] == place[1..n + 1]
@@ -194,9 +175,9 @@ pub(crate) fn heads_meet(lists: &[u32], place: &[usize], n: usize) -> bool
         turns,
     };
     while 0 < walk.turns {
-        let x = looked_at(walk, &path);
+        let x = walk.looked_at(&path);
         let met = meet_head(lists, place, n, x, &mut head);
-        walk = after_meeting(met, walk, &mut path);
+        walk = walk.after(met, &mut path);
     }
     all_taken(place, n, &head)
 }

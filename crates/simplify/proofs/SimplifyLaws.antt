@@ -1,4 +1,5 @@
 -- Simplify: what the call comes to, by what the clause is sorted as.
+use Rattle.std.specs.Prelude.{Result, Ok, Err}
 use Prim.Native.Nat.{ℕ, zero, suc, ◌+◌, ◌≤◌, ◌<◌}
 use mathlib.Core.Path.{◌≡◌, refl, sym, ap, ap₂, ◌∙◌, subst}
 use mathlib.Core.Bool.{Bool, true, false, ◌||◌, not, true≢false}
@@ -35,8 +36,10 @@ use Rattle.scope.specs.Simplify.{unfalse, simplified, rest_of, flag_of, delete_c
 use Rattle.scope.specs.Simplify.{simplify_of}
 use Rattle.scope.proofs.ResultLaws.{past, unless_some}
 use Rattle.scope.proofs.MarkLaws.{lits_past, lits_else, lits_refuses}
-use Rattle.steps.specs.declared.write.Recorded.{Recorded}
-use Rattle.steps.specs.declared.write.Recorded.TheVariants as W
+use Rattle.scope.specs.declared.Refusal.{Refusal}
+use Rattle.scope.specs.declared.Refusal.TheVariants.{Unsound, Short}
+use Rattle.scope.specs.Refusals.{number}
+use Rattle.scope.proofs.RefusedLaws.{number_not_0}
 use Rattle.steps.specs.Names.{names_by, Nameable}
 use Rattle.steps.specs.Refusals.{literal_refusal, laid, laid_bytes}
 use Rattle.steps.proofs.WriteLaws.{short_laid, whole_laid, laid_done, laid_refused, filled_done, filled_refused}
@@ -44,7 +47,6 @@ use Rattle.steps.proofs.LiteralLaws.{clear, nameable, names_codes, names_part, n
 use Rattle.steps.proofs.ChainLaws.{first_some, first_none}
 use Rattle.steps.proofs.UnitLaws.{encode_none}
 use Rattle.simplify.specs.declared.Reduced.{Reduced}
-use Rattle.simplify.specs.declared.Reduced.TheVariants.{Done, Refused}
 use Rattle.simplify.specs.Answers.{reduced}
 use Rattle.simplify.specs.Cuts.{clause_refusal, SortedAs, Cuts, shortened, binary, Written}
 use Rattle.simplify.specs.Values.{false_by, unfalse_by}
@@ -140,12 +142,13 @@ module _ (f : Format) (t : Table) (lits : List ℕ) (redundant : Bool) (outs roo
       (filled_as w)) s
       ∙ rw (p, q, r)
 
-  pub comes_first : (n : ℕ) → n ≡ clause_refusal t lits → (n ≡ 0 → ⊥) → outcome ≡ refusal n t
+  pub comes_first : (r : Refusal) → number r ≡ clause_refusal t lits → outcome ≡ refusal (number r) t
   unfolding simplify_of
-  comes_first n e h = unless_some n (simplify_refusal f t lits redundant outs room) t _ (first n e h) h
+  comes_first r e =
+      unless_some (number r) (simplify_refusal f t lits redundant outs room) t _ (first (number r) e (number_not_0 r)) (number_not_0 r)
 
   pub comes_unsound : soundb t ≡ false → outcome ≡ refusal 1 t
-  comes_unsound h = comes_first 1 (refuse_1 t lits h) (λ q. omega arith)
+  comes_unsound h = comes_first Unsound (refuse_1 t lits h)
 
   pub comes_12 : (what : Simplified) → clause_refusal t lits ≡ 0 → simplified t lits ≡ what → too_few t lits ≡ true → outcome ≡ refusal 12 t
   unfolding unless
@@ -211,19 +214,19 @@ module _ (f : Format) (t : Table) (gs lits : List ℕ) (redundant : Bool) (w : W
       → ltb (length o) (length (bytes_as f t lits redundant outs (length o) Dropped)) ≡ b
   drop_here b e = ap (λ (bs : List ℕ). ltb (length o) (length bs)) (sym drop_same) ∙ e
 
-  pub dropped_short : (n : ℕ) (r : Recorded) → r ≡ laid (drop_bytes f gs lits w) (length o) → r ≡ W.Refused n
+  pub dropped_short : (n : Refusal) (r : Result ℕ Refusal) → r ≡ laid (drop_bytes f gs lits w) (length o) → r ≡ Err n
       → x ≡ sets o 0 (laid_bytes (drop_bytes f gs lits w) (length o))
-      → (refused 2 [] ≡ (outcome f t lits redundant outs (length o)).answer) × (x ≡ sets o 0 (outcome f t lits redundant outs (length o)).bytes)
+      → (refused (number n) [] ≡ (outcome f t lits redundant outs (length o)).answer) × (x ≡ sets o 0 (outcome f t lits redundant outs (length o)).bytes)
   dropped_short n r e q u =
       let h = laid_refused (drop_bytes f gs lits w) (length o) n r e q in
       let k = comes_2_bytes f t lits redundant outs (length o) Dropped s.passes s.sort (few_dropped t lits s.sort) (omega arith)
-      (drop_here true h) in (
-        sym (ap (λ (p : Outcome). p.answer) k),
-        filled_refused (drop_bytes f gs lits w) o x h u
+      (drop_here true h.0) in (
+        ap (λ (m : Refusal). refused (number m) []) h.1 ∙ sym (ap (λ (p : Outcome). p.answer) k),
+        filled_refused (drop_bytes f gs lits w) o x h.0 u
             ∙ sym (ap (λ (p : Outcome). sets o 0 p.bytes) k),
       )
 
-  pub dropped_filled : (n : ℕ) (r : Recorded) → r ≡ laid (drop_bytes f gs lits w) (length o) → r ≡ W.Done n
+  pub dropped_filled : (n : ℕ) (r : Result ℕ Refusal) → r ≡ laid (drop_bytes f gs lits w) (length o) → r ≡ Ok n
       → x ≡ sets o 0 (laid_bytes (drop_bytes f gs lits w) (length o))
       → (accepted (1 ∷ 0 ∷ 0 ∷ n ∷ []) ≡ (outcome f t lits redundant outs (length o)).answer)
       × (x ≡ sets o 0 (outcome f t lits redundant outs (length o)).bytes)
@@ -268,14 +271,14 @@ module _ (f : Format) (what : Simplified) (redundant : Bool) (v w : Writes) (res
 
   -- laid where there is room for both
   pub both_short : (o : List ℕ) (a b : ℕ) → a ≡ length (encode f (written v rest)) → b ≡ length (encode f (written w clause)) → length o < a + b
-      → (W.Refused 2 ≡ laid cut_bytes (length o)) × (o ≡ sets o 0 (laid_bytes cut_bytes (length o)))
+      → (Err Short ≡ laid cut_bytes (length o)) × (o ≡ sets o 0 (laid_bytes cut_bytes (length o)))
   both_short o a b p q l =
       let e = ap length cut_bytes_lem in
       short_laid cut_bytes o (a + b) (omega (arith, e, length-append (encode f (written v rest)) (encode f (written w clause)))) l
 
   pub both_whole : (o x y : List ℕ) (a b : ℕ) → a ≡ length (encode f (written v rest)) → b ≡ length (encode f (written w clause)) → a + b ≤ length o
       → x ≡ sets o 0 (encode f (written v rest)) → y ≡ sets x a (encode f (written w clause))
-      → (W.Done (a + b) ≡ laid cut_bytes (length o)) × (y ≡ sets o 0 (laid_bytes cut_bytes (length o)))
+      → (Ok (a + b) ≡ laid cut_bytes (length o)) × (y ≡ sets o 0 (laid_bytes cut_bytes (length o)))
   both_whole o x y a b p q l m n =
       let e = encode f (written v rest) in
       let u = encode f (written w clause) in
@@ -392,21 +395,21 @@ module _ (f : Format) (t : Table) (lits : List ℕ) (redundant : Bool) (what : S
       parts comes (refusal 2 t) (refused 2 []) o b o b (cut_short_words f t lits redundant (length o) (length b) what z s k (omega arith) (omega arith)) refl
       refl refl
 
-  module _ (rest clause y : List ℕ) (p : rest ≡ rename_lits (holders t) true (unfalse t lits)) (q : clause ≡ rename_lits (holders t) true lits) (r : Recorded)
+  module _ (rest clause y : List ℕ) (p : rest ≡ rename_lits (holders t) true (unfalse t lits)) (q : clause ≡ rename_lits (holders t) true lits) (r : Result ℕ Refusal)
       (e : r ≡ laid (encode f (simplify_steps what redundant rest clause)) (length b))
       (u : y ≡ sets b 0 (laid_bytes (encode f (simplify_steps what redundant rest clause)) (length b))) where
     both : List ℕ
     both = encode f (simplify_steps what redundant rest clause)
 
-    pub says_2_bytes : (m n : ℕ) → m ≡ length (unfalse t lits) → 2 ≤ m → m ≤ length o → r ≡ W.Refused n → Says (refused 2 []) o y
+    pub says_2_bytes : (m : ℕ) (n : Refusal) → m ≡ length (unfalse t lits) → 2 ≤ m → m ≤ length o → r ≡ Err n → Says (refused (number n) []) o y
     unfolding both
     says_2_bytes m n i l h v =
         let w = laid_refused both (length b) n r e v in
-        parts comes (refusal 2 t) (refused 2 []) o b o y
-        (cut_short_bytes f t lits redundant (length o) (length b) what z s k rest clause p q (omega arith) (omega arith) w)
-        refl refl (filled_refused both b y w u)
+        parts comes (refusal 2 t) (refused (number n) []) o b o y
+        (cut_short_bytes f t lits redundant (length o) (length b) what z s k rest clause p q (omega arith) (omega arith) w.0)
+        (ap (λ (i : Refusal). refused (number i) []) w.1) refl (filled_refused both b y w.0 u)
 
-    pub says_done : (m n : ℕ) (flag : Bool) (x : List ℕ) → m ≡ length (unfalse t lits) → 2 ≤ m → m ≤ length o → r ≡ W.Done n → flag ≡ flag_of what redundant
+    pub says_done : (m n : ℕ) (flag : Bool) (x : List ℕ) → m ≡ length (unfalse t lits) → 2 ≤ m → m ≤ length o → r ≡ Ok n → flag ≡ flag_of what redundant
         → x ≡ sets o 0 (rename_lits (holders t) false (unfalse t lits)) → Says (accepted (simplified_number what ∷ m ∷ pick flag 1 0 ∷ n ∷ [])) x y
     unfolding both
     says_done m n flag x i l h v g j =
@@ -442,12 +445,12 @@ module _ (f : Format) (t : Table) (lits : List ℕ) (redundant : Bool) (o b : Li
           (comes_filled f t lits redundant (length o) (length b) Dropped z s (few_dropped t lits s) (omega arith) e))
 
 -- the table that an answer leaves is the one given
-reduced_same : (r : Reduced) (t : Table) → table_of (reduced r t.counts).counts t.global_from_user t.user_from_global t.solver_from_global
+reduced_same : (r : Result Reduced Refusal) (t : Table) → table_of (reduced r t.counts).counts t.global_from_user t.user_from_global t.solver_from_global
     t.global_from_solver t.assignment t.records ≡ t
-reduced_same (Done what rest flag bytes) t = refl
-reduced_same (Refused n) t = refl
+reduced_same (Ok r) t = refl
+reduced_same (Err r) t = refl
 
-pub meets : (f : Format) (t : Table) (lits : List ℕ) (redundant : Bool) (outs room : ℕ) (r : Reduced)
+pub meets : (f : Format) (t : Table) (lits : List ℕ) (redundant : Bool) (outs room : ℕ) (r : Result Reduced Refusal)
     → (reduced r t.counts).answer ≡ (outcome f t lits redundant outs room).answer
     → Does (outcome f t lits redundant outs room) (reduced r t.counts)
     (table_of (reduced r t.counts).counts t.global_from_user t.user_from_global t.solver_from_global t.global_from_solver t.assignment t.records)

@@ -1,6 +1,6 @@
 // A clause by the values of its literals (closure of `unit_simplify`, src/unit_simplify.rs).
-ghost use Rattle.std.specs.Prelude.{◌≡◌, true, ◌≤◌, length};
-ghost use Rattle.base.specs.Bounded.{any_of};
+ghost use Rattle.std.specs.Prelude.{◌≡◌, true, not, ◌≤◌, length};
+ghost use Rattle.std.specs.List.{list_any, count_by};
 ghost use Rattle.base.specs.Lent.{Fills, change};
 ghost use Rattle.scope.specs.Table.{Table};
 ghost use Rattle.scope.specs.Simplify.{simplified};
@@ -24,31 +24,18 @@ fn is_false(assignment: &[u32], code: u32) -> bool
 }
 
 fn any_true(assignment: &[u32], lits: &[u32]) -> bool
-    ensures { result ≡ any_of (true_by assignment.now) lits.now }
+    ensures { result ≡ list_any (true_by assignment.now) lits.now }
 {
-    let mut i = 0;
-    while i < lits.len() {
-        if is_true(assignment, lits[i]) {
-            return true;
-        }
-        i += 1;
-    }
-    false
+    lits.iter().any(|lit| is_true(assignment, *lit))
 }
 
 // How many literals are not false.
 fn count_unfalse(assignment: &[u32], lits: &[u32]) -> usize
-    ensures { result ≡ length (unfalse_by assignment.now lits.now) }
+    ensures { result ≡ count_by (λ c. not (false_by assignment.now c)) lits.now }
 {
-    let mut k = 0;
-    let mut i = 0;
-    while i < lits.len() {
-        if !is_false(assignment, lits[i]) {
-            k += 1;
-        }
-        i += 1;
-    }
-    k
+    lits.iter()
+        .filter(|lit| !is_false(assignment, **lit))
+        .count()
 }
 
 // A true literal drops the clause; otherwise false literals go. Two left then is binary; where none went, it is kept.
@@ -82,14 +69,11 @@ pub fn keep_rest(
     ensures fills { Fills (change out.old out.new) 0 (names_by gs.now named (unfalse_by assignment.now lits.now)) }
 {
     let mut k = 0;
-    let mut i = 0;
-    while i < lits.len() {
-        let code = lits[i];
-        if !is_false(assignment, code) {
-            out[k] = rename_lit(gs, named, code);
+    for lit in lits {
+        if !is_false(assignment, *lit) {
+            out[k] = rename_lit(gs, named, *lit);
             k += 1;
         }
-        i += 1;
     }
     k
 }

@@ -14,34 +14,17 @@ ghost use Rattle.scope.specs.Contract.{given, Meets, reads};
 ghost use Rattle.scope.specs.Simplify.{flag_of, delete_cause, simplify_steps, simplify_of};
 ghost use Rattle.steps.specs.Names.{names_by, Nameable};
 ghost use Rattle.steps.specs.Refusals.{laid, laid_bytes};
-ghost use Rattle.simplify.specs.Cuts.{clause_refusal, SortedAs, Cuts, Written};
+ghost use Rattle.simplify.specs.Cuts.{SortedAs, Cuts, Written};
 ghost use Rattle.simplify.specs.Values.{unfalse_by};
 ghost use Rattle.simplify.specs.Answers.{reduced};
 
 use clause::{keep_rest, sort_clause};
 use drat::Format;
-use scope::{Counts, DeleteClauseProof, ProofStep, Simplified};
+use scope::{Counts, DeleteClauseProof, ProofStep, Refusal, Simplified};
 use steps::kinds::rule_of;
 use steps::rename::{literal_refusal, rename_lits};
-use steps::write::{Recorded, bytes_len, put_bytes, write_judged};
-use table::{copy_lits, is_sound};
-
-// The first refusal that a clause has on a sound table before its values are looked at, 0 for none: 3, 8.
-fn clause_refusal(
-    c: Counts,
-    gu: &[u32],
-    ug: &[u32],
-    sg: &[u32],
-    gs: &[u32],
-    assignment: &[u32],
-    records: &[u32],
-    lits: &[u32],
-) -> u32
-    requires { soundb (given c gu.now ug.now sg.now gs.now assignment.now records.now) ≡ true }
-    ensures { result ≡ clause_refusal (given c gu.now ug.now sg.now gs.now assignment.now records.now) lits.now }
-{
-    literal_refusal(c, gs, true, lits)
-}
+use steps::write::{bytes_len, put_bytes, write_judged};
+use table::{Lists, copy_lits};
 
 // The add step's redundant flag: only if the clause was and over two remain.
 fn add_flag(what: Simplified, redundant: bool) -> bool
@@ -67,40 +50,53 @@ fn delete_cause(redundant: bool, otherwise: DeleteClauseProof) -> DeleteClausePr
 
 // What was made of the clause, how many literals are left, the add step's flag, and how many bytes were filled.
 #[derive(Clone, Copy)]
-pub enum Reduced {
-    Done(Simplified, usize, bool, usize),
-    Refused(u32),
+pub struct Reduced {
+    pub what: Simplified,
+    pub left: usize,
+    pub redundant: bool,
+    pub bytes: usize,
 }
 
 // A clause that is kept: 2.
-fn keep_clause(lits: &[u32], out: &mut [u32]) -> Reduced
+fn keep_clause(lits: &[u32], out: &mut [u32]) -> Result<Reduced, Refusal>
     ensures { (f : Format) (t : Table) (redundant : Bool) (room : ℕ) → SortedAs t lits.now Kept →
         let o = simplify_of f t lits.now redundant (length out.old) room in
         ((reduced result t.counts).answer ≡ o.answer) × Fills (change out.old out.new) 0 o.words }
 {
     if out.len() < lits.len() {
-        return Reduced::Refused(2);
+        return Err(Refusal::Short);
     }
     copy_lits(lits, out);
-    Reduced::Done(Simplified::Kept, lits.len(), false, 0)
+    Ok(Reduced {
+        what: Simplified::Kept,
+        left: lits.len(),
+        redundant: false,
+        bytes: 0,
+    })
 }
 
 // A clause that is dropped, with one delete step: 2.
-fn drop_clause(gs: &[u32], f: Format, lits: &[u32], redundant: bool, bytes: &mut [u8]) -> Reduced
+fn drop_clause(
+    gs: &[u32],
+    f: Format,
+    lits: &[u32],
+    redundant: bool,
+    bytes: &mut [u8],
+) -> Result<Reduced, Refusal>
     requires { Nameable gs.now true lits.now }
     ensures { (t : Table) (outs : ℕ) → SortedAs t lits.now Dropped → t.global_from_solver ≡ gs.now →
         let o = simplify_of f t lits.now redundant outs (length bytes.old) in
         ((reduced result t.counts).answer ≡ o.answer) × Fills (change bytes.old bytes.new) 0 o.bytes }
 {
     let cause = delete_cause(redundant, DeleteClauseProof::Satisfied);
-    let step = ProofStep::DeleteClause(cause);
-    let rule = rule_of(step);
-    let writes = rule.writes;
-    let wrote = write_judged(gs, f, writes, true, lits, bytes);
-    let Recorded::Done(n) = wrote else {
-        return Reduced::Refused(2);
-    };
-    Reduced::Done(Simplified::Dropped, 0, false, n)
+    let writes = rule_of(ProofStep::DeleteClause(cause)).writes;
+    let wrote = write_judged(gs, f, writes, true, lits, bytes)?;
+    Ok(Reduced {
+        what: Simplified::Dropped,
+        left: 0,
+        redundant: false,
+        bytes: wrote,
+    })
 }
 
 // An add step of the rest, then a delete step of the old clause, both under global names: 2.
@@ -111,7 +107,7 @@ fn put_both(
     rest: &[u32],
     clause: &[u32],
     bytes: &mut [u8],
-) -> Recorded
+) -> Result<usize, Refusal>
     requires cuts { Cuts what }
     requires written { Written rest.now }
     requires written_2 { Written clause.now }
@@ -121,21 +117,17 @@ fn put_both(
         Fills (change bytes.old bytes.new) 0 (laid_bytes steps (length bytes.old)) }
 {
     let flag = add_flag(what, redundant);
-    let first = ProofStep::AtClause(flag);
-    let firstrule = rule_of(first);
-    let adds = firstrule.writes;
+    let adds = rule_of(ProofStep::AtClause(flag)).writes;
     let cause = delete_cause(redundant, DeleteClauseProof::Simplified);
-    let second = ProofStep::DeleteClause(cause);
-    let secondrule = rule_of(second);
-    let deletes = secondrule.writes;
+    let deletes = rule_of(ProofStep::DeleteClause(cause)).writes;
     let a = bytes_len(f, adds, rest);
     let b = bytes_len(f, deletes, clause);
     if bytes.len() < a + b {
-        return Recorded::Refused(2);
+        return Err(Refusal::Short);
     }
     put_bytes(f, adds, rest, bytes, 0);
     put_bytes(f, deletes, clause, bytes, a);
-    Recorded::Done(a + b)
+    Ok(a + b)
 }
 
 // The rest and the old clause under global names, from the start of `rest` and `clause`; how many are left.
@@ -169,7 +161,7 @@ fn shorten_over(
     clause: &mut [u32],
     out: &mut [u32],
     bytes: &mut [u8],
-) -> Reduced
+) -> Result<Reduced, Refusal>
     requires nameable { Nameable gs.now true lits.now }
     requires cuts { Cuts what }
     requires lits_in_bounds { length lits.now ≤ length rest.old }
@@ -180,18 +172,20 @@ fn shorten_over(
 {
     let k = name_both(gs, assignment, lits, rest, clause);
     if k < 2 {
-        return Reduced::Refused(12);
+        return Err(Refusal::FewUnknown);
     }
     if out.len() < k {
-        return Reduced::Refused(2);
+        return Err(Refusal::Short);
     }
     let m = lits.len();
-    let wrote = put_both(f, what, redundant, &rest[..k], &clause[..m], bytes);
-    let Recorded::Done(n) = wrote else {
-        return Reduced::Refused(2);
-    };
+    let wrote = put_both(f, what, redundant, &rest[..k], &clause[..m], bytes)?;
     keep_rest(gs, assignment, false, lits, out);
-    Reduced::Done(what, k, add_flag(what, redundant), n)
+    Ok(Reduced {
+        what,
+        left: k,
+        redundant: add_flag(what, redundant),
+        bytes: wrote,
+    })
 }
 
 // The same, the places lent: short ones for few literals, since they are cleared at each call.
@@ -204,7 +198,7 @@ fn shorten_clause(
     redundant: bool,
     out: &mut [u32],
     bytes: &mut [u8],
-) -> Reduced
+) -> Result<Reduced, Refusal>
     requires nameable { Nameable gs.now true lits.now }
     requires cuts { Cuts what }
     ensures { (t : Table) → SortedAs t lits.now what → t.global_from_solver ≡ gs.now → t.assignment ≡ assignment.now →
@@ -258,7 +252,7 @@ pub fn simplify_clause(
     redundant: bool,
     out: &mut [u32],
     bytes: &mut [u8],
-) -> Reduced
+) -> Result<Reduced, Refusal>
     ensures meets { Meets (λ t room. simplify_of f t lits.now redundant (length out.old) (length bytes.old)) (reduced result c)
         (reads c gu.now ug.now sg.now gs.now assignment.now records.now) }
     ensures out { Fills (change out.old out.new) 0
@@ -266,9 +260,16 @@ pub fn simplify_clause(
     ensures bytes { Fills (change bytes.old bytes.new) 0
         (simplify_of f (given c gu.now ug.now sg.now gs.now assignment.now records.now) lits.now redundant (length out.old) (length bytes.old)).bytes }
 {
-    if !is_sound(c, gu, ug, sg, gs, assignment, records) {
-        return Reduced::Refused(1);
-    }
+    let t = Lists {
+        counts: c,
+        gu,
+        ug,
+        sg,
+        gs,
+        assignment,
+        records,
+    };
+    t.check_sound()?;
     known_simplify_clause(
         c, gu, ug, sg, gs, assignment, records, f, lits, redundant, out, bytes,
     )
@@ -289,7 +290,7 @@ pub fn known_simplify_clause(
     redundant: bool,
     out: &mut [u32],
     bytes: &mut [u8],
-) -> Reduced
+) -> Result<Reduced, Refusal>
     requires { soundb (given c gu.now ug.now sg.now gs.now assignment.now records.now) ≡ true }
     ensures meets { Meets (λ t room. simplify_of f t lits.now redundant (length out.old) (length bytes.old)) (reduced result c)
         (reads c gu.now ug.now sg.now gs.now assignment.now records.now) }
@@ -298,10 +299,7 @@ pub fn known_simplify_clause(
     ensures bytes { Fills (change bytes.old bytes.new) 0
         (simplify_of f (given c gu.now ug.now sg.now gs.now assignment.now records.now) lits.now redundant (length out.old) (length bytes.old)).bytes }
 {
-    let n = clause_refusal(c, gu, ug, sg, gs, assignment, records, lits);
-    if n != 0 {
-        return Reduced::Refused(n);
-    }
+    literal_refusal(c, gs, true, lits)?;
     let what = sort_clause(assignment, lits);
     match what {
         Simplified::Kept => keep_clause(lits, out),

@@ -9,7 +9,6 @@ use lib.Dec.{eqb, ltb, leb}
 use lib.ListN.{length, get_or, take, length-map}
 use lib.Seq.{sets, length-sets}
 use borrow.Author.Tests.{ne_eqb, lt-ltb, le-ltb, ltb-false, eqb-false, leb-false}
-use Rattle.std.specs.List.{list_any}
 use Rattle.base.specs.Bounded.{any_of}
 use Rattle.base.proofs.Truth.{same}
 use Rattle.base.proofs.MemberLaws.{any_none, or_left, or_right, or_none}
@@ -68,12 +67,6 @@ clear t s lits e =
     record { inside = p.0; held = (lits_past t s lits 0 p.1).0 }
 
 -- ---- names
-
--- `any_of` as std has it
-pub any_is : {A : Type 0} (p : A → Bool) (xs : List A) → list_any p xs ≡ any_of p xs
-unfolding any_of
-any_is p [] = refl
-any_is p (x ∷ xs) = ap (λ (b : Bool). p x || b) (any_is p xs)
 
 pub word_filled : (w g : ℕ) → w ≡ g + 1 → eqb w 0 ≡ false
 word_filled w g e = ne_eqb w 0 (λ z. omega arith)

@@ -1,21 +1,13 @@
-use mathlib.Core.Path.{sym}
-use native.Mathlib.Omega.{arith}
-use Rattle.scope.proofs.DistinctLaws.{named_start, named_hit, named_miss}
+use Rattle.std.proofs.Common.{rules, tests, arith, eqb, take, get_or, ◌-◌, ◌≡◌}
+use mathlib.Core.Path.{◌∙◌}
+use Rattle.std.proofs.lemmas.Iterator.{YieldsList-from_slice}
+use Rattle.std.proofs.lemmas.Iterator.Search.{any_from_yields_List}
+use Rattle.scope.specs.Literals.{index_of}
+use Rattle.distinct.proofs.NeedLaws.{named_is}
 use Rattle.distinct.proofs.named_before.Goals as goal
 
-pub loop-j-init : goal.loop-j-init
-loop-j-init c = (omega arith, named_start c.args.lits.now _)
-
-pub returns-then-lits-j : goal.returns-then-lits-j
-returns-then-lits-j c =
-    let p = c.requires in
-    let e = c.if-lits-j.true in
-    sym (named_hit _ _ _ _ c.loop-j-test.true (omega arith) (omega arith))
-
-pub loop-j-preserved : goal.loop-j-preserved
-loop-j-preserved c =
-    let p = c.requires in
-    let l = c.loop-j-test.true in (
-      omega arith,
-      named_miss c.args.lits.now _ _ (omega arith) c.loop-j.invariant.1 c.if-lits-j.false,
-    )
+pub returns : goal.returns
+returns c =
+    any_from_yields_List (λ x. eqb (index_of x) (index_of (get_or c.args.lits.now c.args.i 0))) _ _ c.any.result c.any.ensures.ran
+    (YieldsList-from_slice (take c.args.i c.args.lits.now) (let e : c.args.i - 0 ≡ c.args.i = omega arith in cc)) (λ x b q k. search (rules, tests))
+    ∙ named_is _ _

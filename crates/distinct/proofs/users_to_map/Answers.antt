@@ -12,22 +12,22 @@ pub count_needs-n-requires-clause-within : goal.count_needs-n-requires-clause-wi
 count_needs-n-requires-clause-within c =
     (users_range _ _ c.out_of_range.ensures c.if-out_of_range.false).1
 
-pub overflow_sub-users : goal.overflow_sub-users
-overflow_sub-users c =
+pub told-requires-clause-mark_le_top : goal.told-requires-clause-mark_le_top
+told-requires-clause-mark_le_top c =
     let judged = c.out_of_range in
     let left = c.if-out_of_range.false in
     let a = c.args in
     let l : (count_named 4096) (is_low a.gu.now a.mark) a.lits.now ≤ 8192 = let x = named_most 4096 (is_low a.gu.now a.mark) a.lits.now in omega arith in
     (users_fit _ _ judged.ensures left (count_named 4096) _ _ _ _ l c.count_needs-n.ensures).0
 
-pub overflow_add-users : goal.overflow_add-users
-overflow_add-users c =
+pub told-requires-clause-users_bound : goal.told-requires-clause-users_bound
+told-requires-clause-users_bound c =
     let judged = c.out_of_range in
     let left = c.if-out_of_range.false in
     let a = c.args in
     let l : (count_named 4096) (is_low a.gu.now a.mark) a.lits.now ≤ 8192 = let x = named_most 4096 (is_low a.gu.now a.mark) a.lits.now in omega arith in
-    record { fits = (users_fit _ _ judged.ensures left (count_named 4096) _ _ _ _ l c.count_needs-n.ensures).1 }
+    (users_fit _ _ judged.ensures left (count_named 4096) _ _ _ _ l c.count_needs-n.ensures).1
 
 pub returns : goal.returns
 returns c =
-    users_told _ _ c.out_of_range.ensures c.if-out_of_range.false (count_named 4096) _ _ _ _ c.count_needs-n.ensures
+    users_told _ _ c.out_of_range.ensures c.if-out_of_range.false (count_named 4096) _ _ _ _ _ c.count_needs-n.ensures c.told.ensures

@@ -1,6 +1,6 @@
-use Prim.Native.Nat.{ℕ, min, ◌≤◌}
-use mathlib.Core.Bool.{Bool, ◌&&◌, true}
-use mathlib.Core.Path.{◌≡◌, ap, refl, subst, ◌∙◌}
+use Prim.Native.Nat.{min}
+use mathlib.Core.Bool.{true}
+use mathlib.Core.Path.{◌≡◌, ap, ◌∙◌}
 use lib.ListN.{length}
 use native.Mathlib.Omega.{arith}
 use Rattle.drat_judge.proofs.RunsLaws.{runs_out, part_holds}

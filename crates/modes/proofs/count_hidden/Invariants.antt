@@ -1,11 +1,7 @@
 use Rattle.modes.proofs.HiddenLaws.{hidden_at}
-use Prim.Native.Nat.{◌-◌, ◌≤◌}
 use mathlib.Core.Path.{◌≡◌}
 use Rattle.base.specs.Bounded.{count}
 use Rattle.modes.proofs.count_hidden.Given as goal
 
 abbrev pub invariant-loop-g : goal.invariant-loop-g
-invariant-loop-g l = (l.g ≤ l.mark) × (l.n ≡ count l.g (hidden_at l.records))
-
-abbrev pub decreases-loop-g : goal.decreases-loop-g
-decreases-loop-g l = l.mark - l.g
+invariant-loop-g l = l.n ≡ count l.g (hidden_at l.records)

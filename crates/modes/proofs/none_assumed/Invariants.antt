@@ -1,11 +1,7 @@
 use Rattle.modes.proofs.HiddenLaws.{fine}
-use Prim.Native.Nat.{◌-◌, ◌≤◌}
 use mathlib.Core.Path.{◌≡◌}
 use Rattle.base.specs.Bounded.{all_below}
 use Rattle.modes.proofs.none_assumed.Given as goal
 
 abbrev pub invariant-loop-g : goal.invariant-loop-g
-invariant-loop-g l = (l.g ≤ l.mark) × (l.ok ≡ all_below l.g (fine l.records))
-
-abbrev pub decreases-loop-g : goal.decreases-loop-g
-decreases-loop-g l = l.mark - l.g
+invariant-loop-g l = l.ok ≡ all_below l.g (fine l.records)

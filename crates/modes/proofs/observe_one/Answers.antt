@@ -22,8 +22,8 @@ show-p-requires c =
     observe_one_asks _ _ _ _ _ c.requires.observes _ c.is_hidden.ensures
     c.if-not-is_hidden.false _ _ c.requires.words
 
-pub bounds-users-filled : goal.bounds-users-filled
-bounds-users-filled c =
+pub bounds-users-k : goal.bounds-users-k
+bounds-users-k c =
     one_room _ _ _ _ _ c.requires.observes _ c.is_hidden.ensures c.if-not-is_hidden.false
 
 pub overflow_add-result : goal.overflow_add-result

@@ -1,3 +1,4 @@
+use native.Mathlib.Omega.{arith}
 use Rattle.modes.proofs.ChangeLaws.{show_fits, show_leaves}
 use Rattle.modes.proofs.NotesLaws.{there_live}
 use Rattle.modes.proofs.show.Goals as goal
@@ -17,6 +18,7 @@ map-counts-requires-clause-used_bound c =
 pub returns-clause-leaves : goal.returns-clause-leaves
 returns-clause-leaves c =
     let l = (there_live _ _ c.requires.shows.there).words in
-    let u = c.least_free.ensures in
-    let n = c.put_note.ensures in
-    λ x. show_leaves _ _ _ l _ u _ _ _ _ (c.map-counts.ensures.value, (c.map-counts.ensures.gu_value, (c.map-counts.ensures.ug_value, c.map-counts.ensures.records_value))) _ _ _ _ n c.put_note-2.ensures
+    let m = c.map-counts.ensures in
+    let n = c.from.ensures in
+    λ x. show_leaves _ _ _ l _ c.least_free.ensures _ _ _ _ _ (omega arith) (m.value, (m.gu_value, (m.ug_value, m.records_value))) _
+    c.is_sample.ensures _ _ _ _ c.put_note.ensures c.put_note-2.ensures

@@ -1,18 +1,20 @@
-use Rattle.simplify.proofs.SimplifyLaws.{dropped_short, dropped_filled}
+use Rattle.std.proofs.lemmas.Result.{err_from_is_err_and}
 use Rattle.scope.specs.declared.ProofStep.TheVariants.{DeleteClause}
 use Rattle.steps.proofs.WriteLaws.{writes_by}
+use Rattle.simplify.proofs.SimplifyLaws.{dropped_short, dropped_filled}
 use Rattle.simplify.proofs.drop_clause.Goals as goal
 
-pub returns-in_default : goal.returns-in_default
-returns-in_default c =
-    λ t outs s g. dropped_short c.args.f t c.args.gs.now c.args.lits.now c.args.redundant
-    c.rule_of-rule.result.writes outs c.args.bytes.now _ (writes_by (DeleteClause
-    c.delete_cause-cause.result) _ c.rule_of-rule.ensures) g s _ _ c.write_judged-wrote.ensures.value c.in_default.is
-    c.write_judged-wrote.ensures.out
+pub returns-in_err-wrote : goal.returns-in_err-wrote
+returns-in_err-wrote c =
+    let a = c.args in
+    let p = err_from_is_err_and c.from_residual.result c.from_residual.ensures.1 in
+    rw (p.1, p.2) (λ t outs s g. dropped_short a.f t a.gs.now a.lits.now a.redundant _ outs a.bytes.now _
+    (writes_by (DeleteClause c.delete_cause-cause.result) _ c.rule_of-writes.ensures) g s _ _ c.write_judged.ensures.value
+    c.in_err-wrote.was c.write_judged.ensures.out)
 
 pub returns : goal.returns
-returns c =
-    λ t outs s g. dropped_filled c.args.f t c.args.gs.now c.args.lits.now c.args.redundant
-    c.rule_of-rule.result.writes outs c.args.bytes.now _ (writes_by (DeleteClause
-    c.delete_cause-cause.result) _ c.rule_of-rule.ensures) g s _ _ c.write_judged-wrote.ensures.value c.in-Done.is
-    c.write_judged-wrote.ensures.out
+returns c = λ t outs s g.
+    let a = c.args in
+    dropped_filled a.f t a.gs.now a.lits.now a.redundant _ outs a.bytes.now _
+    (writes_by (DeleteClause c.delete_cause-cause.result) _ c.rule_of-writes.ensures) g s _ _ c.write_judged.ensures.value
+    c.in_ok-wrote.was c.write_judged.ensures.out

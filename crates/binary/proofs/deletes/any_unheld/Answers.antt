@@ -7,7 +7,7 @@ use borrow.Author.Tests.{eq-eqb}
 use mathlib.Core.Path.{sym, ap, ◌∙◌}
 use native.Mathlib.Omega.{arith}
 use Rattle.binary.proofs.deletes.any_unheld.Goals as goal
-use Rattle.binary.proofs.deletes.any_unheld.Goals.{then-place-l+in-At, else-place-l}
+use Rattle.binary.proofs.deletes.any_unheld.Goals.{then-place-l+in-Some, else-place-l}
 
 pub returns-in_default : goal.returns-in_default
 returns-in_default c =
@@ -20,9 +20,9 @@ returns-in_default c =
 pub loop-l-preserved : goal.loop-l-preserved
 loop-l-preserved c =
     λ lists p. elim c.if-place-l.branch [
-      | then-place-l+in-At w ↦ any_passed (unheld_by c.args.gs.now) lists c.args.n c.args.place.now p c.loop-l.l
+      | then-place-l+in-Some w ↦ any_passed (unheld_by c.args.gs.now) lists c.args.n c.args.place.now p c.loop-l.l
           c.loop-l-test.true w.if-place-l.true
-          (word_filled _ _ (global_word_lem _ _ (sym w.in-At.is ∙ w.holder.ensures))) ∙ c.loop-l.invariant lists p
+          (word_filled _ _ (global_word_lem _ _ (sym w.in-Some.is ∙ w.holder.ensures))) ∙ c.loop-l.invariant lists p
       | else-place-l w ↦ any_empty (unheld_by c.args.gs.now) lists c.args.n c.args.place.now p c.loop-l.l
           c.loop-l-test.true w.if-place-l.false ∙ c.loop-l.invariant lists p
     ]

@@ -6,4 +6,3 @@ use Rattle.drat_scan.proofs.place.leb_at.Given as goal
 
 abbrev pub invariant-loop-i : goal.invariant-loop-i
 invariant-loop-i l = (l.v < l.w) × (l.w ≤ 8192) × (leb_from l.v l.w l.i (drop l.i l.s) ≡ leb_from 0 1 l.at (drop l.at l.s))
-

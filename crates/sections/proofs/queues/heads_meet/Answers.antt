@@ -5,8 +5,6 @@ use Rattle.sections.proofs.queues.heads_meet.Goals as goal
 
 pub loop-walk-init : goal.loop-walk-init
 loop-walk-init c = (
-  c.start_heads.auto.head,
-  refl,
   even_start c.args.lists.now c.args.n c.args.place.now c.requires.placed _
       c.start_heads.ensures,
   omega arith,
@@ -16,4 +14,4 @@ loop-walk-init c = (
 pub returns : goal.returns
 returns c =
     λ e. even_end c.args.lists.now c.args.n c.args.place.now c.requires.placed _
-    c.loop-walk.invariant.2 c.requires.inside (c.all_taken.ensures e)
+    c.loop-walk.invariant.0 c.requires.inside (c.all_taken.ensures e)

@@ -1,3 +1,4 @@
+use Rattle.std.proofs.Common.{rules}
 use Rattle.sections.proofs.QueueLaws.{head_entry, even_one}
 use mathlib.Core.Path.{refl, sym, ◌∙◌}
 use native.Mathlib.Omega.{arith}
@@ -19,6 +20,6 @@ meet_mirror-requires-clause-facing c =
 
 pub returns : goal.returns
 returns c =
-    even_one c.args.lists.now c.args.n c.args.place.now c.requires.placed c.args.head.now c.requires.head_len
+    even_one c.args.lists.now c.args.n c.args.place.now c.requires.placed c.args.head.now (search rules)
     c.requires.even _ _ c.if-n-x.false refl c.if-place-x.false
     (sym c.not_lit-y.ensures ∙ c.if-y-x.false)

@@ -1,4 +1,5 @@
-use Rattle.steps.proofs.LiteralLaws.{refuse_many, refuse_beyond, pass_global, refuse_unheld, pass_solver, any_is}
+use Rattle.steps.proofs.LiteralLaws.{refuse_many, refuse_beyond, pass_global, refuse_unheld, pass_solver}
+use Rattle.base.proofs.MemberLaws.{any_is}
 use mathlib.Core.Path.{sym, ◌∙◌}
 use Rattle.steps.proofs.rename.literal_refusal.Goals as goal
 

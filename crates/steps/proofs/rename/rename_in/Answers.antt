@@ -1,6 +1,7 @@
 use mathlib.Core.Path.{sym, ◌∙◌}
 use Rattle.steps.proofs.RenameLaws.{alone_many, alone_unheld, alone_short, alone_done}
-use Rattle.steps.proofs.LiteralLaws.{named, any_is}
+use Rattle.steps.proofs.LiteralLaws.{named}
+use Rattle.base.proofs.MemberLaws.{any_is}
 use Rattle.steps.proofs.rename.rename_in.Goals as goal
 
 pub returns-then-lits-gt8192 : goal.returns-then-lits-gt8192
