@@ -12,7 +12,7 @@ use crate::keep::stays;
 use drat::{Format, Kind};
 use drat_write::{put_step, step_len};
 use scope::{Refusal, Solver};
-use sections::not_lit;
+use sections::{not_lit, section_of};
 use steps::rename::rename_lit;
 use table::holder;
 
@@ -101,9 +101,7 @@ pub(crate) fn deletes_len(
 {
     let mut used: usize = 0;
     for l in 0..n {
-        let a = place[l] + 1;
-        let b = place[l + 1];
-        used += section_len(gs, assignment, f, l as u32, &lists[a..b], room - used)?;
+        used += section_len(gs, assignment, f, l as u32, section_of(lists, place, n, l), room - used)?;
     }
     Ok(used)
 }
@@ -150,8 +148,6 @@ pub(crate) fn put_deletes(
 {
     let mut at = 0;
     for l in 0..n {
-        let a = place[l] + 1;
-        let b = place[l + 1];
-        at = put_section(gs, assignment, f, l as u32, &lists[a..b], bytes, at);
+        at = put_section(gs, assignment, f, l as u32, section_of(lists, place, n, l), bytes, at);
     }
 }

@@ -6,6 +6,7 @@ ghost use Rattle.scope.specs.Binary.{sections_of, section_words};
 ghost use Rattle.sections.specs.Places.{Placed};
 ghost use Rattle.binary.specs.Entries.{stays_by, kept_by, words_by, entries_by};
 
+use sections::section_of;
 use table::word_at;
 
 // Whether the clause of the entry m under l stays.
@@ -58,9 +59,7 @@ pub(crate) fn count_all(assignment: &[u32], lists: &[u32], place: &[usize], n: u
 {
     let mut k = 0;
     for l in 0..n {
-        let a = place[l] + 1;
-        let b = place[l + 1];
-        k += count_kept(assignment, l as u32, &lists[a..b]);
+        k += count_kept(assignment, l as u32, section_of(lists, place, n, l));
     }
     k
 }
@@ -79,8 +78,6 @@ pub(crate) fn put_lists(
 {
     let mut at = 0;
     for l in 0..n {
-        let a = place[l] + 1;
-        let b = place[l + 1];
-        at = put_section(assignment, l as u32, &lists[a..b], out, at);
+        at = put_section(assignment, l as u32, section_of(lists, place, n, l), out, at);
     }
 }

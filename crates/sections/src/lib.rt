@@ -46,7 +46,7 @@ pub fn cut_sections(lists: &[u32], n: usize, place: &mut [usize]) -> bool
 }
 
 // The entries of the section of l.
-fn section_of<'a>(lists: &'a [u32], place: &[usize], n: usize, l: usize) -> &'a [u32]
+pub fn section_of<'a>(lists: &'a [u32], place: &[usize], n: usize, l: usize) -> &'a [u32]
     requires placed { Placed lists.now n place.now }
     requires l_lt_n { l < n }
     ensures { result.now ≡ section_at (sections_of n lists.now) l }

@@ -1,35 +1,36 @@
-use Rattle.binary.specs.Entries.{stays_by, kept_by}
-use Rattle.binary.proofs.EachLaws.{at, from_length, from_done, at_kept}
 use Rattle.base.proofs.KeepLaws.{count_is}
+use Rattle.binary.specs.Entries.{stays_by, kept_by}
+use Rattle.binary.proofs.EachLaws.{from_length, from_done, at_kept}
+use Prim.Native.Nat.{ℕ}
 use lib.ListN.{length}
+use mathlib.Core.List.{List}
 use mathlib.Core.Path.{ap, ◌∙◌}
 use native.Mathlib.Omega.{arith}
 use Rattle.binary.proofs.keep.count_all.Goals as goal
 
 pub overflow_add-k : goal.overflow_add-k
 overflow_add-k c =
-    let a = at_kept (stays_by c.args.assignment.now c.loop-l.l) c.args.lists.now c.args.n c.args.place.now
-    c.requires
-    c.loop-l.l c.loop-l-test.true in
-    omega (arith, (c.count_kept-k.ensures ∙ count_is (stays_by c.args.assignment.now c.loop-l.l) (at c.args.lists.now c.args.place.now c.loop-l.l)), c.loop-l.invariant.1)
+    let a = c.args in
+    let l = c.loop-l.l in
+    let r = c.section_of.ensures ∙ c.requires.section l c.loop-l-test.true in
+    let k = c.count_kept-k.ensures ∙ count_is (stays_by a.assignment.now l) c.section_of.result.now
+    ∙ ap (λ (es : List ℕ). length (kept_by a.assignment.now l es)) r in
+    let b = at_kept (stays_by a.assignment.now l) a.lists.now a.n a.place.now c.requires l c.loop-l-test.true in
+    omega (arith, k, b, c.loop-l.invariant.1)
 
 pub loop-l-preserved : goal.loop-l-preserved
 loop-l-preserved c =
-    let p = c.requires in
-    let a = at_kept (stays_by c.args.assignment.now c.loop-l.l) c.args.lists.now c.args.n c.args.place.now p
-    c.loop-l.l
-    c.loop-l-test.true in
-    let z = from_length (kept_by c.args.assignment.now) c.args.lists.now c.args.n c.args.place.now p c.loop-l.l
-    c.loop-l-test.true in
-    let w = p.within c.loop-l.l c.loop-l-test.true in (
-      omega (arith, (c.count_kept-k.ensures ∙ count_is (stays_by c.args.assignment.now c.loop-l.l) (at c.args.lists.now c.args.place.now c.loop-l.l)), c.loop-l.invariant.0),
-      omega (arith, (c.count_kept-k.ensures ∙ count_is (stays_by c.args.assignment.now c.loop-l.l) (at c.args.lists.now c.args.place.now c.loop-l.l)), c.loop-l.invariant.1),
-      omega (arith, (c.count_kept-k.ensures ∙ count_is (stays_by c.args.assignment.now c.loop-l.l) (at c.args.lists.now c.args.place.now c.loop-l.l)), c.loop-l.invariant.1),
-    )
+    let a = c.args in
+    let l = c.loop-l.l in
+    let r = c.section_of.ensures ∙ c.requires.section l c.loop-l-test.true in
+    let k = c.count_kept-k.ensures ∙ count_is (stays_by a.assignment.now l) c.section_of.result.now
+    ∙ ap (λ (es : List ℕ). length (kept_by a.assignment.now l es)) r in
+    let b = at_kept (stays_by a.assignment.now l) a.lists.now a.n a.place.now c.requires l c.loop-l-test.true in
+    let z = from_length (kept_by a.assignment.now) a.lists.now a.n a.place.now c.requires l c.loop-l-test.true in
+    let w = c.requires.within l c.loop-l-test.true in
+    (omega (arith, k, z, c.loop-l.invariant.0), omega (arith, k, b, c.loop-l.invariant.1), omega (arith, k, b, w, c.loop-l.invariant.1))
 
 pub returns-clause-value : goal.returns-clause-value
 returns-clause-value c =
-    let d = from_done (kept_by c.args.assignment.now) c.args.lists.now c.args.n c.args.place.now c.requires
-    c.loop-l.l
-    c.loop-l-test.false in
+    let d = from_done (kept_by c.args.assignment.now) c.args.lists.now c.args.n c.args.place.now c.requires c.loop-l.l c.loop-l-test.false in
     omega (arith, ap length d, c.loop-l.invariant.0)
