@@ -71,12 +71,6 @@ pub globals_end : (t : Table) (l m : List ℕ) (i : ℕ) → m ≡ sets l 0 (glo
 unfolding global_model
 globals_end t l m i e a b = e ∙ ap (λ (k : ℕ). sets l 0 (globals_to t k)) (omega arith)
 
-pub globals_kept : (t : Table) (l m : List ℕ) (i : ℕ) → m ≡ sets l 0 (globals_to t i) → length m ≡ length l
-globals_kept t l m i e = stored_length l m (globals_to t i) e
-
-pub globals_there : (t : Table) (l m : List ℕ) (i : ℕ) → i < t.counts.global → t.counts.global ≤ length l → m ≡ sets l 0 (globals_to t i) → i < length m
-globals_there t l m i a b e = stored_there l m (globals_to t i) i t.counts.global a b e
-
 pub globals_count : (t : Table) → length (global_model t) ≡ t.counts.global
 unfolding global_model
 globals_count t = globals_length t t.counts.global
@@ -166,9 +160,6 @@ users_fill_some t l m u v k w e q p n h = ap (λ (x : ℕ). set m k x) h ∙ use
 
 pub users_fill_none : (t : Table) (l m : List ℕ) (u v : ℕ) → m ≡ sets l 0 (users_to t u) → v ≡ user_value t u → v ≡ 0 → m ≡ sets l 0 (users_to t (u + 1))
 users_fill_none t l m u v e p z = e ∙ sym (ap (sets l 0) (users_none t u v p z))
-
-pub users_fill_kept : (t : Table) (l m : List ℕ) (u : ℕ) → m ≡ sets l 0 (users_to t u) → length m ≡ length l
-users_fill_kept t l m u e = stored_length l m (users_to t u) e
 
 pub users_fill_there : (t : Table) (l m : List ℕ) (u k : ℕ) → k < length (user_model t) → length (user_model t) ≤ length l → m ≡ sets l 0 (users_to t u)
     → k < length m

@@ -1,7 +1,7 @@
 -- A change of mode: C between Sample and Witness; C and U from Hide; U(g,-), and D if unused, to Hide.
 use Prim.Native.Nat.{ℕ, ◌+◌, ◌*◌, ◌/◌, ◌-◌, ◌≤◌, ◌<◌, ◌^◌}
 use mathlib.Core.Path.{◌≡◌, sym, ap, ◌∙◌, subst}
-use mathlib.Core.Bool.{Bool, true, false}
+use mathlib.Core.Bool.{Bool}
 use mathlib.Core.List.{List, [], ◌∷◌}
 use native.Mathlib.Omega.{arith}
 use lib.Dec.{eqb}
@@ -18,7 +18,6 @@ use Rattle.scope.specs.Modes.{delete_if_unused, show, hide, change}
 use Rattle.scope.proofs.PairLaws.{below_mark}
 use Rattle.scope.proofs.MoveLaws.{undeleted_below, used_most}
 use Rattle.scope.proofs.ModeLaws.{next_user_below}
-use Rattle.scope.specs.Cursor.{AllMapped}
 use Rattle.changes.specs.Leaves.{Leaves, Room}
 use Rattle.changes.specs.Live.{Live}
 use Rattle.changes.proofs.LeavesLaws.{leaves_then}
@@ -26,22 +25,9 @@ use Rattle.changes.proofs.DeletionLaws.{record_read, delete_any}
 use Rattle.modes.specs.Asks.{There, Shows, Hides}
 use Rattle.modes.proofs.NotesLaws.{there_live}
 
--- the record with another mode, as the code reads it
-module _ (t : Table) (g : ℕ) (h : There t g) where
-  pub mode_fits : (m : ℕ) → m < 3 → get_or t.records g 0 / 3 * 3 + m < 2 ^ 32
-  mode_fits m l = let e = record_read t g (there_live t g h).words in let u = h.undeleted in omega arith
-
-  pub base_fits : get_or t.records g 0 / 3 * 3 < 2 ^ 32
-  base_fits = let e = record_read t g (there_live t g h).words in let u = h.undeleted in omega arith
-
 mode_read : (t : Table) (g m : ℕ) → g < length t.records → set t.records g (get_or t.records g 0 / 3 * 3 + m) ≡ set t.records g
     (with_mode (record_of t g) m)
 mode_read t g m l = ap (λ (r : ℕ). set t.records g (with_mode r m)) (record_read t g l)
-
--- the last word of C fits
-pub yes_fits : (yes : Bool) → pick yes 1 0 < 2 ^ 32
-yes_fits true = omega arith
-yes_fits false = omega arith
 
 -- ---- C
 
@@ -60,9 +46,6 @@ change_leaves t g m records words words2 l p q = record {
 -- ---- C and U
 
 module _ (t : Table) (g m from : ℕ) (h : Shows t g m from) where
-  pub show_next : (t.counts.user ≤ length t.global_from_user) × AllMapped t.global_from_user t.counts.user from
-  show_next = let z = h.there.sound.sizes in (omega arith, h.mapped)
-
   -- user indices never run out first
   pub show_fits : (u : ℕ) → u ≡ least_free t.global_from_user t.counts.user
       → (u < length t.global_from_user) × ((g < length t.user_from_global) × ((g < length t.records)

@@ -16,7 +16,7 @@ use Rattle.base.proofs.CountLaws.{count_most}
 use Rattle.base.proofs.MemberLaws.{or_left, or_right}
 use Rattle.scope.specs.declared.Counts.{Counts}
 use Rattle.scope.specs.Table.{Table}
-use Rattle.scope.specs.Sound.{soundb, Sizes, Sound}
+use Rattle.scope.specs.Sound.{soundb, Sound}
 use Rattle.scope.specs.Outcome.{Result, stay, each}
 use Rattle.scope.specs.Modes.{observe_one, observe, observe_refusal, observe_of}
 use Rattle.scope.specs.Contract.{Does}
@@ -27,7 +27,7 @@ use Rattle.scope.specs.Cursor.{AllMapped}
 use Rattle.changes.specs.Leaves.{Leaves}
 use Rattle.changes.specs.Solvers.{solvers_of}
 use Rattle.scope.proofs.CursorLaws.{cursor_start}
-use Rattle.changes.proofs.LeavesLaws.{leaves_stay, leaves_length, notes_told, notes_fit, SameSizes, same_sizes}
+use Rattle.changes.proofs.LeavesLaws.{leaves_stay, notes_told, notes_fit}
 use Rattle.changes.proofs.TurnLaws.{turns_none, turns_more, turns_room}
 use Rattle.changes.proofs.CallLaws.{call_refused, call_accepted, refused_words, accepted_words}
 use Rattle.modes.specs.Asks.{UsersFilled, ObservesAll, ObserveAsks, ObserveAllAsks}
@@ -128,14 +128,6 @@ module _ (t : Table) (g from n at : ℕ) (left : Table) (users users2 words word
             let x = observing_users in
             let y = a.users in
             omega arith
-
-    pub observing_sizes : SameSizes t left words words2
-    observing_sizes =
-        let o = observe_passed t a.sound g in
-        let x = subst (λ (s : Table). Sizes s) (sym h.leaves.table) o.sound.sizes in
-        let c = ap (λ (s : Table). s.counts.capacity) h.leaves.table in
-        let k = o.same.capacity in
-        same_sizes t left words words2 a.sound.sizes x (omega arith) (leaves_length (each g observe_one t) 0 at left words words2 h.leaves)
 
   pub observing_end : g ≡ t.counts.global → Leaves (observe t) 0 at left words words2 × UsersFilled (observe t) 0 n users users2
   unfolding observe

@@ -1,14 +1,15 @@
 -- Laws of the call Pose: refusals, and what an accepted call does.
+use Rattle.std.specs.Prelude.{Result, Ok, Err}
 use Prim.Native.Nat.{ℕ, ◌+◌, ◌-◌, ◌*◌, ◌/◌, ◌^◌, ◌≤◌, ◌<◌}
 use mathlib.Core.Path.{◌≡◌, refl, sym, ap, ◌∙◌}
 use mathlib.Core.Bool.{Bool, true, false, ◌&&◌, ◌||◌, not}
 use mathlib.Core.List.{List, [], ◌∷◌}
 use native.Mathlib.Omega.{arith}
 use lib.Dec.{ltb, leb}
-use lib.ListN.{length, get_or}
+use lib.ListN.{length}
 use lib.Seq.{sets}
 use borrow.Author.Tests.{lt-ltb, le-ltb, ltb-false, not-false}
-use Rattle.base.specs.Answer.{accepted, number_of, values_of}
+use Rattle.base.specs.Answer.{Answer, accepted, refused}
 use Rattle.base.specs.Bounded.{any_of}
 use Rattle.base.proofs.CountLaws.{count_most}
 use Rattle.base.proofs.MemberLaws.{or_left, or_right}
@@ -19,7 +20,7 @@ use Rattle.scope.specs.Sound.{soundb}
 use Rattle.scope.specs.Outcome.{short}
 use Rattle.scope.specs.Map.{unsampled}
 use Rattle.scope.specs.Pose.{pose, users_to_map, pose_refusal, pose_of}
-use Rattle.scope.specs.Contract.{Said, Does}
+use Rattle.scope.specs.Contract.{Does}
 use Rattle.scope.proofs.SoundLaws.{sound_of}
 use Rattle.scope.proofs.PoseLaws.{users_to_grant, pose_room_of, pose_count}
 use Rattle.scope.proofs.ResultLaws.{past}
@@ -34,7 +35,11 @@ use Rattle.distinct.specs.Users.{needs_by}
 use Rattle.scope.proofs.DistinctLaws.{named_most, top_low}
 use Rattle.scope.proofs.DistinctUsers.{within_of, users_are, grants_are, after_most}
 use Rattle.posing.specs.declared.PosedLits.{PosedLits}
-use Rattle.posing.specs.declared.PosedLits.TheVariants.{Done, Refused}
+use Rattle.scope.specs.declared.Refusal.{Refusal}
+use Rattle.scope.specs.declared.Refusal.TheVariants.{Unsound}
+use Rattle.scope.specs.Refusals.{number, refused_by}
+use Rattle.scope.proofs.RefusedLaws.{number_not_0, refused_err, refusal_at, refusal_back}
+use Rattle.table.proofs.AnswerLaws.{one_of}
 use Rattle.posing.specs.Answers.{posed}
 use Rattle.posing.specs.Asks.{PoseAsks}
 
@@ -194,25 +199,27 @@ pose_few t lits outs room h =
     let r = h.enough in
     omega arith
 
-pub pose_refused : (t : Table) (lits : List ℕ) (sampling : Bool) (n : ℕ) (out words : List ℕ) → n ≡ pose_refusal t lits sampling (length out) (length words)
-    → (n ≡ 0 → ⊥)
-    → Does (pose_of t lits sampling (length out) (length words)) (posed (Refused n) t.counts) t words words
+pub pose_refused : {A : Type 0} (t : Table) (lits : List ℕ) (sampling : Bool) (x : Result A Refusal) (k : Refusal) (out words : List ℕ)
+    → refused_by x ≡ pose_refusal t lits sampling (length out) (length words) → x ≡ Err k
+    → Does (pose_of t lits sampling (length out) (length words)) (posed (Err k) t.counts) t words words
     × (out ≡ sets out 0 (pose_of t lits sampling (length out) (length words)).words)
 unfolding pose_of
-pose_refused t lits sampling n out words q e =
+pose_refused t lits sampling x k out words q w =
     let r = pose_refusal t lits sampling (length out) (length words) in
-    (call_refused r n t _ words q e, ap (λ (l : List ℕ). sets out 0 l) (sym (refused_words r n t _ q e)))
+    let e : number k ≡ r = sym (refused_err x k w) ∙ q in
+    (call_refused r (number k) t _ words e (number_not_0 k), ap (λ (l : List ℕ). sets out 0 l) (sym (refused_words r (number k) t _ e (number_not_0 k))))
 
 pub pose_unsound : (t : Table) (lits : List ℕ) (sampling : Bool) (out words : List ℕ) → soundb t ≡ false
-    → Does (pose_of t lits sampling (length out) (length words)) (posed (Refused 1) t.counts) t words words
+    → Does (pose_of t lits sampling (length out) (length words)) (posed (Err Unsound) t.counts) t words words
     × (out ≡ sets out 0 (pose_of t lits sampling (length out) (length words)).words)
-pose_unsound t lits sampling out words n = pose_refused t lits sampling 1 out words (pose_1 t lits sampling (length out) (length words) n) (omega arith)
+pose_unsound t lits sampling out words n =
+    pose_refused {A = Unit {0}} t lits sampling (Err Unsound) Unsound out words (pose_1 t lits sampling (length out) (length words) n) refl
 
 -- an accepted one
 pub pose_done : (t : Table) (lits : List ℕ) (sampling : Bool) (n at : ℕ) (left : Table) (out out' words words' : List ℕ)
     → n ≡ pose_refusal t lits sampling (length out) (length words) → n ≡ 0
     → Leaves (pose lits t) 0 at left words words' × (out' ≡ sets out 0 (pose lits t).value)
-    → Does (pose_of t lits sampling (length out) (length words)) (posed (Done (length lits) left.counts (at / 3)) t.counts) left words words'
+    → Does (pose_of t lits sampling (length out) (length words)) (posed (Ok (record { filled = length lits; counts = left.counts; notes = at / 3 })) t.counts) left words words'
     × (out' ≡ sets out 0 (pose_of t lits sampling (length out) (length words)).words)
 unfolding pose_of
 pose_done t lits sampling n at left out out' words words' q e h =
@@ -223,10 +230,15 @@ pose_done t lits sampling n at left out out' words words' q e h =
     )
 
 -- The number and the values tell the answer.
-pub posed_one : (x y : PosedLits) (c : Counts) → posed x c ≡ posed y c → x ≡ y
-posed_one (Done m d n) (Done m' d' n') c e =
-    let v = ap (λ (k : Said). values_of k.answer) e in
-    λ i. Done (get_or (v i) 0 0) (e i).counts (get_or (v i) 1 0)
-posed_one (Done m d n) (Refused k) c e = let z = ap (λ (k : Said). length (values_of k.answer)) e in absurd (omega arith)
-posed_one (Refused n) (Done k d m) c e = let z = ap (λ (k : Said). length (values_of k.answer)) e in absurd (omega arith)
-posed_one (Refused n) (Refused m) c e = λ i. Refused (number_of (e i).answer)
+abbrev posed_from : Answer → Counts → Result PosedLits Refusal
+posed_from (accepted []) d = Err Unsound
+posed_from (accepted (m ∷ [])) d = Err Unsound
+posed_from (accepted (m ∷ n ∷ ns)) d = Ok (record { filled = m; counts = d; notes = n })
+posed_from (refused n vs) d = Err (refusal_at n)
+
+posed_back : (c : Counts) (x : Result PosedLits Refusal) → posed_from (posed x c).answer (posed x c).counts ≡ x
+posed_back c (Ok x) = refl
+posed_back c (Err r) = ap Err (refusal_back r)
+
+pub posed_one : (x y : Result PosedLits Refusal) (c : Counts) → posed x c ≡ posed y c → x ≡ y
+posed_one x y c = one_of (λ z. posed z c) (λ s. posed_from s.answer s.counts) (posed_back c) x y

@@ -1,4 +1,5 @@
 -- Laws of literals whose users have solver indices: they need nothing, and each is only looked up.
+use Rattle.std.specs.Prelude.{Result, Ok, Err}
 use Prim.Native.Nat.{ℕ, zero, suc, ◌+◌, ◌-◌, ◌≤◌, ◌<◌}
 use mathlib.Core.Path.{◌≡◌, refl, sym, ap, ◌∙◌, subst}
 use mathlib.Core.Bool.{Bool, true, false, ◌&&◌, ◌||◌, true≢false}
@@ -30,10 +31,9 @@ use Rattle.scope.proofs.SoundLaws.{sound_of}
 use Rattle.naming.specs.Parts.{MapBelow}
 use Rattle.distinct.specs.declared.Needs.{Needs}
 use Rattle.distinct.specs.Users.{needs_by}
-use Rattle.posing.specs.declared.PosedLits.TheVariants.{Done}
-use Rattle.held.specs.declared.Tried.{Tried}
+use Rattle.std.specs.Result.{is_ok}
 use Rattle.posing.specs.Answers.{posed}
-use Rattle.held.specs.Parts.{held_word, held_code, HeldTo, HeldRun, none, more, AllHeld, HeldTried}
+use Rattle.held.specs.Parts.{held_word, held_code, HeldTo, HeldRun, none, more, AllHeld, HeldTried, lead_of}
 use Rattle.held.proofs.RunLaws.{run_held}
 use Rattle.posing.proofs.AllLaws.{LitsDone, lits_start, lits_more, lits_end}
 use Rattle.posing.proofs.CallLaws.{pose_0, pose_done, PoseCounts, counts_by}
@@ -202,7 +202,7 @@ none_needed t lits y h =
 pub pose_held : (t : Table) (lits : List ℕ) (sampling : Bool) (out out' words : List ℕ) → soundb t ≡ true
     → AllHeld t.global_from_user t.solver_from_global t.records lits sampling (length out)
     → out' ≡ sets out 0 (map (held_code t.global_from_user t.solver_from_global) lits)
-    → Does (pose_of t lits sampling (length out) (length words)) (posed (Done (length lits) t.counts 0) t.counts) t words words
+    → Does (pose_of t lits sampling (length out) (length words)) (posed (Ok (record { filled = length lits; counts = t.counts; notes = 0 })) t.counts) t words words
     × (out' ≡ sets out 0 (pose_of t lits sampling (length out) (length words)).words)
 pose_held t lits sampling out out' words y a e =
     let w : Within lits t.counts.capacity = record { at = inside t lits (length lits) y a.held } in
@@ -226,23 +226,29 @@ pose_held t lits sampling out out' words y a e =
 
 -- ---- the call
 
-module _ (t : Table) (lits : List ℕ) (sampling : Bool) (r : Tried) (out out1 : List ℕ)
+-- the users of the first literals have solver indices
+pub tried_lead : (gu sg records lits : List ℕ) (sampling : Bool) (r : Result (Unit {0}) ℕ) (out out1 : List ℕ)
+    → HeldTried gu sg records lits sampling r out out1 → (n : ℕ) → r ≡ Err n → HeldTo gu sg lits n
+tried_lead gu sg records lits sampling r out out1 h n e =
+    subst (λ (x : Result (Unit {0}) ℕ). HeldTo gu sg lits (lead_of (length lits) x)) e h.lead
+
+module _ (t : Table) (lits : List ℕ) (sampling : Bool) (r : Result (Unit {0}) ℕ) (out out1 : List ℕ)
     (h : HeldTried t.global_from_user t.solver_from_global t.records lits sampling r out out1) where
-  chosen : (b : Bool) → r.filled ≡ b → out1 ≡ pick b (sets out 0 (map (held_code t.global_from_user t.solver_from_global) lits)) out
+  chosen : (b : Bool) → is_ok r ≡ b → out1 ≡ pick b (sets out 0 (map (held_code t.global_from_user t.solver_from_global) lits)) out
   chosen b e = h.stored ∙ ap (λ (x : Bool). pick x (sets out 0 (map (held_code t.global_from_user t.solver_from_global) lits)) out) e
 
-  pub tried_done : (words : List ℕ) → soundb t ≡ true → r.filled ≡ true
-      → Does (pose_of t lits sampling (length out) (length words)) (posed (Done (length lits) t.counts 0) t.counts) t words words
+  pub tried_done : (words : List ℕ) → soundb t ≡ true → (u : Unit {0}) → r ≡ Ok u
+      → Does (pose_of t lits sampling (length out) (length words)) (posed (Ok (record { filled = length lits; counts = t.counts; notes = 0 })) t.counts) t words words
       × (out1 ≡ sets out 0 (pose_of t lits sampling (length out) (length words)).words)
-  tried_done words y e = pose_held t lits sampling out out1 words y (h.all e) (chosen true e)
+  tried_done words y u e = let q = ap is_ok e in pose_held t lits sampling out out1 words y (h.all q) (chosen true q)
 
   -- where nothing was filled, the call goes on as if nothing had been tried
-  pub tried_on : (a : Said) (left : Table) (words words' out' : List ℕ) → r.filled ≡ false
+  pub tried_on : (n : ℕ) (a : Said) (left : Table) (words words' out' : List ℕ) → r ≡ Err n
       → Does (pose_of t lits sampling (length out1) (length words)) a left words words'
       × (out' ≡ sets out1 0 (pose_of t lits sampling (length out1) (length words)).words)
       → Does (pose_of t lits sampling (length out) (length words)) a left words words'
       × (out' ≡ sets out 0 (pose_of t lits sampling (length out) (length words)).words)
-  tried_on a left words words' out' e d =
+  tried_on n a left words words' out' e d =
       subst (λ (o : List ℕ). Does (pose_of t lits sampling (length o) (length words)) a left words words'
       × (out' ≡ sets o 0 (pose_of t lits sampling (length o) (length words)).words))
-      (chosen false e) d
+      (chosen false (ap is_ok e)) d

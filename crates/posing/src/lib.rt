@@ -1,14 +1,17 @@
 // Pose. How the contracts read: crates/scope/specs/Contract.antt.
+// Lists of which some are written stay parameters of their own: a `&mut` lends only what may change, and by type the rest stays.
 #![tactic(auto)]
 
 ghost use Rattle.std.specs.Prelude.{◌≡◌, true, length};
 ghost use Rattle.base.specs.Lent.{Fills, change};
 ghost use Rattle.scope.specs.Contract.{given, after, lent, Meets};
 ghost use Rattle.scope.specs.Pose.{pose, pose_refusal, pose_of};
+ghost use Rattle.scope.specs.Refusals.{refused_by};
 ghost use Rattle.scope.specs.Sound.{soundb};
 ghost use Rattle.scope.specs.Cursor.{NoneFree};
 ghost use Rattle.changes.specs.Leaves.{Leaves};
 ghost use Rattle.mapping.specs.Parts.{free};
+ghost use Rattle.table.specs.Lists.{seen};
 ghost use Rattle.held.specs.Parts.{HeldTo};
 ghost use Rattle.posing.specs.Answers.{posed};
 ghost use Rattle.posing.specs.Asks.{pose_user, PlaceAsks, PoseAsks};
@@ -18,28 +21,28 @@ use distinct::needs_of;
 use granting::grant_index;
 use held::{any_unsampled, held_lits, pose_held};
 use mapping::{counts_after, map_up};
-use scope::{Counts, Solver, User};
-use table::{any_outside, is_sound};
+use scope::{Counts, Refusal, Solver, User};
+use table::{Lists, any_outside};
 
-// A user's solver index, with the counts, the cursor of free globals and the place in the notes after it.
+// A user's solver index, with the cursor of free globals, the counts and the place in the notes after it.
 #[derive(Clone, Copy)]
 pub struct Placed {
-    pub counts: Counts,
     pub solver: Solver,
     pub from: u32,
-    pub at: usize,
+    pub after: Passed,
 }
 
 // The answer: how many solver literals were filled, the counts and how many notes were written.
 #[derive(Clone, Copy)]
-pub enum PosedLits {
-    Done(u32, Counts, u32),
-    Refused(u32),
+pub struct PosedLits {
+    pub filled: u32,
+    pub counts: Counts,
+    pub notes: u32,
 }
 
 // The solver index of a user of a sound table: mapped, where a free global is searched from the cursor on, then granted.
 fn place_new(
-    c: Counts,
+    p: Passed,
     gu: &mut [u32],
     ug: &mut [u32],
     sg: &mut [u32],
@@ -48,33 +51,33 @@ fn place_new(
     records: &mut [u32],
     user: User,
     from: u32,
-    at: usize,
     notes: &mut [u32],
 ) -> Placed
-    requires place_asks { PlaceAsks (given c gu.old ug.old sg.old gs.old assignment.old records.old) user.0 at (length notes.old) }
-    requires none_free { NoneFree (free records.old) c.global from }
-    ensures solver_value { result.solver.0 ≡ (pose_user user.0 (given c gu.old ug.old sg.old gs.old assignment.old records.old)).value }
-    ensures leaves { Leaves (pose_user user.0 (given c gu.old ug.old sg.old gs.old assignment.old records.old)) at result.at
-        (after result.counts (change gu.old gu.new) (change ug.old ug.new) (change sg.old sg.new) (change gs.old gs.new) (change assignment.old assignment.new) (change records.old records.new)) notes.old notes.new }
-    ensures none_free_2 { NoneFree (free records.new) result.counts.global result.from }
+    requires place_asks { PlaceAsks (given p.counts gu.old ug.old sg.old gs.old assignment.old records.old) user.0 p.at (length notes.old) }
+    requires none_free { NoneFree (free records.old) p.counts.global from }
+    ensures solver_value { result.solver.0 ≡ (pose_user user.0 (given p.counts gu.old ug.old sg.old gs.old assignment.old records.old)).value }
+    ensures leaves { Leaves (pose_user user.0 (given p.counts gu.old ug.old sg.old gs.old assignment.old records.old)) p.at result.after.at
+        (after result.after.counts (change gu.old gu.new) (change ug.old ug.new) (change sg.old sg.new) (change gs.old gs.new) (change assignment.old assignment.new) (change records.old records.new)) notes.old notes.new }
+    ensures none_free_2 { NoneFree (free records.new) result.after.counts.global result.from }
 {
+    let c = p.counts;
     let m = map_up(
-        c.capacity, c.user, c.global, c.used, gu, ug, records, user, from, at, notes,
+        c.capacity, c.user, c.global, c.used, gu, ug, records, user, from, p.at, notes,
     );
-    let counts = counts_after(c, m);
-    let global = m.global;
-    let h = grant_index(counts, sg, gs, assignment, records, global, m.at, notes);
-    let counts = h.counts;
-    let solver = h.solver;
+    let mapped = Passed {
+        counts: counts_after(c, m),
+        at: m.at,
+    };
+    let h = grant_index(mapped, sg, gs, assignment, records, m.global, notes);
     Placed {
-        counts,
-        solver,
+        solver: h.solver,
         from: m.from,
-        at: h.at,
+        after: h.after,
     }
 }
 
 // A solver literal for each user literal, on a sound table with room for all. A free global is searched from the cursor on.
+// The place is counted by hand: each turn goes past a run of literals, whose length `held_lits` answers.
 fn place_all(
     c: Counts,
     gu: &mut [u32],
@@ -95,67 +98,59 @@ fn place_all(
     ensures out { let x = pose lits.now (given c gu.old ug.old sg.old gs.old assignment.old records.old) in
         Fills (change out.old out.new) 0 x.value }
 {
-    let mut cur = c;
+    let mut p = Passed { counts: c, at: 0 };
     let mut k = from;
-    let mut at: usize = 0;
     let mut i: usize = 0;
     loop {
         i = held_lits(gu, sg, lits, i, out);
         if lits.len() <= i {
-            return Passed { counts: cur, at };
+            return p;
         }
         let code = lits[i];
         let user = User(code / 2);
-        let p = place_new(cur, gu, ug, sg, gs, assignment, records, user, k, at, notes);
-        cur = p.counts;
-        k = p.from;
-        at = p.at;
-        let solver = p.solver;
-        out[i] = 2 * solver.0 + code % 2;
+        let q = place_new(p, gu, ug, sg, gs, assignment, records, user, k, notes);
+        p = q.after;
+        k = q.from;
+        out[i] = 2 * q.solver.0 + code % 2;
         i += 1;
     }
 }
 
-// The first refusal of Pose that applies to a sound table, 0 for none. The users of the first `lead` literals have solver indices: they are in range
+// The first refusal of Pose that applies to a sound table. The users of the first `lead` literals have solver indices: they are in range
 // and need nothing.
 fn pose_refusal(
-    c: Counts,
-    gu: &[u32],
-    ug: &[u32],
-    sg: &[u32],
-    gs: &[u32],
-    assignment: &[u32],
-    records: &[u32],
+    t: &Lists,
     lits: &[u32],
     lead: usize,
     sampling: bool,
     outs: usize,
     room: usize,
-) -> u32
-    requires records_value { soundb (given c gu.now ug.now sg.now gs.now assignment.now records.now) ≡ true }
-    requires held_to { HeldTo gu.now sg.now lits.now lead }
-    ensures { result ≡ pose_refusal (given c gu.now ug.now sg.now gs.now assignment.now records.now) lits.now sampling outs room }
+) -> Result<(), Refusal>
+    requires records_value { soundb (seen t.now) ≡ true }
+    requires held_to { HeldTo t.now.gu.now t.now.sg.now lits.now lead }
+    ensures { refused_by result ≡ pose_refusal (seen t.now) lits.now sampling outs room }
 {
+    let c = t.counts;
     if 8192 < lits.len() {
-        return 3;
+        return Err(Refusal::OutOfRange);
     }
     let rest = &lits[lead..];
     if any_outside(c.capacity, rest) {
-        return 3;
+        return Err(Refusal::OutOfRange);
     }
-    if any_unsampled(gu, records, lits, sampling) {
-        return 4;
+    if any_unsampled(t.gu, t.records, lits, sampling) {
+        return Err(Refusal::NotSampled);
     }
-    let n = needs_of(c.user, gu, sg, rest);
+    let n = needs_of(c.user, t.gu, t.sg, rest);
     let users = n.low + (n.top - c.user);
     if c.capacity < c.used + users {
-        return 5;
+        return Err(Refusal::NoRoom);
     }
     let words = 3 * ((users + n.grants) as usize);
     if (outs < lits.len()) | (room < words) {
-        return 2;
+        return Err(Refusal::Short);
     }
-    0
+    Ok(())
 }
 
 // Pose on a sound table, whatever is to be mapped, granted or refused.
@@ -173,7 +168,7 @@ fn pose_any(
     gfrom: u32,
     out: &mut [u32],
     notes: &mut [u32],
-) -> PosedLits
+) -> Result<PosedLits, Refusal>
     requires records_value { soundb (given c gu.old ug.old sg.old gs.old assignment.old records.old) ≡ true }
     requires held_to { HeldTo gu.old sg.old lits.now lead }
     requires none_free { NoneFree (free records.old) c.global gfrom }
@@ -183,30 +178,24 @@ fn pose_any(
     ensures out { Fills (change out.old out.new) 0 (pose_of (given c gu.old ug.old sg.old gs.old assignment.old records.old) lits.now sampling
         (length out.old) (length notes.old)).words }
 {
-    let n = pose_refusal(
-        c,
+    let t = Lists {
+        counts: c,
         gu,
         ug,
         sg,
         gs,
         assignment,
         records,
-        lits,
-        lead,
-        sampling,
-        out.len(),
-        notes.len(),
-    );
-    if n != 0 {
-        return PosedLits::Refused(n);
-    }
+    };
+    pose_refusal(&t, lits, lead, sampling, out.len(), notes.len())?;
     let p = place_all(
         c, gu, ug, sg, gs, assignment, records, lits, gfrom, out, notes,
     );
-    let counts = p.counts;
-    let filled = lits.len() as u32;
-    let made = (p.at / 3) as u32;
-    PosedLits::Done(filled, counts, made)
+    Ok(PosedLits {
+        filled: lits.len() as u32,
+        counts: p.counts,
+        notes: (p.at / 3) as u32,
+    })
 }
 
 // Pose (01, `solver_from_user_lits`; refusals 1, 3, 4, 5, 2): literal by literal, Map of the user and Grant of its global; the sign stays.
@@ -223,16 +212,23 @@ pub fn solver_from_user_lits(
     sampling: bool,
     out: &mut [u32],
     notes: &mut [u32],
-) -> PosedLits
+) -> Result<PosedLits, Refusal>
     ensures meets { Meets (λ t room. pose_of t lits.now sampling (length out.old) room) (posed result c)
         (lent c (change gu.old gu.new) (change ug.old ug.new) (change sg.old sg.new) (change gs.old gs.new)
         (change assignment.old assignment.new) (change records.old records.new) (change notes.old notes.new)) }
     ensures out { Fills (change out.old out.new) 0 (pose_of (given c gu.old ug.old sg.old gs.old assignment.old records.old) lits.now sampling
         (length out.old) (length notes.old)).words }
 {
-    if !is_sound(c, gu, ug, sg, gs, assignment, records) {
-        return PosedLits::Refused(1);
-    }
+    let t = Lists {
+        counts: c,
+        gu,
+        ug,
+        sg,
+        gs,
+        assignment,
+        records,
+    };
+    t.check_sound()?;
     known_solver_from_user_lits(
         c, gu, ug, sg, gs, assignment, records, lits, sampling, 0, out, notes,
     )
@@ -253,7 +249,7 @@ pub fn known_solver_from_user_lits(
     gfrom: u32,
     out: &mut [u32],
     notes: &mut [u32],
-) -> PosedLits
+) -> Result<PosedLits, Refusal>
     requires records_value { soundb (given c gu.old ug.old sg.old gs.old assignment.old records.old) ≡ true }
     requires none_free { NoneFree (free records.old) c.global gfrom }
     ensures meets { Meets (λ t room. pose_of t lits.now sampling (length out.old) room) (posed result c)
@@ -262,12 +258,14 @@ pub fn known_solver_from_user_lits(
     ensures out { Fills (change out.old out.new) 0 (pose_of (given c gu.old ug.old sg.old gs.old assignment.old records.old) lits.now sampling
         (length out.old) (length notes.old)).words }
 {
-    let tried = pose_held(gu, sg, records, lits, sampling, out);
-    if tried.filled {
-        let filled = lits.len() as u32;
-        return PosedLits::Done(filled, c, 0);
+    match pose_held(gu, sg, records, lits, sampling, out) {
+        Ok(()) => Ok(PosedLits {
+            filled: lits.len() as u32,
+            counts: c,
+            notes: 0,
+        }),
+        Err(lead) => pose_any(
+            c, gu, ug, sg, gs, assignment, records, lits, lead, sampling, gfrom, out, notes,
+        ),
     }
-    pose_any(
-        c, gu, ug, sg, gs, assignment, records, lits, tried.lead, sampling, gfrom, out, notes,
-    )
 }

@@ -1,4 +1,6 @@
 -- Laws of Pose at once: when it is accepted with no note.
+use Rattle.std.specs.Prelude.{Ok}
+use Rattle.std.specs.List.{list_all}
 use Prim.Native.Nat.{ℕ, zero, suc, ◌+◌, ◌-◌, ◌≤◌, ◌<◌}
 use mathlib.Core.Path.{◌≡◌, refl, sym, ap, ◌∙◌, subst}
 use mathlib.Core.Bool.{Bool, true, false, ◌&&◌, ◌||◌, not, true≢false}
@@ -29,7 +31,6 @@ use Rattle.changes.specs.AtOnce.{value_at_once, at_once}
 use Rattle.naming.specs.Parts.{is_unsampled}
 use Rattle.naming.proofs.CallLaws.{all_inside}
 use Rattle.naming.proofs.SampledLaws.{unsampled_some, inside_below}
-use Rattle.posing.specs.declared.PosedLits.TheVariants.{Done}
 use Rattle.posing.specs.Answers.{posed}
 use Rattle.posing.specs.Asks.{PoseAsks}
 use Rattle.held.specs.Parts.{held_word, held_code, AllHeld}
@@ -37,6 +38,12 @@ use Rattle.ready.specs.Ready.{is_ready, PosedAtOnce}
 use Rattle.posing.proofs.CallLaws.{pose_asks, pose_sampled}
 use Rattle.held.proofs.RunLaws.{fits_both}
 use Rattle.posing.proofs.HeldLaws.{pose_held, solvers_inside}
+
+-- a test that std makes
+pub all_is : {A : Type 0} (p : A → Bool) (xs : List A) → list_all p xs ≡ every_of p xs
+unfolding every_of
+all_is p [] = refl
+all_is p (x ∷ xs) = ap (λ (b : Bool). p x && b) (all_is p xs)
 
 -- ---- the test of one user
 
@@ -139,7 +146,7 @@ none_said (suc r) m n t x k = refl
 module _ (t : Table) (lits : List ℕ) (sampling : Bool) (out out' : List ℕ) where
   abbrev Done-at : ℕ → List ℕ → List ℕ → Type 0
   Done-at room words words' =
-      Does (pose_of t lits sampling (length out) room) (posed (Done (length lits) t.counts 0) t.counts) t words words'
+      Does (pose_of t lits sampling (length out) room) (posed (Ok (record { filled = length lits; counts = t.counts; notes = 0 })) t.counts) t words words'
       × (out' ≡ sets out 0 (pose_of t lits sampling (length out) room).words)
 
   once_done : ((words : List ℕ) → Done-at (length words) words words) → PosedAtOnce t lits sampling true out out'

@@ -9,16 +9,16 @@ ghost use Rattle.scope.specs.Sound.{soundb};
 ghost use Rattle.ready.specs.Ready.{is_ready, PosedAtOnce};
 
 use scope::User;
-use table::{FoundGlobal, FoundSolver, global_of, solver_of};
+use table::{global_of, solver_of};
 
 // The user has a solver index, below 4,096 as in every sound table, and is sampled if that is required.
 fn is_ready(gu: &[u32], sg: &[u32], records: &[u32], user: User, sampling: bool) -> bool
     ensures { result ≡ is_ready gu.now sg.now records.now sampling user.0 }
 {
-    let FoundGlobal::At(g) = global_of(gu, user) else {
+    let Some(g) = global_of(gu, user) else {
         return false;
     };
-    let FoundSolver::At(s) = solver_of(sg, g) else {
+    let Some(s) = solver_of(sg, g) else {
         return false;
     };
     if 4096 <= s.0 {
@@ -37,14 +37,8 @@ fn is_ready(gu: &[u32], sg: &[u32], records: &[u32], user: User, sampling: bool)
 fn all_ready(gu: &[u32], sg: &[u32], records: &[u32], lits: &[u32], sampling: bool) -> bool
     ensures { result ≡ every_of (λ c. is_ready gu.now sg.now records.now sampling (index_of c)) lits.now }
 {
-    let mut i = 0;
-    while i < lits.len() {
-        if !is_ready(gu, sg, records, User(lits[i] / 2), sampling) {
-            return false;
-        }
-        i += 1;
-    }
-    true
+    lits.iter()
+        .all(|lit| is_ready(gu, sg, records, User(*lit / 2), sampling))
 }
 
 // Pose of literals whose users all have solver indices, in the lists that it reads, of a table known to be sound: filled, where the call is accepted and
@@ -66,13 +60,11 @@ pub fn pose_in(
     if !all_ready(gu, sg, records, lits, sampling) {
         return false;
     }
-    let mut i = 0;
-    while i < lits.len() {
+    for i in 0..lits.len() {
         let code = lits[i];
         let g = gu[(code / 2) as usize] - 1;
         let s = sg[g as usize] - 1;
         out[i] = 2 * s + code % 2;
-        i += 1;
     }
     true
 }

@@ -21,21 +21,21 @@ returns-then-lits-i-clause-out c =
     let d = run_done _ _ _ _ _ _ c.held_lits-i.ensures c.loop-i.invariant.0 in
     (lits_end _ _ _ _ _ _ _ _ _ c.if-lits-i.true d).1
 
-pub place_new-p-requires-clause-place_asks : goal.place_new-p-requires-clause-place_asks
-place_new-p-requires-clause-place_asks c =
+pub place_new-q-requires-clause-place_asks : goal.place_new-q-requires-clause-place_asks
+place_new-q-requires-clause-place_asks c =
     let d = run_done _ _ _ _ _ _ c.held_lits-i.ensures c.loop-i.invariant.0 in
     turn_asks _ _ _ _ _ _ _ _ _ _ c.requires.pose_asks c.if-lits-i.false d
 
 pub overflow_mul-out : goal.overflow_mul-out
 overflow_mul-out c =
     let d = run_done _ _ _ _ _ _ c.held_lits-i.ensures c.loop-i.invariant.0 in
-    let v = turn_small _ _ _ _ _ _ _ _ _ _ _ c.requires.pose_asks c.if-lits-i.false d c.place_new-p.ensures.solver_value in
+    let v = turn_small _ _ _ _ _ _ _ _ _ _ _ c.requires.pose_asks c.if-lits-i.false d c.place_new-q.ensures.solver_value in
     omega arith
 
 pub overflow_add-out : goal.overflow_add-out
 overflow_add-out c =
     let d = run_done _ _ _ _ _ _ c.held_lits-i.ensures c.loop-i.invariant.0 in
-    let v = turn_small _ _ _ _ _ _ _ _ _ _ _ c.requires.pose_asks c.if-lits-i.false d c.place_new-p.ensures.solver_value in
+    let v = turn_small _ _ _ _ _ _ _ _ _ _ _ c.requires.pose_asks c.if-lits-i.false d c.place_new-q.ensures.solver_value in
     omega arith
 
 pub loop-i-smaller : goal.loop-i-smaller
@@ -47,4 +47,4 @@ loop-i-smaller c =
 pub loop-i-preserved : goal.loop-i-preserved
 loop-i-preserved c =
     let d = run_done _ _ _ _ _ _ c.held_lits-i.ensures c.loop-i.invariant.0 in
-    (lits_more _ _ _ _ _ _ _ _ _ _ _ _ _ _ c.if-lits-i.false d c.place_new-p.ensures.solver_value c.place_new-p.ensures.leaves (omega arith), c.place_new-p.ensures.none_free_2)
+    (lits_more _ _ _ _ _ _ _ _ _ _ _ _ _ _ c.if-lits-i.false d c.place_new-q.ensures.solver_value c.place_new-q.ensures.leaves (omega arith), c.place_new-q.ensures.none_free_2)

@@ -11,12 +11,12 @@ map_up-m-requires-clause-up_asks c =
 pub grant_index-h-requires : goal.grant_index-h-requires
 grant_index-h-requires c =
     let m = up_leaves _ _ _ _ _ _ _ _ _ _ (place_map_asks _ _ _ _ c.requires.place_asks) c.map_up-m.ensures.up_leaves
-    c.counts_after-counts.ensures in
+    c.counts_after.ensures in
     record { gu = _; ug = _; asks = place_grant_asks _ _ _ _ _ _ _ _ c.requires.place_asks m.0 m.1 }
 
 pub returns-clause-solver_value : goal.returns-clause-solver_value
 returns-clause-solver_value c =
-    let e = c.counts_after-counts.ensures in
+    let e = c.counts_after.ensures in
     let m = up_leaves _ _ _ _ _ _ _ _ _ _ (place_map_asks _ _ _ _ c.requires.place_asks) c.map_up-m.ensures.up_leaves
     e in
     let g = c.grant_index-h.ensures.by_index_2 _ _ in
@@ -25,7 +25,7 @@ returns-clause-solver_value c =
 
 pub returns-clause-leaves : goal.returns-clause-leaves
 returns-clause-leaves c =
-    let e = c.counts_after-counts.ensures in
+    let e = c.counts_after.ensures in
     let m = up_leaves _ _ _ _ _ _ _ _ _ _ (place_map_asks _ _ _ _ c.requires.place_asks) c.map_up-m.ensures.up_leaves
     e in
     let g = c.grant_index-h.ensures.by_index_2 _ _ in
@@ -34,7 +34,7 @@ returns-clause-leaves c =
 
 pub returns-clause-none_free_2 : goal.returns-clause-none_free_2
 returns-clause-none_free_2 c =
-    let e = c.counts_after-counts.ensures in
+    let e = c.counts_after.ensures in
     let m = up_leaves _ _ _ _ _ _ _ _ _ _ (place_map_asks _ _ _ _ c.requires.place_asks) c.map_up-m.ensures.up_leaves
     e in
     let g = c.grant_index-h.ensures.by_index_2 _ _ in

@@ -49,10 +49,10 @@ loop-i-preserved c =
     let a = c.args in
     let l = c.loop-i-test.true in
     let k = ready_code _ _ _ _ _ _ c.all_ready.ensures c.if-not-all_ready.false _ l in
-    (omega arith, copy_next (held_code a.gu.now a.sg.now) a.out.now a.lits.now _ _ _ l c.loop-i.invariant.1 (omega arith))
+    copy_next (held_code a.gu.now a.sg.now) a.out.now a.lits.now _ _ _ l c.loop-i.invariant (omega arith)
 
 pub returns : goal.returns
 returns c =
     let a = c.args in
     in_ready _ _ _ _ _ _ _ c.all_ready.ensures _ c.if-lits-out.false c.if-not-all_ready.false
-    (copy_end (held_code a.gu.now a.sg.now) a.out.now a.lits.now _ _ c.loop-i-test.false c.loop-i.invariant.1)
+    (copy_end (held_code a.gu.now a.sg.now) a.out.now a.lits.now _ _ (omega arith) c.loop-i.invariant)

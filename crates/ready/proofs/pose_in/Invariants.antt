@@ -1,12 +1,7 @@
-use Prim.Native.Nat.{◌-◌, ◌≤◌}
 use mathlib.Core.Path.{◌≡◌}
-use lib.ListN.{length}
 use Rattle.base.proofs.StoreLaws.{copied}
 use Rattle.held.specs.Parts.{held_code}
 use Rattle.ready.proofs.pose_in.Given as goal
 
 abbrev pub invariant-loop-i : goal.invariant-loop-i
-invariant-loop-i l = (l.i ≤ length l.lits) × (l.out ≡ copied (held_code l.gu l.sg) l.initial.out l.lits l.i)
-
-abbrev pub decreases-loop-i : goal.decreases-loop-i
-decreases-loop-i l = length l.lits - l.i
+invariant-loop-i l = l.out ≡ copied (held_code l.gu l.sg) l.initial.out l.lits l.i
