@@ -12,11 +12,7 @@ use scope::Refusal;
 use script::{Call, DAY, SMALL_BOX};
 use session::{Session, front};
 use std::io;
-use telling::{Fill, LEGEND, Lits, Values};
-
-fn refused(rt: &impl Print, why: Refusal) -> io::Result<()> {
-    println!(rt; "refused: {}, {why}", u32::from(why))
-}
+use telling::{Fill, LEGEND, Lits, Refused, Values};
 
 // The steps of a proof that was read: where the literals of each end, and whether it deletes.
 fn print_steps(rt: &impl Print, codes: &[u32], ends: &[u64], kinds: &[u8]) -> io::Result<()> {
@@ -39,7 +35,7 @@ fn read_back(rt: &impl Print, bytes: &[u8]) -> io::Result<()> {
     match read_proof(Format::Text, bytes, &mut codes, &mut ends, &mut kinds) {
         Ok(size) => print_steps(rt, &codes, front(&ends, size.steps), &kinds),
         Err(ReadError::NotWhole(_)) => println!(rt; "refused: 13, a step is not whole"),
-        Err(ReadError::Room) => refused(rt, Refusal::Short),
+        Err(ReadError::Room) => println!(rt; "{}", Refused(Refusal::Short)),
     }
 }
 
@@ -53,7 +49,7 @@ fn print_model<const N: usize>(rt: &impl Print, session: &Session<N>) -> io::Res
             println!(rt; "values of the globals:{values}")?;
             println!(rt; "model:{}", Lits('u', front(&users, made.users as usize)))
         }
-        Err(why) => refused(rt, why),
+        Err(why) => println!(rt; "{}", Refused(why)),
     }
 }
 
@@ -64,10 +60,7 @@ fn play<const N: usize>(rt: &impl Print, calls: &[Call]) -> io::Result<()> {
         print!(rt; "{call}:")?;
         match session.make(*call) {
             Ok(answer) => println!(rt; "{answer}")?,
-            Err(why) => {
-                print!(rt; " ")?;
-                refused(rt, why)?;
-            }
+            Err(why) => println!(rt; " {}", Refused(why))?,
         }
         println!(rt; "    {}", Fill(session.counts()))?;
     }

@@ -1,4 +1,5 @@
 // One session. Each method makes one call of the library, keeps the counts that come back, and gives the answer. Nothing is decided here.
+// The six lists and the slices to be filled are named one by one at each call, since the C interface lends each by itself.
 use crate::script::Call;
 use crate::telling::{Answer, Lits, Notes, Quoted, Users};
 use drat::Format;
@@ -9,13 +10,15 @@ use modes::{observe_internal_vars, set_sampling_mode};
 use naming::{global_from_user, new_user_var};
 use posing::solver_from_user_lits;
 use removal::{remove_solver_var, sweep};
-use scope::{Counts, DeleteClauseProof, Global, Mark, ProofStep, Refusal, SamplingMode, Solver, User};
+use scope::{
+    Counts, DeleteClauseProof, Global, Mark, ProofStep, Refusal, SamplingMode, Solver, User,
+};
 use simplify::simplify_clause;
 use steps::rename::rename_step;
 use steps::write::write_step;
 use var_map::{get_global_from_user, open_table};
 
-// The bytes of the proof, up to its end.
+// The bytes of the proof, up to its end: an array with a length, since memory is fixed, as in the libraries.
 #[derive(Drop)]
 struct Proof {
     bytes: [u8; 256],

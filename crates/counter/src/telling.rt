@@ -1,10 +1,11 @@
 // What `counter` prints. Indices have a letter and count from 0: u a user, g a global, s a solver index; a literal is its index, after a
 // minus sign where it is negative. Notes are in document 01's notation, and refusals have their meaning beside them.
-use scope::{Counts, Global, Note, Simplified, Solver, User};
+use scope::{Counts, Global, Note, Refusal, Simplified, Solver, User};
 use std::fmt;
 
 // How to read the lines.
-pub const LEGEND: &str = "u0, u1, .. are users; g0, g1, .. globals; s0, s1, .. solver indices: each sort is counted from 0. A minus sign negates a literal.\n\
+pub const LEGEND: &str =
+    "u0, u1, .. are users; g0, g1, .. globals; s0, s1, .. solver indices: each sort is counted from 0. A minus sign negates a literal.\n\
     Notes: U(g2,u1) gives g2 the user u1, S(g2,s0) gives it the solver index s0, and - for the index takes it back; D(g2) deletes g2;\n\
     C(g2,yes) makes g2 Sample, C(g2,no) makes it Witness.\n\
     Under each call stands how many globals are then taken, hidden ones among them, of how many, and the solver index that is granted next.\n\
@@ -68,7 +69,7 @@ impl fmt::Display for Values<'_> {
     }
 }
 
-// Bytes of the proof file, a line feed as \n.
+// Bytes of the proof file, in quotes, a line feed as \n.
 #[derive(Clone, Copy)]
 pub struct Quoted<'a>(pub &'a [u8]);
 
@@ -144,7 +145,17 @@ impl fmt::Display for Fill {
     }
 }
 
-// What a call answers, with what it filled.
+// Why a call is refused, after its number.
+#[derive(Clone, Copy)]
+pub struct Refused(pub Refusal);
+
+impl fmt::Display for Refused {
+    fn fmt<W: fmt::Write>(&self, f: &mut fmt::Formatter<W>) -> fmt::Result {
+        write!(f, "refused: {}, {}", u32::from(self.0), self.0)
+    }
+}
+
+// What a call answers, with what it filled. It is printed after a blank, as each word of a list.
 #[derive(Clone, Copy)]
 pub enum Answer<'a> {
     Done,
@@ -176,9 +187,7 @@ impl fmt::Display for Answer<'_> {
             Answer::Posed(lits, notes) => write!(f, " solver literals{lits}{notes}"),
             Answer::Written(bytes) => write!(f, " {bytes}"),
             Answer::Renamed(lits) => write!(f, "{lits}"),
-            Answer::Reduced(what, lits, bytes) => {
-                write!(f, " {}{lits}; {bytes}", reduced(what))
-            }
+            Answer::Reduced(what, lits, bytes) => { write!(f, " {}{lits}; {bytes}", reduced(what)) }
         }
     }
 }
