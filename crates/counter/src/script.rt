@@ -1,26 +1,27 @@
 // The two sessions, call by call.
-use crate::holds::Holding;
-use crate::lines::Writing;
-use crate::names::Naming;
+use crate::telling::{Lit, Lits};
 use scope::{Global, Mark, SamplingMode, Solver, User};
+use std::fmt;
 
-// A clause of at most three literals.
-#[derive(Clone, Copy)]
-pub struct Clause {
-    pub len: usize,
-    pub a: u32,
-    pub b: u32,
-    pub c: u32,
-}
-
+// The calls, with what they are asked. Literals are codes, of users in Pose and of solver indices elsewhere.
 #[derive(Clone, Copy)]
 pub enum Call {
     Open(u32),
-    Name(Naming),
-    Hold(Holding),
-    Write(Writing, Clause),
-    Pose(Clause),
-    Ask(User),
+    Map(User),
+    NewUser,
+    SetMode(Global, SamplingMode),
+    Observe,
+    LookUp(User),
+    Grant(Global),
+    Mark(Mark, Solver),
+    Assign(u32),
+    Remove(Solver),
+    Sweep,
+    Pose(&'static [u32]),
+    Add(&'static [u32]),
+    Delete(&'static [u32]),
+    Rename(&'static [u32]),
+    Simplify(&'static [u32]),
 }
 
 // The codes of literals: P0 is the positive one of index 0, N0 the negative one.
@@ -38,122 +39,98 @@ const P3: u32 = 6;
 
 const N3: u32 = 7;
 
-fn none() -> Clause {
-    Clause {
-        len: 0,
-        a: 0,
-        b: 0,
-        c: 0,
-    }
-}
-
-fn unit(a: u32) -> Clause {
-    Clause {
-        len: 1,
-        a,
-        b: 0,
-        c: 0,
-    }
-}
-
-fn pair(a: u32, b: u32) -> Clause {
-    Clause { len: 2, a, b, c: 0 }
-}
-
-fn three(a: u32, b: u32, c: u32) -> Clause {
-    Clause { len: 3, a, b, c }
-}
-
-fn hide(g: u32) -> Call {
-    Call::Name(Naming::Mode(Global(g), SamplingMode::Hide))
-}
-
-fn sample(g: u32) -> Call {
-    Call::Name(Naming::Mode(Global(g), SamplingMode::Sample))
-}
-
-fn marked(mark: Mark, s: u32) -> Call {
-    Call::Hold(Holding::Mark(mark, Solver(s)))
-}
-
-// The worked cases 1 and 2, 6, 7 and 5, 3 and 4.
-fn morning(n: u32) -> Call {
-    match n {
-        0 => Call::Open(8),
-        1 => Call::Name(Naming::Map(User(2))),
-        2 => hide(1),
-        3 => Call::Name(Naming::New),
-        4 => Call::Hold(Holding::Grant(Global(2))),
-        5 => Call::Write(Writing::Add, unit(N0)),
-        6 => Call::Write(Writing::Delete, none()),
-        7 => Call::Hold(Holding::Sweep),
-        8 => Call::Hold(Holding::Grant(Global(2))),
-        9 => hide(2),
-        10 => Call::Name(Naming::Map(User(2))),
-        11 => Call::Name(Naming::Observe),
-        _ => Call::Ask(User(2)),
-    }
-}
-
-// Three boxes are posed and in use; case 12; the assumed one may not be removed; one is hidden, one is settled, and its clause becomes shorter.
-fn noon(n: u32) -> Call {
-    match n {
-        13 => Call::Pose(three(P0, P1, N2)),
-        14 => marked(Mark::Used, 1),
-        15 => marked(Mark::Used, 2),
-        16 => marked(Mark::Used, 3),
-        17 => sample(0),
-        18 => marked(Mark::Assumed, 1),
-        19 => sample(0),
-        20 => Call::Hold(Holding::Remove(Solver(1))),
-        21 => marked(Mark::Released, 1),
-        22 => hide(1),
-        23 => Call::Hold(Holding::Assign(P3)),
-        24 => Call::Hold(Holding::Assign(N3)),
-        _ => Call::Write(Writing::Simplify, three(P1, P2, N3)),
-    }
-}
-
-// The settled box is swept, its solver index and its user's name go to others, and steps are written under the new names.
-fn evening(n: u32) -> Call {
-    match n {
-        26 => Call::Hold(Holding::Sweep),
-        27 => Call::Write(Writing::Add, pair(P3, P1)),
-        28 => Call::Name(Naming::New),
-        29 => Call::Hold(Holding::Grant(Global(4))),
-        30 => Call::Write(Writing::Rename, pair(N0, P2)),
-        31 => Call::Write(Writing::Add, pair(N0, P2)),
-        32 => Call::Hold(Holding::Assign(P1)),
-        33 => Call::Write(Writing::Simplify, pair(P1, P2)),
-        34 => Call::Hold(Holding::Assign(N0)),
-        35 => Call::Write(Writing::Simplify, pair(N0, P2)),
-        36 => Call::Hold(Holding::Remove(Solver(2))),
-        37 => Call::Hold(Holding::Sweep),
-        38 => Call::Name(Naming::Observe),
-        _ => Call::Pose(unit(P3)),
-    }
-}
+// The day, at capacity 8.
+pub const DAY: [Call; 40] = [
+    // The worked cases 1 and 2, 6, 7 and 5, 3 and 4.
+    Call::Open(8),
+    Call::Map(User(2)),
+    Call::SetMode(Global(1), SamplingMode::Hide),
+    Call::NewUser,
+    Call::Grant(Global(2)),
+    Call::Add(&[N0]),
+    Call::Delete(&[]),
+    Call::Sweep,
+    Call::Grant(Global(2)),
+    Call::SetMode(Global(2), SamplingMode::Hide),
+    Call::Map(User(2)),
+    Call::Observe,
+    Call::LookUp(User(2)),
+    // Three boxes are posed and in use; case 12; the assumed one may not be removed; one is hidden, one is settled, and its clause becomes
+    // shorter.
+    Call::Pose(&[P0, P1, N2]),
+    Call::Mark(Mark::Used, Solver(1)),
+    Call::Mark(Mark::Used, Solver(2)),
+    Call::Mark(Mark::Used, Solver(3)),
+    Call::SetMode(Global(0), SamplingMode::Sample),
+    Call::Mark(Mark::Assumed, Solver(1)),
+    Call::SetMode(Global(0), SamplingMode::Sample),
+    Call::Remove(Solver(1)),
+    Call::Mark(Mark::Released, Solver(1)),
+    Call::SetMode(Global(1), SamplingMode::Hide),
+    Call::Assign(P3),
+    Call::Assign(N3),
+    Call::Simplify(&[P1, P2, N3]),
+    // The settled box is swept, its solver index and its user's name go to others, and steps are written under the new names.
+    Call::Sweep,
+    Call::Add(&[P3, P1]),
+    Call::NewUser,
+    Call::Grant(Global(4)),
+    Call::Rename(&[N0, P2]),
+    Call::Add(&[N0, P2]),
+    Call::Assign(P1),
+    Call::Simplify(&[P1, P2]),
+    Call::Assign(N0),
+    Call::Simplify(&[N0, P2]),
+    Call::Remove(Solver(2)),
+    Call::Sweep,
+    Call::Observe,
+    Call::Pose(&[P3]),
+];
 
 // Case 10, at capacity 2.
-fn small(n: u32) -> Call {
-    match n {
-        40 => Call::Open(2),
-        41 => Call::Name(Naming::Map(User(1))),
-        42 => Call::Name(Naming::Map(User(2))),
-        _ => Call::Name(Naming::New),
+pub const SMALL_BOX: [Call; 4] = [
+    Call::Open(2),
+    Call::Map(User(1)),
+    Call::Map(User(2)),
+    Call::NewUser,
+];
+
+fn mode_name(mode: SamplingMode) -> &'static str {
+    match mode {
+        SamplingMode::Sample => "Sample",
+        SamplingMode::Witness => "Witness",
+        SamplingMode::Hide => "Hide",
     }
 }
 
-// Calls 0 to 39 are the day's, 40 to 43 those at capacity 2.
-pub fn call_at(n: u32) -> Call {
-    if n < 13 {
-        return morning(n);
+fn mark_name(mark: Mark) -> &'static str {
+    match mark {
+        Mark::Used => "used",
+        Mark::Assumed => "assumed",
+        Mark::Released => "no longer assumed",
     }
-    if n < 26 {
-        return noon(n);
+}
+
+// What is asked.
+impl fmt::Display for Call {
+    fn fmt<W: fmt::Write>(&self, f: &mut fmt::Formatter<W>) -> fmt::Result {
+        match *self {
+            Call::Open(capacity) => write!(f, "open, capacity {capacity}"),
+            Call::Map(user) => write!(f, "map user u{}", user.0),
+            Call::NewUser => write!(f, "new user"),
+            Call::SetMode(g, mode) => write!(f, "set global g{} to {}", g.0, mode_name(mode)),
+            Call::Observe => write!(f, "observe"),
+            Call::LookUp(user) => write!(f, "look up user u{}", user.0),
+            Call::Grant(global) => write!(f, "grant global g{}", global.0),
+            Call::Mark(mark, s) => write!(f, "mark solver s{} {}", s.0, mark_name(mark)),
+            Call::Assign(lit) => write!(f, "assign {}", Lit('s', lit)),
+            Call::Remove(solver) => write!(f, "remove solver s{}", solver.0),
+            Call::Sweep => write!(f, "sweep"),
+            Call::Pose(lits) => write!(f, "pose{}", Lits('u', lits)),
+            Call::Add(lits) => write!(f, "write an add of solver literals{}", Lits('s', lits)),
+            Call::Delete(lits) => write!(f, "write a delete of solver literals{}", Lits('s', lits)),
+            Call::Rename(lits) => write!(f, "rename{}", Lits('s', lits)),
+            Call::Simplify(lits) => write!(f, "simplify{}", Lits('s', lits)),
+        }
     }
-    if n < 40 {
-        return evening(n);
-    }
-    small(n)
 }

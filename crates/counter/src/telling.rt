@@ -1,224 +1,202 @@
 // What `counter` prints. Indices have a letter and count from 0: u a user, g a global, s a solver index; a literal is its index, after a
 // minus sign where it is negative. Notes are in document 01's notation, and refusals have their meaning beside them.
-use scope::{Counts, Mark, SamplingMode, Simplified};
-use std::io;
-
-pub fn text(rt: &impl Print, s: &str) -> io::Result<()> {
-    rt.print(s)
-}
-
-fn number(rt: &impl Print, n: u32) -> io::Result<()> {
-    rt.print(n)
-}
-
-// An index after a name, which ends in the index's letter.
-pub fn index(rt: &impl Print, name: &str, i: u32) -> io::Result<()> {
-    text(rt, name)?;
-    number(rt, i)
-}
+use scope::{Counts, Global, Note, Refusal, Simplified, Solver, User};
+use std::fmt;
 
 // How to read the lines.
-pub fn legend(rt: &impl Print) -> io::Result<()> {
-    text(
-        rt,
-        "u0, u1, .. are users; g0, g1, .. globals; s0, s1, .. solver indices: each sort is counted from 0. A minus sign negates a literal.\n\
-        Notes: U(g2,u1) gives g2 the user u1, S(g2,s0) gives it the solver index s0, and - for the index takes it back; D(g2) deletes g2;\n\
-        C(g2,yes) makes g2 Sample, C(g2,no) makes it Witness.\n\
-        Under each call stands how many globals are then taken, hidden ones among them, of how many, and the solver index that is granted next.\n\
-        Bytes of the proof file stand in quotes. There g0 is 1, g1 is 2, g2 is 3, g3 is 4, g4 is 5, d begins a delete and 0 ends a step.\n\
-        After the calls the file is read back step by step, and the model is printed.\n\n",
-    )
+pub const LEGEND: &str =
+    "u0, u1, .. are users; g0, g1, .. globals; s0, s1, .. solver indices: each sort is counted from 0. A minus sign negates a literal.\n\
+    Notes: U(g2,u1) gives g2 the user u1, S(g2,s0) gives it the solver index s0, and - for the index takes it back; D(g2) deletes g2;\n\
+    C(g2,yes) makes g2 Sample, C(g2,no) makes it Witness.\n\
+    Under each call stands how many globals are then taken, hidden ones among them, of how many, and the solver index that is granted next.\n\
+    Bytes of the proof file stand in quotes. There g0 is 1, g1 is 2, g2 is 3, g3 is 4, g4 is 5, d begins a delete and 0 ends a step.\n\
+    After the calls the file is read back step by step, and the model is printed.\n\n";
+
+// A literal: the letter of its sort, and its code.
+#[derive(Clone, Copy)]
+pub struct Lit(pub char, pub u32);
+
+impl fmt::Display for Lit {
+    fn fmt<W: fmt::Write>(&self, f: &mut fmt::Formatter<W>) -> fmt::Result {
+        let Lit(letter, code) = *self;
+        let sign = if code % 2 == 1 { "-" } else { "" };
+        write!(f, "{sign}{letter}{}", code / 2)
+    }
+}
+
+// Literals of one sort, each after a blank.
+#[derive(Clone, Copy)]
+pub struct Lits<'a>(pub char, pub &'a [u32]);
+
+impl fmt::Display for Lits<'_> {
+    fn fmt<W: fmt::Write>(&self, f: &mut fmt::Formatter<W>) -> fmt::Result {
+        let Lits(letter, codes) = *self;
+        for code in codes {
+            write!(f, " {}", Lit(letter, *code))?;
+        }
+        Ok(())
+    }
+}
+
+// Users, each after a blank.
+#[derive(Clone, Copy)]
+pub struct Users<'a>(pub &'a [u32]);
+
+impl fmt::Display for Users<'_> {
+    fn fmt<W: fmt::Write>(&self, f: &mut fmt::Formatter<W>) -> fmt::Result {
+        for user in self.0 {
+            write!(f, " u{user}")?;
+        }
+        Ok(())
+    }
+}
+
+// The values of the globals, in order.
+#[derive(Clone, Copy)]
+pub struct Values<'a>(pub &'a [u32]);
+
+impl fmt::Display for Values<'_> {
+    fn fmt<W: fmt::Write>(&self, f: &mut fmt::Formatter<W>) -> fmt::Result {
+        for (g, word) in self.0.iter().enumerate() {
+            let value = match *word {
+                0 => "none",
+                1 => "false",
+                _ => "true",
+            };
+            write!(f, " g{g} {value}")?;
+        }
+        Ok(())
+    }
+}
+
+// Bytes of the proof file, in quotes, a line feed as \n.
+#[derive(Clone, Copy)]
+pub struct Quoted<'a>(pub &'a [u8]);
+
+impl fmt::Display for Quoted<'_> {
+    fn fmt<W: fmt::Write>(&self, f: &mut fmt::Formatter<W>) -> fmt::Result {
+        write!(f, "\"{}\"", self.0.escape_ascii())
+    }
+}
+
+// A note, in document 01's notation.
+#[derive(Clone, Copy)]
+struct Told(Note);
+
+// A note from its three words.
+fn note_of(kind: u32, global: u32, last: u32) -> Note {
+    let global = Global(global);
+    match (kind, last.checked_sub(1)) {
+        (0, Some(user)) => Note::UserGranted(global, User(user)),
+        (0, None) => Note::UserWithdrawn(global),
+        (1, Some(solver)) => Note::SolverGranted(global, Solver(solver)),
+        (1, None) => Note::SolverWithdrawn(global),
+        (2, _) => Note::Deleted(global),
+        _ => Note::ModeChanged(global, last == 1),
+    }
+}
+
+impl fmt::Display for Told {
+    fn fmt<W: fmt::Write>(&self, f: &mut fmt::Formatter<W>) -> fmt::Result {
+        match self.0 {
+            Note::UserGranted(global, user) => write!(f, "U(g{},u{})", global.0, user.0),
+            Note::UserWithdrawn(global) => write!(f, "U(g{},-)", global.0),
+            Note::SolverGranted(global, solver) => write!(f, "S(g{},s{})", global.0, solver.0),
+            Note::SolverWithdrawn(global) => write!(f, "S(g{},-)", global.0),
+            Note::Deleted(global) => write!(f, "D(g{})", global.0),
+            Note::ModeChanged(global, true) => write!(f, "C(g{},yes)", global.0),
+            Note::ModeChanged(global, false) => write!(f, "C(g{},no)", global.0),
+        }
+    }
+}
+
+// The words of notes, and how many notes are told.
+#[derive(Clone, Copy)]
+pub struct Notes<'a>(pub &'a [u32], pub u32);
+
+impl fmt::Display for Notes<'_> {
+    fn fmt<W: fmt::Write>(&self, f: &mut fmt::Formatter<W>) -> fmt::Result {
+        let Notes(words, count) = *self;
+        if count == 0 {
+            return write!(f, "; notes none");
+        }
+        write!(f, "; notes")?;
+        let (notes, _) = words.as_chunks::<3>();
+        for [kind, global, last] in notes.iter().take(count as usize) {
+            write!(f, " {}", Told(note_of(*kind, *global, *last)))?;
+        }
+        Ok(())
+    }
 }
 
 // How many globals are taken, and which solver index comes next.
-pub fn fill(rt: &impl Print, c: Counts) -> io::Result<()> {
-    text(rt, "    ")?;
-    number(rt, c.used)?;
-    index(rt, " of ", c.capacity)?;
-    text(rt, " taken, next ")?;
-    if c.next < c.capacity {
-        index(rt, "s", c.next)?;
-    } else {
-        text(rt, "none")?;
-    }
-    text(rt, "\n")
-}
-
-fn lit(rt: &impl Print, letter: &str, code: u32) -> io::Result<()> {
-    if code % 2 == 1 {
-        text(rt, "-")?;
-    }
-    index(rt, letter, code / 2)
-}
-
-fn value(rt: &impl Print, i: u32, word: u32) -> io::Result<()> {
-    index(rt, "g", i)?;
-    match word {
-        0 => text(rt, " none"),
-        1 => text(rt, " false"),
-        _ => text(rt, " true"),
-    }
-}
-
-// What a word is: the code of a literal of users, of globals or of solver indices; a user; the value of a global.
 #[derive(Clone, Copy)]
-pub enum Sort {
-    UserLit,
-    GlobalLit,
-    SolverLit,
-    User,
-    Value,
-}
+pub struct Fill(pub Counts);
 
-// Word i of a list.
-fn word(rt: &impl Print, sort: Sort, i: u32, w: u32) -> io::Result<()> {
-    text(rt, " ")?;
-    match sort {
-        Sort::UserLit => lit(rt, "u", w),
-        Sort::GlobalLit => lit(rt, "g", w),
-        Sort::SolverLit => lit(rt, "s", w),
-        Sort::User => index(rt, "u", w),
-        Sort::Value => value(rt, i, w),
-    }
-}
-
-// The words from a to b, each after a blank, as far as the slice goes. A table has at most 4,096 globals.
-pub fn words(rt: &impl Print, sort: Sort, ws: &[u32], a: usize, b: usize) -> io::Result<()> {
-    for i in a..ws.len().min(b) {
-        word(rt, sort, (i % 4096) as u32, ws[i])?;
-    }
-    Ok(())
-}
-
-// The literals of a clause.
-pub fn lits(rt: &impl Print, sort: Sort, codes: &[u32]) -> io::Result<()> {
-    words(rt, sort, codes, 0, codes.len())
-}
-
-// The last word of a U or S: the index, or - where it is withdrawn.
-fn name_or_dash(rt: &impl Print, letter: &str, last: u32) -> io::Result<()> {
-    if last == 0 {
-        return text(rt, ",-");
-    }
-    index(rt, letter, last - 1)
-}
-
-fn sampled(rt: &impl Print, last: u32) -> io::Result<()> {
-    if last == 1 {
-        text(rt, ",yes")
-    } else {
-        text(rt, ",no")
-    }
-}
-
-fn note(rt: &impl Print, kind: u32, global: u32, last: u32) -> io::Result<()> {
-    match kind {
-        0 => {
-            index(rt, " U(g", global)?;
-            name_or_dash(rt, ",u", last)?
-        }
-        1 => {
-            index(rt, " S(g", global)?;
-            name_or_dash(rt, ",s", last)?
-        }
-        2 => index(rt, " D(g", global)?,
-        _ => {
-            index(rt, " C(g", global)?;
-            sampled(rt, last)?
+impl fmt::Display for Fill {
+    fn fmt<W: fmt::Write>(&self, f: &mut fmt::Formatter<W>) -> fmt::Result {
+        let c = self.0;
+        write!(f, "{} of {} taken, next ", c.used, c.capacity)?;
+        if c.next < c.capacity {
+            write!(f, "s{}", c.next)
+        } else {
+            write!(f, "none")
         }
     }
-    text(rt, ")")
 }
 
-// The first n notes, of at most sixteen.
-fn listed(rt: &impl Print, words: &[u32; 48], n: u32) -> io::Result<()> {
-    for i in 0..n.min(16) {
-        let p = 3 * i as usize;
-        note(rt, words[p], words[p + 1], words[p + 2])?;
-    }
-    Ok(())
-}
+// Why a call is refused, after its number.
+#[derive(Clone, Copy)]
+pub struct Refused(pub Refusal);
 
-pub fn notes(rt: &impl Print, words: &[u32; 48], n: u32) -> io::Result<()> {
-    text(rt, "; notes")?;
-    if n == 0 {
-        text(rt, " none")?;
-    }
-    listed(rt, words, n)?;
-    text(rt, "\n")
-}
-
-// A byte, a line feed as \n.
-fn byte(rt: &impl Print, b: u8) -> io::Result<()> {
-    if b == 10 {
-        return text(rt, "\\n");
-    }
-    rt.write_all(&[b])
-}
-
-// The first n bytes.
-fn bytes(rt: &impl Print, s: &[u8], n: usize) -> io::Result<()> {
-    for b in s.iter().take(n) {
-        byte(rt, *b)?;
-    }
-    Ok(())
-}
-
-pub fn quoted(rt: &impl Print, s: &[u8], n: usize) -> io::Result<()> {
-    text(rt, "\"")?;
-    bytes(rt, s, n)?;
-    text(rt, "\"\n")
-}
-
-fn meaning(rt: &impl Print, n: u32) -> io::Result<()> {
-    match n {
-        1 => text(rt, ", the table is unsound"),
-        2 => text(rt, ", a lent slice is too short"),
-        3 => text(rt, ", an index out of range"),
-        4 => text(rt, ", the global is not Sample"),
-        5 => text(rt, ", no free global is left"),
-        6 => text(rt, ", the global is deleted"),
-        7 => text(rt, ", the global is assumed"),
-        8 => text(rt, ", solver index not held"),
-        9 => text(rt, ", the solver index has a value"),
-        10 => text(rt, ", the capacity or the length of a slice"),
-        11 => text(rt, ", a step kind that DRAT lacks"),
-        12 => text(rt, ", fewer than two literals are unknown"),
-        13 => text(rt, ", a step is not whole"),
-        14 => text(rt, ", units and hashes differ in number"),
-        15 => text(rt, ", the lists are no sections, or an entry has no mirror"),
-        16 => text(rt, ", the global that holds the solver index is assumed"),
-        _ => text(rt, ", not a DIMACS CNF file of the strict form"),
+impl fmt::Display for Refused {
+    fn fmt<W: fmt::Write>(&self, f: &mut fmt::Formatter<W>) -> fmt::Result {
+        write!(f, "refused: {}, {}", u32::from(self.0), self.0)
     }
 }
 
-pub fn refused(rt: &impl Print, n: u32) -> io::Result<()> {
-    index(rt, "refused: ", n)?;
-    meaning(rt, n)?;
-    text(rt, "\n")
+// What a call answers, with what it filled. It is printed after a blank, as each word of a list.
+#[derive(Clone, Copy)]
+pub enum Answer<'a> {
+    Done,
+    Changed(Notes<'a>),
+    Mapped(Global, Notes<'a>),
+    Named(User, Global, Notes<'a>),
+    Shown(User, Notes<'a>),
+    Observed(Users<'a>, Notes<'a>),
+    Found(Option<Global>),
+    Granted(Solver, Notes<'a>),
+    Posed(Lits<'a>, Notes<'a>),
+    Written(Quoted<'a>),
+    Renamed(Lits<'a>),
+    Reduced(Simplified, Lits<'a>, Quoted<'a>),
 }
 
-pub fn mode(rt: &impl Print, m: SamplingMode) -> io::Result<()> {
-    match m {
-        SamplingMode::Sample => text(rt, " to Sample: "),
-        SamplingMode::Witness => text(rt, " to Witness: "),
-        SamplingMode::Hide => text(rt, " to Hide: "),
+impl fmt::Display for Answer<'_> {
+    fn fmt<W: fmt::Write>(&self, f: &mut fmt::Formatter<W>) -> fmt::Result {
+        match *self {
+            Answer::Done => write!(f, " ok"),
+            Answer::Changed(notes) => write!(f, " ok{notes}"),
+            Answer::Mapped(global, notes) => write!(f, " global g{}{notes}", global.0),
+            Answer::Named(user, g, notes) => write!(f, " user u{}, global g{}{notes}", user.0, g.0),
+            Answer::Shown(user, notes) => write!(f, " user u{}{notes}", user.0),
+            Answer::Observed(users, notes) => write!(f, " users{users}{notes}"),
+            Answer::Found(Some(global)) => write!(f, " global g{}", global.0),
+            Answer::Found(None) => write!(f, " none"),
+            Answer::Granted(solver, notes) => write!(f, " solver s{}{notes}", solver.0),
+            Answer::Posed(lits, notes) => write!(f, " solver literals{lits}{notes}"),
+            Answer::Written(bytes) => write!(f, " {bytes}"),
+            Answer::Renamed(lits) => write!(f, "{lits}"),
+            Answer::Reduced(what, lits, bytes) => { write!(f, " {}{lits}; {bytes}", reduced(what)) }
+        }
     }
 }
 
-pub fn mark(rt: &impl Print, m: Mark) -> io::Result<()> {
-    match m {
-        Mark::Used => text(rt, " used: "),
-        Mark::Assumed => text(rt, " assumed: "),
-        Mark::Released => text(rt, " no longer assumed: "),
-    }
-}
-
-pub fn simplified(rt: &impl Print, what: Simplified) -> io::Result<()> {
+fn reduced(what: Simplified) -> &'static str {
     match what {
-        Simplified::Kept => text(rt, "kept"),
-        Simplified::Dropped => text(rt, "dropped"),
-        Simplified::Shortened => text(rt, "shortened,"),
-        Simplified::Binary => text(rt, "binary,"),
+        Simplified::Kept => "kept",
+        Simplified::Dropped => "dropped",
+        Simplified::Shortened => "shortened,",
+        Simplified::Binary => "binary,",
     }
 }
