@@ -19,10 +19,7 @@ pub fn recorded_out(r: Result<usize, Refusal>) -> HzWritten
     ensures { (c : Counts) → Numbered (recorded r c) (plain 1) (result.refusal ∷ result.bytes ∷ []) c }
 {
     match r {
-        Ok(bytes) => HzWritten {
-            refusal: 0,
-            bytes,
-        },
+        Ok(bytes) => HzWritten { refusal: 0, bytes },
         Err(e) => HzWritten {
             refusal: u32::from(e),
             bytes: 0,

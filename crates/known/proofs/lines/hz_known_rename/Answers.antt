@@ -4,7 +4,6 @@ use lib.ListN.{length}
 use Rattle.scope.specs.Table.{Table, table_of}
 use Rattle.scope.specs.Outcome.{Outcome}
 use Rattle.numbers.specs.declared.HzStep.{HzStep}
-
 use Rattle.numbers.specs.Lines.{step_given, words_at}
 use Rattle.numbers.proofs.SurfaceLaws.{same_given, quiet_refused, numbered_given, filled_same}
 use Rattle.numbers.proofs.LineLaws.{rename_is, no_rename_step, stepped_given}
