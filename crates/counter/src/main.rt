@@ -54,8 +54,11 @@ fn print_model<const N: usize>(rt: &impl Print, session: &Session<N>) -> io::Res
 }
 
 // A session: the calls, then the proof, read back step by step, and the model.
-fn play<const N: usize>(rt: &impl Print, calls: &[Call]) -> io::Result<()> {
-    let mut session: Session<N> = Session::new();
+fn play<const N: usize>(
+    rt: &impl Print,
+    mut session: Session<N>,
+    calls: &[Call],
+) -> io::Result<()> {
     for call in calls {
         print!(rt; "{call}:")?;
         match session.make(*call) {
@@ -72,7 +75,7 @@ fn play<const N: usize>(rt: &impl Print, calls: &[Call]) -> io::Result<()> {
 // A write that fails ends the run.
 fn main(rt: HostRuntime) -> io::Result<()> {
     rt.print(LEGEND)?;
-    play::<8>(&rt, &DAY)?;
+    play(&rt, Session::<8>::new(), &DAY)?;
     println!(rt)?;
-    play::<2>(&rt, &SMALL_BOX)
+    play(&rt, Session::<2>::new(), &SMALL_BOX)
 }
