@@ -42,14 +42,6 @@ fine_end records mark g ok e h = h ∙ ap (λ (i : ℕ). all_below i (fine recor
 abbrev pub one_if : Bool → ℕ
 one_if b = pick b 1 0
 
-byte_one : (b : Bool) → bool_byte b ≡ one_if b
-byte_one true = refl
-byte_one false = refl
-
--- so is the test as a number
-pub hidden_word : (b : Bool) (w k : ℕ) → b ≡ is_hidden w → k ≡ bool_byte b → k ≡ one_if (is_hidden w)
-hidden_word b w k e q = q ∙ byte_one b ∙ ap one_if e
-
 abbrev pub hidden_at : List ℕ → ℕ → Bool
 hidden_at records g = is_hidden (get_or records g 47)
 
@@ -59,31 +51,6 @@ count_next g p = go (p g) refl
     go : (b : Bool) → p g ≡ b → count (g + 1) p ≡ count g p + one_if b
     go true e = count_yes g p e
     go false e = let x = count_no g p e in omega arith
-
-pub hidden_none : (records : List ℕ) → 0 ≡ count 0 (hidden_at records)
-hidden_none records = sym (count_none (hidden_at records))
-
-pub hidden_more : (records : List ℕ) (mark g n k : ℕ) → mark ≤ length records → g < mark → n ≡ count g (hidden_at records)
-    → k ≡ one_if (is_hidden (get_or records g 0)) → n + k ≡ count (g + 1) (hidden_at records)
-hidden_more records mark g n k w l e q =
-    let x = count_next g (hidden_at records) in
-    let y : one_if (is_hidden (get_or records g 0)) ≡ one_if (hidden_at records g) = ap (λ (r : ℕ). one_if (is_hidden r)) (get_d_default records g 0 47 (omega arith)) in
-    omega arith
-
-pub hidden_end : (records : List ℕ) (mark g n : ℕ) → g ≡ mark → n ≡ count g (hidden_at records) → n ≡ count mark (hidden_at records)
-hidden_end records mark g n e q = q ∙ ap (λ (i : ℕ). count i (hidden_at records)) e
-
--- a count fits its word
-pub hidden_fits : (records : List ℕ) (g mark n k : ℕ) → g < mark → mark < 2 ^ 32 → n ≡ count g (hidden_at records) → k ≡ one_if (is_hidden (get_or records g 0))
-    → n + k < 2 ^ 32
-hidden_fits records g mark n k l m e q =
-    let x = count_most g (hidden_at records) in
-    let y = most (is_hidden (get_or records g 0)) in
-    omega arith
-  where
-    most : (b : Bool) → one_if b ≤ 1
-    most true = omega arith
-    most false = omega arith
 
 -- where none is counted, the last is not hidden, and none before it
 pub none_last : (n : ℕ) (p : ℕ → Bool) → count (suc n) p ≡ 0 → (count n p ≡ 0) × (p n ≡ false)

@@ -22,7 +22,7 @@ ghost use Rattle.modes.specs.Answers.{mode_set, observed};
 
 use changes::{Passed, delete_global_if_unused};
 use scope::{Counts, Global, Note, Refusal, SamplingMode, User, least_free};
-use table::{Lists, put_note};
+use table::{Lists, count_words, put_note};
 
 // The user granted, if one was, the counts after, and how many notes were made.
 #[derive(Clone, Copy)]
@@ -314,11 +314,7 @@ fn count_hidden(records: &[u32], mark: u32) -> u32
     requires { mark ≤ length records.now }
     ensures { result ≡ count mark (λ g. is_hidden (get_or records.now g 47)) }
 {
-    let mut n: u32 = 0;
-    for g in 0..mark as usize {
-        n += u32::from(is_hidden(records[g]));
-    }
-    n
+    count_words(records, mark, |w| is_hidden(w))
 }
 
 // The first refusal of Observe that applies to a sound table with so many hidden globals.

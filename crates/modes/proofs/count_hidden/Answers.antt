@@ -1,19 +1,12 @@
-use Rattle.modes.proofs.HiddenLaws.{hidden_none, hidden_word, hidden_fits, hidden_more, hidden_end}
+use borrow.Author.Rules.{rules}
+use mathlib.Core.Path.{ap, ◌∙◌}
 use native.Mathlib.Omega.{arith}
+use Rattle.base.proofs.CountLaws.{count_same}
+use Rattle.base.proofs.MemberLaws.{get_d_default}
+use Rattle.scope.specs.Modes.{is_hidden}
 use Rattle.modes.proofs.count_hidden.Goals as goal
 
-pub loop-g-init : goal.loop-g-init
-loop-g-init c = hidden_none c.args.records.now
-
-pub overflow_add-n : goal.overflow_add-n
-overflow_add-n c =
-    let k = hidden_word _ _ _ c.is_hidden.ensures c.from-n.ensures in
-    record { fits = hidden_fits c.args.records.now _ _ _ _ c.loop-g-test.true (let b = c.ranges.mark.fits in omega arith) c.loop-g.invariant k }
-
-pub loop-g-preserved : goal.loop-g-preserved
-loop-g-preserved c =
-    let k = hidden_word _ _ _ c.is_hidden.ensures c.from-n.ensures in
-    hidden_more c.args.records.now _ _ _ _ c.requires c.loop-g-test.true c.loop-g.invariant k
-
 pub returns : goal.returns
-returns c = hidden_end c.args.records.now _ _ _ (omega arith) c.loop-g.invariant
+returns c =
+    c.count_words.ensures is_hidden (λ x b h. search rules)
+    ∙ count_same _ _ _ (λ i m. ap is_hidden (get_d_default c.args.records.now i 0 47 (omega arith)))
