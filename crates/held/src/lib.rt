@@ -1,4 +1,5 @@
 // Literals whose users have solver indices already: they are looked up, and nothing is mapped or granted for them.
+// The lists are parameters of their own: each function is lent, by `&` or `&mut`, only those that it touches.
 #![tactic(auto)]
 
 ghost use Rattle.std.specs.Prelude.{◌≡◌, ◌&&◌, ◌≤◌, length};
