@@ -37,6 +37,8 @@ fn absent(n: u32) -> HzFound
     }
 }
 
+// The four are compiled into what calls them: a lookup in a sound table has no refusal, and 2.3 ns are then 7.8.
+#[inline(always)]
 pub fn user_out(r: Result<Option<User>, Refusal>) -> HzFound
     ensures { (c : Counts) → Numbered (got_user r c) (optional 0) (result.refusal ∷ flag result.found ∷ result.value ∷ []) c }
 {
@@ -47,6 +49,7 @@ pub fn user_out(r: Result<Option<User>, Refusal>) -> HzFound
     }
 }
 
+#[inline(always)]
 pub fn global_out(r: Result<Option<Global>, Refusal>) -> HzFound
     ensures { (c : Counts) → Numbered (got_global r c) (optional 0) (result.refusal ∷ flag result.found ∷ result.value ∷ []) c }
 {
@@ -57,6 +60,7 @@ pub fn global_out(r: Result<Option<Global>, Refusal>) -> HzFound
     }
 }
 
+#[inline(always)]
 pub fn solver_out(r: Result<Option<Solver>, Refusal>) -> HzFound
     ensures { (c : Counts) → Numbered (got_solver r c) (optional 0) (result.refusal ∷ flag result.found ∷ result.value ∷ []) c }
 {
@@ -67,6 +71,7 @@ pub fn solver_out(r: Result<Option<Solver>, Refusal>) -> HzFound
     }
 }
 
+#[inline(always)]
 pub fn word_out(r: Result<Option<u32>, Refusal>) -> HzFound
     ensures { (c : Counts) → Numbered (got_word r c) (optional 0) (result.refusal ∷ flag result.found ∷ result.value ∷ []) c }
 {

@@ -1,4 +1,5 @@
 // The answers of the C surface on tables and names: flat structs. How their contracts read: crates/numbers/specs/Flat.antt and Surface.antt.
+// C has no Option or Result: a refusal is a number there, 0 for none, and what was found stands beside a flag.
 #![tactic(auto)]
 
 pub mod changed;

@@ -1,5 +1,5 @@
 // The calls of capi under their C names, which include/hintzobar.h declares: each takes the same arguments, states the same clauses and calls the
-// function of that name.
+// function of that name. A crate is a library or an archive: what C and replay both call stands in two.
 #![tactic(auto)]
 
 pub mod clauses;

@@ -26,6 +26,7 @@ pub(crate) fn limit_of(v: u32) -> Limit
     }
 }
 
+// A function of its own, for the body of the dense loop: no branch stands there.
 fn byte_if(t: bool, b: u8) -> u8
     ensures { result ≡ pick t b 0 }
 {

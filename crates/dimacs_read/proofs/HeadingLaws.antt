@@ -9,11 +9,9 @@ use lib.ListN.{length, get_or, drop, length-append, drop_of_length-le}
 use lib.Pointwise.{pointwise}
 use lib.ListN.{take}
 use lib.Seq.{drop-drop, get_or-drop}
-use mathlib.Core.Logic.{⊎_elim}
 use borrow.Author.Tests.{eqb-true, eqb-false, eq-eqb, ne_eqb, lt-leb, le-leb}
 use lib.ListN.{get_or-eq_default}
 use Rattle.base.specs.Choice.{pick}
-use Rattle.base.proofs.Truth.{split}
 use Rattle.drat.specs.Numeral.{digit}
 use Rattle.drat.proofs.Numerals.{is_in_range, below_range, above_range}
 use Rattle.drat.proofs.Steps.{next}
@@ -43,15 +41,6 @@ module _ (s : List ℕ) (i : ℕ) (h : i < length s) where
           let z = eqb-true (get_or s i 0) 99 t in
           ap (λ (b : Bool). header_place (not b) (i + 1) (drop (i + 1) s)) (sym (ne_eqb (get_or s i 0) 10 (λ q. omega arith)))
       go false t e = absurd (true≢false (sym e))
-
-pub passes_inside : (inside : Bool) (b : ℕ) → inside ≡ true → true ≡ inside || eqb b 99
-passes_inside inside b e = rw e
-
-pub passes_start : (inside : Bool) (b : ℕ) → inside ≡ false → b ≡ 99 → true ≡ inside || eqb b 99
-passes_start inside b e h = rw (e, eq-eqb b 99 h)
-
-pub passes_not : (inside : Bool) (b : ℕ) → inside ≡ false → (b ≡ 99 → ⊥) → false ≡ inside || eqb b 99
-passes_not inside b e h = rw (e, ne_eqb b 99 h)
 
 pub place_past : (s : List ℕ) (i : ℕ) → length s ≤ i → (inside : Bool) → header_place inside i (drop i s) ≡ i
 unfolding header_place

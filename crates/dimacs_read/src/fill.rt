@@ -6,7 +6,7 @@ ghost use Rattle.dimacs_read.specs.Known.{LinesFit};
 
 use drat_read::literal::literal_at;
 
-// Fills all clauses; v is what the lines were judged by.
+// Fills all clauses; v is what the lines were judged by. Each turn goes on by a literal or by a line's end.
 pub(crate) fn fill(s: &[u8], from: usize, v: u32, codes: &mut [u32], ends: &mut [u64])
     requires { LinesFit s.now v from (length codes.old) (length ends.old) }
     ensures { LineScan s.now v from codes.old ends.old codes.new ends.new (tallied (clauses_at s.now v from)) }

@@ -78,7 +78,8 @@ fn run_at(s: &[u8], from: usize) -> Run
     }
 }
 
-// Whether the digits between two places are a number: there are some, and a 0 in front only alone.
+// Whether the digits between two places are a number: there are some, and a 0 in front only alone. One test after the other, as the wrong
+// program zero_in_front names them.
 fn is_proper(s: &[u8], from: usize, next: usize) -> bool
     requires next_value { next ≡ from + length (digits_at s.now from) }
     requires next_in_bounds { next ≤ length s.now }

@@ -7,7 +7,7 @@ use crate::place::line_at;
 use dimacs_judge::judge;
 use drat::{Size, Token};
 
-// What stands at a place of a line, where no magnitude is above v.
+// What stands at a place of a line, where no magnitude is above v. The arms stand one by one: of a `_` it would have to be shown what it is not.
 fn token_at(s: &[u8], at: usize, v: u32) -> Option<Token>
     ensures { result ≡ within v (line_from at (drop at s.now)) }
 {

@@ -20,7 +20,7 @@ fn spaced(s: &[u8], code: u32, end: usize) -> Option<Token>
     None
 }
 
-// A number and the blank after it, or `0` and the line feed.
+// A number and the blank after it, or `0` and the line feed. The arms stand one by one: of a `_` it would have to be shown what it is not.
 pub(crate) fn line_at(s: &[u8], at: usize) -> Option<Token>
     ensures { result ≡ line_from at (drop at s.now) }
 {

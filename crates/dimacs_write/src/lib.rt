@@ -34,7 +34,7 @@ fn largest_of(codes: &[u32]) -> u32
     m / 2
 }
 
-// How many digits a number has, 0 one.
+// How many digits a number has, 0 one. Each turn goes by what is left of it: no method of the library says it of its decimal bytes.
 fn digits(n: u64) -> usize
     ensures value { result ≡ length (bytes_of decimal n) }
     ensures upper_bound { result ≤ 20 }

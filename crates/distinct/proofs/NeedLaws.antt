@@ -25,7 +25,6 @@ use Rattle.scope.specs.Literals.{index_of}
 use Rattle.scope.proofs.ResultLaws.{word_none, word_some}
 use Rattle.distinct.specs.declared.Needs.{Needs}
 use Rattle.distinct.specs.declared.UsersCounted.{UsersCounted}
-use Rattle.std.specs.List.{list_any}
 use Rattle.scope.specs.Distinct.{named, count_named, is_first, plain_count, top_of, is_low, needs_grant, Counting, users_by, Within}
 use Rattle.distinct.specs.Users.{needs_by}
 use Rattle.scope.proofs.DistinctLaws.{named_start, named_more, named_count_start, named_count_more, named_most}
@@ -291,12 +290,6 @@ pub plain_end : (mark : ℕ) (gu sg lits : List ℕ) (i : ℕ) (n : Needs) → i
 unfolding plain_count
 plain_end mark gu sg lits i n e d =
     counted_end plain_count (by_lits lits i) mark gu sg lits i n (omega arith) (λ p. ap (λ (m : ℕ). count m (is_first p lits)) e) d
-
--- a test that std makes
-pub named_is : (xs : List ℕ) (v : ℕ) → list_any (λ c. eqb (index_of c) v) xs ≡ named xs v
-unfolding any_of
-named_is [] v = refl
-named_is (x ∷ xs) v = ap (λ (b : Bool). eqb (index_of x) v || b) (named_is xs v)
 
 -- ---- the answers
 

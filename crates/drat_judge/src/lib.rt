@@ -16,6 +16,7 @@ pub fn in_range(x: u8, lo: u8, hi: u8) -> bool
     (lo <= x) & (x <= hi)
 }
 
+// A function of its own, for the bodies of the dense loops: no branch stands there.
 pub fn choose(t: bool, u: bool, v: bool) -> bool
     ensures { result ≡ pick t u v }
 {
@@ -216,7 +217,8 @@ pub fn tally_of(s: &[u8], lo: u8, hi: u8) -> usize
     k
 }
 
-// How many of 1 to 192 bytes of text are from lo to hi and stand after a separator; p is the byte before the first.
+// How many of 1 to 192 bytes of text are from lo to hi and stand after a separator; p is the byte before the first. Apart from `block`, which does
+// not look at the byte before: a test given as a closure would carry its contract through both.
 fn starts_block(p: u8, s: &[u8], lo: u8, hi: u8) -> u8
     requires some { 0 < length s.now }
     requires few { length s.now ≤ 192 }

@@ -119,7 +119,7 @@ fn close_at(s: &[u8], at: usize) -> Option<Token>
     None
 }
 
-// What stands at a place inside a text step.
+// What stands at a place inside a text step. The arms stand one by one: of a `_` it would have to be shown what it is not.
 pub(crate) fn text_token(s: &[u8], at: usize) -> Option<Token>
     ensures { result ≡ token Text at (drop at s.now) }
 {

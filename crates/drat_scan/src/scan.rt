@@ -18,6 +18,7 @@ fn token_at(f: Format, s: &[u8], at: usize) -> Option<Token>
 }
 
 // The number of literals and of steps, or the start of the first step that is not whole. Between steps `at` is the place of a first token.
+// The loops and the labelled exit are as document 01 names them; each turn goes on by a token.
 pub fn scan(f: Format, s: &[u8]) -> Result<Size, usize>
     ensures { result ≡ counted (read_proof f s.now) }
 {
@@ -55,7 +56,7 @@ pub fn scan(f: Format, s: &[u8]) -> Result<Size, usize>
     }
 }
 
-// The place after the step that starts at a place, or that place itself where no whole step stands there.
+// The place after the step that starts at a place, or that place itself where no whole step stands there. Each turn goes on by a token.
 pub fn step_end(f: Format, s: &[u8], start: usize) -> usize
     requires { start ≤ length s.now }
     ensures { (result ≡ end_of start (one_step f start (drop start s.now))) × (result ≤ length s.now) }

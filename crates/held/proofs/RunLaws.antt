@@ -3,8 +3,7 @@ use Rattle.std.specs.Prelude.{Option, None, Ok, Err}
 use Prim.Native.Nat.{ℕ, zero, suc, ◌+◌, ◌≤◌, ◌<◌}
 use mathlib.Core.Path.{◌≡◌, refl, sym, ap, ◌∙◌, subst}
 use mathlib.Core.Bool.{Bool, false, ◌&&◌, ◌||◌, true≢false}
-use mathlib.Core.List.{List, [], ◌∷◌, map}
-use Rattle.std.specs.List.{list_any}
+use mathlib.Core.List.{List, map}
 use mathlib.Core.Logic.{⊎_elim}
 use native.Mathlib.Omega.{arith}
 use lib.Dec.{ltb}
@@ -81,12 +80,6 @@ held_small gu sg u s m e = go (get_or gu u 0) refl
         let z = sym (word_some 0 (λ g. get_or sg g 0) _ g k) ∙ e in
         let b = m.at g in
         omega arith
-
--- a test that std makes
-pub any_is : {A : Type 0} (p : A → Bool) (xs : List A) → list_any p xs ≡ any_of p xs
-unfolding any_of
-any_is p [] = refl
-any_is p (x ∷ xs) = ap (λ (b : Bool). p x || b) (any_is p xs)
 
 -- ---- what was tried
 

@@ -1,5 +1,5 @@
 // The calls on tables that are known to be sound, for C and Rust: `known` calls do not test the table, and calls named `in` are lent only the lists
-// that they touch. The header is include/hintzobar.h.
+// that they touch. The header is include/hintzobar.h. The lists are lent one by one, as C has them.
 #![tactic(auto)]
 
 pub mod clauses;

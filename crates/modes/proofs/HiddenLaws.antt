@@ -1,16 +1,15 @@
 -- Hidden globals, one by one and counted, by the tests that the code makes.
-use Prim.Native.Nat.{ℕ, zero, suc, ◌+◌, ◌/◌, ◌%◌, ◌≤◌, ◌<◌, ◌^◌}
+use Prim.Native.Nat.{ℕ, zero, suc, ◌+◌, ◌/◌, ◌%◌, ◌≤◌, ◌<◌}
 use mathlib.Core.Path.{◌≡◌, refl, sym, ap, ◌∙◌}
 use mathlib.Core.Bool.{Bool, true, false, ◌&&◌, not}
 use mathlib.Core.List.{List}
 use native.Mathlib.Omega.{arith}
 use lib.Dec.{eqb, ltb}
 use lib.ListN.{length, get_or}
-use mir.Val.{bool_byte}
 use Rattle.base.specs.Choice.{pick}
 use Rattle.base.specs.Bounded.{all_below, count}
 use Rattle.base.proofs.BelowLaws.{and_both}
-use Rattle.base.proofs.CountLaws.{count_none, count_yes, count_no, count_most}
+use Rattle.base.proofs.CountLaws.{count_yes, count_no}
 use Rattle.base.proofs.MemberLaws.{get_d_default}
 use Rattle.scope.specs.Table.{assumed_of}
 use Rattle.scope.specs.Modes.{is_hidden}

@@ -174,6 +174,7 @@ pub(crate) fn heads_meet(lists: &[u32], place: &[usize], n: usize) -> bool
         waiting: 0,
         turns,
     };
+    // Not once for each entry: a turn may go back in a queue.
     while 0 < walk.turns {
         let x = walk.looked_at(&path);
         let met = meet_head(lists, place, n, x, &mut head);

@@ -4,7 +4,7 @@ use Rattle.std.proofs.lemmas.Iterator.{YieldsList-from_slice}
 use Rattle.std.proofs.lemmas.Iterator.Search.{any_from_yields_List}
 use Rattle.scope.specs.Literals.{index_of}
 use Rattle.naming.specs.Parts.{is_unsampled}
-use Rattle.held.proofs.RunLaws.{any_is}
+use Rattle.base.proofs.MemberLaws.{any_is}
 use Rattle.held.proofs.any_unsampled.Goals as goal
 
 pub returns-then-sampling : goal.returns-then-sampling

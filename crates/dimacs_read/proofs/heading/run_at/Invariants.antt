@@ -1,5 +1,3 @@
-use Prim.Native.Nat.{◌-◌}
-use lib.ListN.{length}
 use Rattle.dimacs_read.proofs.HeadingLaws.{Running}
 use Rattle.dimacs_read.proofs.heading.run_at.Given as goal
 
