@@ -1,5 +1,5 @@
 // The answer of Lookup.
-ghost use Rattle.std.specs.Prelude.{◌≡◌, [], ◌∷◌};
+ghost use Rattle.std.specs.Prelude.{◌≡◌, [], ◌∷◌, Ok};
 ghost use Rattle.scope.specs.declared.Counts.{Counts};
 ghost use Rattle.var_map.specs.Answers.{got_user, got_global, got_solver, got_word};
 ghost use Rattle.scope.specs.Steps.{flag};
@@ -17,67 +17,105 @@ pub struct HzFound {
     pub value: u32,
 }
 
-fn present(value: u32) -> HzFound
-    ensures { result.refusal ∷ flag result.found ∷ result.value ∷ [] ≡ 0 ∷ 1 ∷ value ∷ [] }
-{
-    HzFound {
-        refusal: 0,
-        found: true,
-        value,
-    }
-}
+const NOTHING: HzFound = HzFound {
+    refusal: 0,
+    found: false,
+    value: 0,
+};
 
 fn absent(n: u32) -> HzFound
     ensures { result.refusal ∷ flag result.found ∷ result.value ∷ [] ≡ n ∷ 0 ∷ 0 ∷ [] }
 {
     HzFound {
         refusal: n,
-        found: false,
-        value: 0,
+        ..NOTHING
     }
 }
 
-// The four are compiled into what calls them: a lookup in a sound table has no refusal, and 2.3 ns are then 7.8.
-#[inline(always)]
+pub fn user_told(o: Option<User>) -> HzFound
+    ensures { (c : Counts) → Numbered (got_user (Ok o) c) (optional 0) (result.refusal ∷ flag result.found ∷ result.value ∷ []) c }
+{
+    match o {
+        Some(u) => HzFound {
+            refusal: 0,
+            found: true,
+            value: u.0,
+        },
+        None => NOTHING,
+    }
+}
+
 pub fn user_out(r: Result<Option<User>, Refusal>) -> HzFound
     ensures { (c : Counts) → Numbered (got_user r c) (optional 0) (result.refusal ∷ flag result.found ∷ result.value ∷ []) c }
 {
     match r {
-        Ok(Some(u)) => present(u.0),
-        Ok(None) => absent(0),
+        Ok(o) => user_told(o),
         Err(e) => absent(u32::from(e)),
     }
 }
 
-#[inline(always)]
+pub fn global_told(o: Option<Global>) -> HzFound
+    ensures { (c : Counts) → Numbered (got_global (Ok o) c) (optional 0) (result.refusal ∷ flag result.found ∷ result.value ∷ []) c }
+{
+    match o {
+        Some(g) => HzFound {
+            refusal: 0,
+            found: true,
+            value: g.0,
+        },
+        None => NOTHING,
+    }
+}
+
 pub fn global_out(r: Result<Option<Global>, Refusal>) -> HzFound
     ensures { (c : Counts) → Numbered (got_global r c) (optional 0) (result.refusal ∷ flag result.found ∷ result.value ∷ []) c }
 {
     match r {
-        Ok(Some(g)) => present(g.0),
-        Ok(None) => absent(0),
+        Ok(o) => global_told(o),
         Err(e) => absent(u32::from(e)),
     }
 }
 
-#[inline(always)]
+pub fn solver_told(o: Option<Solver>) -> HzFound
+    ensures { (c : Counts) → Numbered (got_solver (Ok o) c) (optional 0) (result.refusal ∷ flag result.found ∷ result.value ∷ []) c }
+{
+    match o {
+        Some(s) => HzFound {
+            refusal: 0,
+            found: true,
+            value: s.0,
+        },
+        None => NOTHING,
+    }
+}
+
 pub fn solver_out(r: Result<Option<Solver>, Refusal>) -> HzFound
     ensures { (c : Counts) → Numbered (got_solver r c) (optional 0) (result.refusal ∷ flag result.found ∷ result.value ∷ []) c }
 {
     match r {
-        Ok(Some(s)) => present(s.0),
-        Ok(None) => absent(0),
+        Ok(o) => solver_told(o),
         Err(e) => absent(u32::from(e)),
     }
 }
 
-#[inline(always)]
+pub fn word_told(o: Option<u32>) -> HzFound
+    ensures { (c : Counts) → Numbered (got_word (Ok o) c) (optional 0) (result.refusal ∷ flag result.found ∷ result.value ∷ []) c }
+{
+    match o {
+        Some(w) => HzFound {
+            refusal: 0,
+            found: true,
+            value: w,
+        },
+        None => NOTHING,
+    }
+}
+
 pub fn word_out(r: Result<Option<u32>, Refusal>) -> HzFound
     ensures { (c : Counts) → Numbered (got_word r c) (optional 0) (result.refusal ∷ flag result.found ∷ result.value ∷ []) c }
 {
     match r {
-        Ok(Some(w)) => present(w),
-        Ok(None) => absent(0),
+        Ok(o) => word_told(o),
         Err(e) => absent(u32::from(e)),
     }
 }

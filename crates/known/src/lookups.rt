@@ -6,7 +6,7 @@ ghost use Rattle.scope.specs.Lookup.{global_from_user_of, user_from_global_of, s
 ghost use Rattle.scope.specs.Steps.{flag};
 ghost use Rattle.numbers.specs.Surface.{optional, Given};
 
-use answers::found::{HzFound, global_out, solver_out, user_out, word_out};
+use answers::found::{HzFound, global_told, solver_told, user_told, word_told};
 use scope::{Global, Solver, User};
 
 // From a user to its global: `global_from_user_of`; the others likewise.
@@ -16,7 +16,7 @@ pub extern "C" fn hz_global_from_user_in(gu: &[u32], user: u32) -> HzFound
         → Given (global_from_user_of t user) (optional 0) (result.refusal ∷ flag result.found ∷ result.value ∷ []) t [] [] }
 {
     let r = var_map::global_from_user_in(gu, User(user));
-    global_out(Ok(r))
+    global_told(r)
 }
 
 #[unsafe(no_mangle)]
@@ -25,7 +25,7 @@ pub extern "C" fn hz_user_from_global_in(ug: &[u32], global: u32) -> HzFound
         → Given (user_from_global_of t global) (optional 0) (result.refusal ∷ flag result.found ∷ result.value ∷ []) t [] [] }
 {
     let r = var_map::user_from_global_in(ug, Global(global));
-    user_out(Ok(r))
+    user_told(r)
 }
 
 #[unsafe(no_mangle)]
@@ -34,7 +34,7 @@ pub extern "C" fn hz_solver_from_global_in(sg: &[u32], global: u32) -> HzFound
         → Given (solver_from_global_of t global) (optional 0) (result.refusal ∷ flag result.found ∷ result.value ∷ []) t [] [] }
 {
     let r = var_map::solver_from_global_in(sg, Global(global));
-    solver_out(Ok(r))
+    solver_told(r)
 }
 
 #[unsafe(no_mangle)]
@@ -43,7 +43,7 @@ pub extern "C" fn hz_global_from_solver_in(gs: &[u32], solver: u32) -> HzFound
         → Given (global_from_solver_of t solver) (optional 0) (result.refusal ∷ flag result.found ∷ result.value ∷ []) t [] [] }
 {
     let r = var_map::global_from_solver_in(gs, Solver(solver));
-    global_out(Ok(r))
+    global_told(r)
 }
 
 // The record of a global; `mark` is the global watermark.
@@ -53,7 +53,7 @@ pub extern "C" fn hz_record_in(mark: u32, records: &[u32], global: u32) -> HzFou
         → Given (record_word_of t global) (optional 0) (result.refusal ∷ flag result.found ∷ result.value ∷ []) t [] [] }
 {
     let r = var_map::record_in(mark, records, Global(global));
-    word_out(Ok(r))
+    word_told(r)
 }
 
 // The assignment word of a solver index; `mark` is the solver watermark.
@@ -63,5 +63,5 @@ pub extern "C" fn hz_assignment_in(mark: u32, assignment: &[u32], solver: u32) -
         → Given (assignment_word_of t solver) (optional 0) (result.refusal ∷ flag result.found ∷ result.value ∷ []) t [] [] }
 {
     let r = var_map::assignment_in(mark, assignment, Solver(solver));
-    word_out(Ok(r))
+    word_told(r)
 }

@@ -10,7 +10,7 @@ use lib.Seq.{sets}
 use Rattle.base.proofs.Truth.{split}
 use Rattle.scope.specs.declared.Counts.{Counts}
 use Rattle.scope.specs.declared.Global.{Global}
-use Rattle.scope.specs.Table.{Table, table_of, map_counts, give_user}
+use Rattle.scope.specs.Table.{Table, table_of, map_counts, give_user, with_used, cover_user}
 use Rattle.scope.specs.Sound.{soundb}
 use Rattle.scope.specs.Notes.{notes_words}
 use Rattle.scope.specs.Outcome.{Result, stay, each}
@@ -23,7 +23,7 @@ use Rattle.changes.proofs.LeavesLaws.{leaves_stay, leaves_giving, leaves_then, l
 use Rattle.changes.proofs.TurnLaws.{turns_more}
 use Rattle.mapping.specs.Parts.{free, free_for}
 use Rattle.mapping.specs.declared.Mapped.{Mapped}
-use Rattle.mapping.specs.Asks.{MapAsks, Rest, rest_of, counts_after, table_beside, UpAsks, UpLeaves}
+use Rattle.mapping.specs.Asks.{MapAsks, Rest, rest_of, counts_with, counts_after, table_beside, UpAsks, UpLeaves}
 use Rattle.mapping.proofs.FreeLaws.{taken_passed}
 
 -- a user below the capacity is a small number
@@ -302,3 +302,9 @@ pub up_leaves : (t : Table) (u at : ℕ) (m : Mapped) (c' : Counts) (gu' ug' rec
     → (m.global.0 ≡ (map_user u t).value)
     × Leaves (map_user u t) at m.at (table_of c' gu' ug' t.solver_from_global t.global_from_solver t.assignment records') words words'
 up_leaves t u at m c' gu' ug' records' words words' h l e = rw e (l.with (rest_of t) h)
+
+-- the counts of one mapping, made with 0 for those that it was not lent, with any others
+pub one_counts : (capacity users globals used u g n : ℕ) (d : Counts)
+    → d ≡ with_used (used + n) (cover_user (record { capacity = capacity; user = users; global = globals; solver = 0; used = used; next = 0 }) u g)
+    → (x : Rest) → counts_with capacity d.user d.global d.used x ≡ with_used (used + n) (cover_user (counts_with capacity users globals used x) u g)
+one_counts capacity users globals used u g n d e x = λ i. counts_with capacity (e i).user (e i).global (e i).used x

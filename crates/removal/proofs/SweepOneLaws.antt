@@ -2,11 +2,15 @@
 use Rattle.std.specs.Prelude.{Some, None}
 use Prim.Native.Nat.{ℕ, zero, suc, ◌+◌, ◌*◌, ◌/◌, ◌%◌, ◌≤◌, ◌<◌}
 use mathlib.Core.Path.{◌≡◌, refl, sym, ap, ◌∙◌, subst}
-use mathlib.Core.Bool.{true, false}
+use mathlib.Core.Bool.{true, false, ◌&&◌}
+use mathlib.Core.Logic.{⊎_elim}
 use mathlib.Core.List.{List, []}
 use native.Mathlib.Numerals.{add-one}
 use native.Mathlib.Omega.{arith}
+use lib.Dec.{leb, ltb}
 use lib.ListN.{length, get_or, set, length-set}
+use borrow.Author.Tests.{lt-leb, le-leb, lt-ltb, le-ltb, eq-eqb, ne_eqb}
+use Rattle.base.proofs.Truth.{split}
 use lib.Seq.{set-get_or, get_or-set_same}
 use Rattle.scope.specs.declared.Counts.{Counts}
 use Rattle.scope.specs.declared.Global.{Global}
@@ -23,6 +27,13 @@ use Rattle.removal.specs.Counting.{removal_notes, learnt, is_loose, swept_notes,
 use Rattle.removal.specs.Asks.{Holding, RemoveAsks}
 
 -- ---- a record
+
+-- isolated and not assumed is a range
+pub loose_range : (w : ℕ) → w < 36 → (leb 9 w && ltb w 18) ≡ is_loose w
+loose_range w l = ⊎_elim (λ (k : w < 9). rw (lt-leb 9 w k, ne_eqb (w / 9 % 2) 1 (omega arith)))
+    (λ (k : 9 ≤ w). ⊎_elim (λ (m : w < 18). rw (le-leb 9 w k, lt-ltb w 18 m, eq-eqb (w / 9 % 2) 1 (omega arith), eq-eqb (w / 18 % 2) 0 (omega arith)))
+    (λ (m : 18 ≤ w). ⊎_elim (λ (n : w < 27). rw (le-leb 9 w k, le-ltb w 18 m, ne_eqb (w / 9 % 2) 1 (omega arith)))
+    (λ (n : 27 ≤ w). rw (le-leb 9 w k, le-ltb w 18 m, eq-eqb (w / 9 % 2) 1 (omega arith), ne_eqb (w / 18 % 2) 0 (omega arith))) (split w 27)) (split w 18)) (split w 9)
 
 pub learnt_none : (w v : ℕ) → v ≡ 0 → w ≡ learnt w v
 unfolding learnt word

@@ -1,4 +1,4 @@
--- The number and the values of each case of `Reduced`; no count changes.
+-- The number and the values of the answer of Simplify; no count changes.
 use Rattle.std.specs.Prelude.{[], ◌∷◌, Result, Ok, Err}
 use Rattle.base.specs.Choice.{pick}
 use Rattle.base.specs.Answer.{accepted, refused}

@@ -1,4 +1,4 @@
--- The number and the values of each case of the answers; no count changes.
+-- The number and the values of the answers of Rename and Write; no count changes.
 use Rattle.std.specs.Prelude.{ℕ, List, [], ◌∷◌, get_or, Result, Ok, Err}
 use Rattle.base.specs.Answer.{Answer, accepted, refused}
 use Rattle.scope.specs.Contract.{Said}
