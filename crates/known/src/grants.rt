@@ -47,7 +47,7 @@ pub extern "C" fn hz_known_grant(
     granted_out(r, c)
 }
 
-// A solver index that was found, or none.
+// A solver index that was found, or none. Names have the same of a global, and say why.
 fn once_out(r: Option<Solver>) -> HzFound
     ensures r_value { solver_found r ≡ pick result.found (result.value ∷ []) [] }
     ensures value_value { result.refusal ∷ flag result.found ∷ result.value ∷ [] ≡ optional 0 (accepted (pick result.found (result.value ∷ []) [])) }

@@ -80,7 +80,7 @@ pub extern "C" fn hz_known_new_user(
     new_mapped_out(r, c)
 }
 
-// A global that was found, or none.
+// A global that was found, or none. Grants have the same of a solver index: one over an `Option<u32>` goes through memory, as in answers.
 fn once_out(r: Option<Global>) -> HzFound
     ensures r_value { global_found r ≡ pick result.found (result.value ∷ []) [] }
     ensures value_value { result.refusal ∷ flag result.found ∷ result.value ∷ [] ≡ optional 0 (accepted (pick result.found (result.value ∷ []) [])) }

@@ -33,7 +33,8 @@ pub struct Mapped {
     pub at: usize,
 }
 
-// The least deleted global below the mark, else the mark; below `from` there is none.
+// The least deleted global below the mark, else the mark; below `from` there is none. Beside `least_free`, which tests for 0: one over a closure
+// would say of it in each contract what `NoneFree` and `least` say of a test here.
 fn least_deleted(records: &[u32], mark: u32, from: u32) -> u32
     requires mark_in_bounds { mark ≤ length records.now }
     requires none_free { NoneFree (free records.now) mark from }

@@ -1,4 +1,5 @@
 // Marks and Assign (document 01; `var_data_solver_mut`, `assign_lit`). How the contracts read: crates/scope/specs/Contract.antt.
+// The lists are parameters of their own, as the C interface lends them: by `&mut` only those that the call may change.
 #![tactic(auto)]
 
 ghost use Rattle.std.specs.Prelude.{◌≡◌, true, [], ◌≤◌};

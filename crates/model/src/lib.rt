@@ -1,4 +1,5 @@
 // Model: the value of every global, and the literals of the users that have one (src/model.rs, `model` of src/solver.rs).
+// The lists are parameters of their own, as the C interface lends them: by `&mut` only those that the call may change.
 #![tactic(auto)]
 
 ghost use Rattle.std.specs.Prelude.{◌≡◌, true, ◌≤◌, ◌<◌, length};

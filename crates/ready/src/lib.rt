@@ -1,4 +1,5 @@
 // Pose at once, in the lists that it reads, of a table known to be sound.
+// The lists are parameters of their own, as the C interface lends them.
 #![tactic(auto)]
 
 ghost use Rattle.std.specs.Prelude.{◌≡◌, true};

@@ -7,7 +7,7 @@ use std::alloc::{AllocError, Global};
 // The records hold it where a load sets no other word.
 const RECORD: u32 = 47;
 
-// The six lists, each with room for the longest.
+// The six lists, each with room for the longest. By name: an array is not taken apart behind a `&mut`.
 #[derive(Clone, Drop)]
 struct Lists {
     gu: Vec<u32>,

@@ -62,7 +62,7 @@ impl Scan {
         }
     }
 
-    // A number is at most 18446744073709551609.
+    // A number is at most 18446744073709551609, which is not the largest of its type: hence a test and no `checked_mul`.
     fn digit(&mut self, digit: u8) -> Result<(), Stop>
         requires { digit < 10 }
     {

@@ -1,4 +1,5 @@
 // Simplify a clause: a true literal drops it, false literals go, and the steps that say so are written.
+// The lists are parameters of their own, as the C interface lends them: by `&mut` only those that the call may change.
 #![tactic(auto)]
 
 mod clause;
@@ -30,12 +31,7 @@ use table::{Lists, copy_lits};
 fn add_flag(what: Simplified, redundant: bool) -> bool
     ensures { result ≡ flag_of what redundant }
 {
-    match what {
-        Simplified::Kept => false,
-        Simplified::Dropped => false,
-        Simplified::Shortened => redundant,
-        Simplified::Binary => false,
-    }
+    redundant & matches!(what, Simplified::Shortened)
 }
 
 fn delete_cause(redundant: bool, otherwise: DeleteClauseProof) -> DeleteClauseProof
