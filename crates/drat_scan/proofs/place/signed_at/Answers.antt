@@ -11,7 +11,6 @@ returns-in_err-get c = c.from_residual.ensures ∙ sym (signed_past c.args.s.now
 
 pub returns : goal.returns
 returns c =
-    let a = c.args in
     let m = c.minus-sign in
     let w = c.in_ok-get.ensures.lookup.3 in
-    c.decimal_at.ensures ∙ sym (signed_digits a.s.now a.at m.result w.0 (m.ensures.0 ∙ ap (λ (b : ℕ). pick (eqb b 45) 1 0) (w.1 0)))
+    c.decimal_at.ensures ∙ sym (signed_digits c.args.s.now c.args.at m.result w.0 (m.ensures.0 ∙ ap (λ (b : ℕ). pick (eqb b 45) 1 0) (w.1 0)))
