@@ -28,7 +28,7 @@ fn lead(b: u8, weight: u32) -> u32
     if b == 45 { 1 } else { weight * digit(b) }
 }
 
-// The code of a number: what its first byte adds, or the first two, and its last three digits, 0 (48) where it is shorter.
+// The code of a number: what its first byte adds (of five the first two, of one none), and the digits after it, filled up to three by 0 (48).
 fn code_of(front: u32, b: u8, c: u8, d: u8) -> u32
     requires { (front ≤ 510001) × (48 ≤ b) × (48 ≤ c) × (48 ≤ d) × (2 ≤ front + 200 * (b - 48) + 20 * (c - 48) + 2 * (d - 48)) }
     ensures { result + 2 ≡ front + 200 * (b - 48) + 20 * (c - 48) + 2 * (d - 48) }
