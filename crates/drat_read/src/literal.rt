@@ -28,40 +28,12 @@ fn lead(b: u8, weight: u32) -> u32
     if b == 45 { 1 } else { weight * digit(b) }
 }
 
-// The code of a number of one byte; of two, three and four; of a minus and four digits.
-fn code_1(a: u8) -> u32
-    requires { 49 ≤ a }
-    ensures { result + 2 ≡ 2 * (a - 48) }
+// The code of a number: what its first byte adds (of five the first two, of one none), and the digits after it, filled up to three by 0 (48).
+fn code_of(front: u32, b: u8, c: u8, d: u8) -> u32
+    requires { (front ≤ 510001) × (48 ≤ b) × (48 ≤ c) × (48 ≤ d) × (2 ≤ front + 200 * (b - 48) + 20 * (c - 48) + 2 * (d - 48)) }
+    ensures { result + 2 ≡ front + 200 * (b - 48) + 20 * (c - 48) + 2 * (d - 48) }
 {
-    2 * digit(a) - 2
-}
-
-fn code_2(a: u8, b: u8) -> u32
-    requires { MinusOrDigit a × (48 ≤ b) × (2 ≤ lead_of a 20 + 2 * (b - 48)) }
-    ensures { result + 2 ≡ lead_of a 20 + 2 * (b - 48) }
-{
-    lead(a, 20) + 2 * digit(b) - 2
-}
-
-fn code_3(a: u8, b: u8, c: u8) -> u32
-    requires { MinusOrDigit a × (48 ≤ b) × (48 ≤ c) × (2 ≤ lead_of a 200 + 20 * (b - 48) + 2 * (c - 48)) }
-    ensures { result + 2 ≡ lead_of a 200 + 20 * (b - 48) + 2 * (c - 48) }
-{
-    lead(a, 200) + 20 * digit(b) + 2 * digit(c) - 2
-}
-
-fn code_4(a: u8, b: u8, c: u8, d: u8) -> u32
-    requires { MinusOrDigit a × (48 ≤ b) × (48 ≤ c) × (48 ≤ d) × (2 ≤ lead_of a 2000 + 200 * (b - 48) + 20 * (c - 48) + 2 * (d - 48)) }
-    ensures { result + 2 ≡ lead_of a 2000 + 200 * (b - 48) + 20 * (c - 48) + 2 * (d - 48) }
-{
-    lead(a, 2000) + 200 * digit(b) + 20 * digit(c) + 2 * digit(d) - 2
-}
-
-fn code_5(b: u8, c: u8, d: u8, e: u8) -> u32
-    requires { (48 ≤ b) × (48 ≤ c) × (48 ≤ d) × (48 ≤ e) × (1 ≤ 2000 * (b - 48) + 200 * (c - 48) + 20 * (d - 48) + 2 * (e - 48)) }
-    ensures { result + 1 ≡ 2000 * (b - 48) + 200 * (c - 48) + 20 * (d - 48) + 2 * (e - 48) }
-{
-    2000 * digit(b) + 200 * digit(c) + 20 * digit(d) + 2 * digit(e) - 1
+    front + 200 * digit(b) + 20 * digit(c) + 2 * digit(d) - 2
 }
 
 // The number at a place, by how many bytes it has. The byte after it is below 45: no digit and no minus.
@@ -73,33 +45,33 @@ pub fn literal_at(s: &[u8], at: usize) -> Literal
     let b = s[at + 1];
     if b < 45 {
         return Literal {
-            code: code_1(a),
+            code: code_of(0, 48, 48, a),
             next: at + 1,
         };
     }
     let c = s[at + 2];
     if c < 45 {
         return Literal {
-            code: code_2(a, b),
+            code: code_of(lead(a, 20), 48, 48, b),
             next: at + 2,
         };
     }
     let d = s[at + 3];
     if d < 45 {
         return Literal {
-            code: code_3(a, b, c),
+            code: code_of(lead(a, 200), 48, b, c),
             next: at + 3,
         };
     }
     let e = s[at + 4];
     if e < 45 {
         return Literal {
-            code: code_4(a, b, c, d),
+            code: code_of(lead(a, 2000), b, c, d),
             next: at + 4,
         };
     }
     Literal {
-        code: code_5(b, c, d, e),
+        code: code_of(1 + 2000 * digit(b), c, d, e),
         next: at + 5,
     }
 }

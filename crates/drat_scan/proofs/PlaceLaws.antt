@@ -1,6 +1,6 @@
 -- What stands at a place: numbers, separators, and the gaps after them.
 use Prim.Native.Nat.{ℕ, suc, ◌+◌, ◌≤◌, ◌<◌}
-use mathlib.Core.Bool.{Bool, true, false, not}
+use mathlib.Core.Bool.{Bool, true, false}
 use mathlib.Core.List.{List}
 use mathlib.Core.Path.{◌≡◌, refl, sym, ap, ◌∙◌}
 use lib.Dec.{eqb}
@@ -18,14 +18,6 @@ use Rattle.drat.specs.declared.Kind.TheVariants.{Delete}
 use Rattle.drat.specs.declared.Token.TheVariants.{Lit}
 use Rattle.std.specs.Prelude.{Some, None}
 use Rattle.drat.specs.Reading.{opens}
-
-pub not_true : (t : Bool) → not t ≡ true → t ≡ false
-not_true true h = sym h
-not_true false h = refl
-
-pub not_false : (t : Bool) → not t ≡ false → t ≡ true
-not_false true h = refl
-not_false false h = sym h
 
 -- a number: an optional minus, then digits
 pub signed_digits : (s : List ℕ) (i sign : ℕ) → i < length s → sign ≡ pick (eqb (get_or s i 0) 45) 1 0

@@ -86,10 +86,7 @@ fn decimal_at(s: &[u8], at: usize, sign: u32) -> Option<Token>
 pub fn signed_at(s: &[u8], at: usize) -> Option<Token>
     ensures { result ≡ signed_from at (drop at s.now) }
 {
-    if s.len() <= at {
-        return None;
-    }
-    let sign = minus(s[at]);
+    let sign = minus(*s.get(at)?);
     decimal_at(s, at + sign as usize, sign)
 }
 
@@ -97,10 +94,7 @@ pub fn signed_at(s: &[u8], at: usize) -> Option<Token>
 fn gap_after(s: &[u8], code: u32, end: usize) -> Option<Token>
     ensures { result ≡ pick (sep (get_or s.now end 0)) (Some (Lit code (end + seps (drop end s.now)))) None }
 {
-    if s.len() <= end {
-        return None;
-    }
-    if is_sep(s[end]) {
+    if is_sep(*s.get(end)?) {
         return Some(Token::Lit(code, past_seps(s, end + 1)));
     }
     None
@@ -123,10 +117,7 @@ fn close_at(s: &[u8], at: usize) -> Option<Token>
 pub(crate) fn text_token(s: &[u8], at: usize) -> Option<Token>
     ensures { result ≡ token Text at (drop at s.now) }
 {
-    if s.len() <= at {
-        return None;
-    }
-    if s[at] == 48 {
+    if *s.get(at)? == 48 {
         return close_at(s, at + 1);
     }
     match signed_at(s, at) {
@@ -170,10 +161,7 @@ fn leb_at(s: &[u8], at: usize) -> Option<Token>
 pub(crate) fn binary_token(s: &[u8], at: usize) -> Option<Token>
     ensures { result ≡ token Binary at (drop at s.now) }
 {
-    if s.len() <= at {
-        return None;
-    }
-    if s[at] == 0 {
+    if *s.get(at)? == 0 {
         return Some(Token::Stop(at + 1));
     }
     leb_at(s, at)
@@ -183,10 +171,7 @@ pub(crate) fn binary_token(s: &[u8], at: usize) -> Option<Token>
 fn gap_at(s: &[u8], at: usize) -> Option<(Kind, usize)>
     ensures { result ≡ gap_from at (drop at s.now) }
 {
-    if s.len() <= at {
-        return None;
-    }
-    if is_sep(s[at]) {
+    if is_sep(*s.get(at)?) {
         return Some((Kind::Delete, past_seps(s, at + 1)));
     }
     None
@@ -196,10 +181,7 @@ fn gap_at(s: &[u8], at: usize) -> Option<(Kind, usize)>
 pub(crate) fn opening_at(f: Format, s: &[u8], at: usize) -> Option<(Kind, usize)>
     ensures { result ≡ opening f at (drop at s.now) }
 {
-    if s.len() <= at {
-        return None;
-    }
-    let b = s[at];
+    let b = *s.get(at)?;
     match f {
         Format::Text => {
             if b == 100 {

@@ -9,30 +9,26 @@ use Rattle.drat_scan.proofs.place.decimal_at.Goals as goal
 
 pub returns-then-b-lt48 : goal.returns-then-b-lt48
 returns-then-b-lt48 c =
-    let a = c.args in
     let l = c.loop-i in
-    let d = digits_here a.s.now l.i (omega arith) a.sign l.v in
+    let d = digits_here c.args.s.now l.i (omega arith) c.args.sign l.v in
     c.literal.ensures ∙ sym (sym l.invariant.1 ∙ d ∙ simp (below_range 48 57 _ c.if-b-lt48.true))
 
 pub returns-then-b-gt57 : goal.returns-then-b-gt57
 returns-then-b-gt57 c =
-    let a = c.args in
     let l = c.loop-i in
-    let d = digits_here a.s.now l.i (omega arith) a.sign l.v in
+    let d = digits_here c.args.s.now l.i (omega arith) c.args.sign l.v in
     c.literal-then-b-gt57.ensures ∙ sym (sym l.invariant.1 ∙ d ∙ simp (above_range 48 57 _ c.if-b-gt57.true))
 
 pub returns-then-w-eq0 : goal.returns-then-w-eq0
 returns-then-w-eq0 c =
-    let a = c.args in
     let l = c.loop-i in
-    let d = digits_here a.s.now l.i (omega arith) a.sign l.v in
+    let d = digits_here c.args.s.now l.i (omega arith) c.args.sign l.v in
     sym (sym l.invariant.1 ∙ d ∙ simp (is_in_range 48 57 _ c.if-b-lt48.false c.if-b-gt57.false, eq-eqb _ _ c.if-w-eq0.true))
 
 pub returns-then-w-gt4096 : goal.returns-then-w-gt4096
 returns-then-w-gt4096 c =
-    let a = c.args in
     let l = c.loop-i in
-    let d = digits_here a.s.now l.i (omega arith) a.sign l.v in
+    let d = digits_here c.args.s.now l.i (omega arith) c.args.sign l.v in
     sym (sym l.invariant.1 ∙ d ∙ simp (
       is_in_range 48 57 _ c.if-b-lt48.false c.if-b-gt57.false,
       ne_eqb _ _
@@ -42,9 +38,8 @@ returns-then-w-gt4096 c =
 
 pub loop-i-preserved : goal.loop-i-preserved
 loop-i-preserved c =
-    let a = c.args in
     let l = c.loop-i in
-    let d = digits_here a.s.now l.i (omega arith) a.sign l.v in (
+    let d = digits_here c.args.s.now l.i (omega arith) c.args.sign l.v in (
       c.if-w-gt4096.false,
       sym (sym l.invariant.1 ∙ d ∙ simp (
         is_in_range 48 57 _ c.if-b-lt48.false c.if-b-gt57.false,

@@ -1,6 +1,6 @@
-use Prim.Native.Nat.{◌-◌, ◌≤◌, ◌<◌}
+use Prim.Native.Nat.{◌≤◌, ◌<◌}
 use mathlib.Core.Path.{◌≡◌}
-use lib.ListN.{length, drop}
+use lib.ListN.{drop}
 use Rattle.drat.specs.Reading.{leb_from}
 use Rattle.drat_scan.proofs.place.leb_at.Given as goal
 

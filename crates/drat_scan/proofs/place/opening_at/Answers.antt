@@ -6,45 +6,48 @@ use Rattle.drat.specs.Reading.{opening}
 use Rattle.drat.specs.declared.Format.{Format}
 use Rattle.drat_scan.proofs.place.opening_at.Goals as goal
 
-pub returns-then-s-at : goal.returns-then-s-at
-returns-then-s-at c =
-    let a = c.args in
-    sym (opening_past a.s.now a.at c.if-s-at.true a.f)
+pub returns-in_err-b : goal.returns-in_err-b
+returns-in_err-b c = c.from_residual.ensures ∙ sym (opening_past c.args.s.now c.args.at c.in_err-b.ensures.lookup.3 c.args.f)
 
 pub returns-then-b-eq100 : goal.returns-then-b-eq100
 returns-then-b-eq100 c =
     let a = c.args in
+    let w = c.in_ok-b.ensures.lookup.3 in
     c.gap_at.ensures ∙ sym (ap (λ (f : Format). opening f a.at (drop a.at a.s.now)) c.in-Text.is
-    ∙ text_opens a.s.now a.at c.if-s-at.false ∙ simp (eq-eqb _ _ c.if-b-eq100.true))
+    ∙ text_opens a.s.now a.at w.0 ∙ simp (eq-eqb _ _ (sym (w.1 0) ∙ c.if-b-eq100.true)))
 
 pub returns-then-b-eq97 : goal.returns-then-b-eq97
 returns-then-b-eq97 c =
     let a = c.args in
+    let w = c.in_ok-b.ensures.lookup.3 in
     sym (ap (λ (f : Format). opening f a.at (drop a.at a.s.now)) c.in-Binary.is
-    ∙ binary_opens a.s.now a.at c.if-s-at.false ∙ simp (eq-eqb _ _ c.if-b-eq97.true))
+    ∙ binary_opens a.s.now a.at w.0 ∙ simp (eq-eqb _ _ (sym (w.1 0) ∙ c.if-b-eq97.true)))
 
 pub returns-then-b-eq100-2 : goal.returns-then-b-eq100-2
 returns-then-b-eq100-2 c =
     let a = c.args in
+    let w = c.in_ok-b.ensures.lookup.3 in
     sym (ap (λ (f : Format). opening f a.at (drop a.at a.s.now)) c.in-Binary.is
-    ∙ binary_opens a.s.now a.at c.if-s-at.false ∙ simp (
-      ne_eqb _ _ c.if-b-eq97.false,
+    ∙ binary_opens a.s.now a.at w.0 ∙ simp (
+      ne_eqb _ _ (λ z. c.if-b-eq97.false (w.1 0 ∙ z)),
       eq-eqb _ _
-          c.if-b-eq100-2.true,
+          (sym (w.1 0) ∙ c.if-b-eq100-2.true),
     ))
 
 pub returns-else-b-eq100 : goal.returns-else-b-eq100
 returns-else-b-eq100 c =
     let a = c.args in
+    let w = c.in_ok-b.ensures.lookup.3 in
     sym (ap (λ (f : Format). opening f a.at (drop a.at a.s.now)) c.in-Text.is
-    ∙ text_opens a.s.now a.at c.if-s-at.false ∙ simp (ne_eqb _ _ c.if-b-eq100.false))
+    ∙ text_opens a.s.now a.at w.0 ∙ simp (ne_eqb _ _ (λ z. c.if-b-eq100.false (w.1 0 ∙ z))))
 
 pub returns-else-b-eq100-2 : goal.returns-else-b-eq100-2
 returns-else-b-eq100-2 c =
     let a = c.args in
+    let w = c.in_ok-b.ensures.lookup.3 in
     sym (ap (λ (f : Format). opening f a.at (drop a.at a.s.now)) c.in-Binary.is
-    ∙ binary_opens a.s.now a.at c.if-s-at.false ∙ simp (
-      ne_eqb _ _ c.if-b-eq97.false,
+    ∙ binary_opens a.s.now a.at w.0 ∙ simp (
+      ne_eqb _ _ (λ z. c.if-b-eq97.false (w.1 0 ∙ z)),
       ne_eqb _ _
-          c.if-b-eq100-2.false,
+          (λ z. c.if-b-eq100-2.false (w.1 0 ∙ z)),
     ))

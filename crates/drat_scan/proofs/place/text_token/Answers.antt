@@ -10,22 +10,20 @@ use Rattle.drat.specs.declared.Format.TheVariants.{Text}
 use Rattle.drat_scan.proofs.PlaceLaws.{text_literal}
 use Rattle.drat_scan.proofs.place.text_token.Goals as goal
 
-pub returns-then-s-at : goal.returns-then-s-at
-returns-then-s-at c =
-    let a = c.args in
-    sym (token_past a.s.now a.at c.if-s-at.true Text)
+pub returns-in_err-get : goal.returns-in_err-get
+returns-in_err-get c = c.from_residual.ensures ∙ sym (token_past c.args.s.now c.args.at c.in_err-get.ensures.lookup.3 Text)
 
-pub returns-then-s-at-eq48 : goal.returns-then-s-at-eq48
-returns-then-s-at-eq48 c =
-    let a = c.args in
-    c.close_at.ensures ∙ sym (text_here a.s.now a.at c.if-s-at.false ∙ simp (eq-eqb _ _ c.if-s-at-eq48.true))
+pub returns-then-branch-eq48 : goal.returns-then-branch-eq48
+returns-then-branch-eq48 c =
+    let w = c.in_ok-get.ensures.lookup.3 in
+    c.close_at.ensures ∙ sym (text_here c.args.s.now c.args.at w.0 ∙ simp (eq-eqb _ _ (sym (w.1 0) ∙ c.if-branch-eq48.true)))
 
 pub returns-in-Some-Lit : goal.returns-in-Some-Lit
 returns-in-Some-Lit c =
     let a = c.args in
     let s = a.s.now in
-    let t = text_literal s a.at c.if-s-at.false
-    c.if-s-at-eq48.false in
+    let w = c.in_ok-get.ensures.lookup.3 in
+    let t = text_literal s a.at w.0 (λ z. c.if-branch-eq48.false (w.1 0 ∙ z)) in
     let e = sym c.signed_at.ensures ∙ c.in-Some-Lit.is ∙ ap Some c.in-Some-Lit.field-0-is in
     let code = c.in-Some-Lit.code in
     let end = c.in-Some-Lit.end in
@@ -36,7 +34,8 @@ pub returns-in-Some-Stop : goal.returns-in-Some-Stop
 returns-in-Some-Stop c =
     let a = c.args in
     let s = a.s.now in
-    let t = text_literal s a.at c.if-s-at.false c.if-s-at-eq48.false in
+    let w = c.in_ok-get.ensures.lookup.3 in
+    let t = text_literal s a.at w.0 (λ z. c.if-branch-eq48.false (w.1 0 ∙ z)) in
     sym (t ∙ ap (then_gap a.at (drop a.at s)) (sym c.signed_at.ensures ∙ c.in-Some-Stop.is ∙ ap Some c.in-Some-Stop.field-0-is)
     ∙ gap_stop a.at (drop a.at s) _)
 
@@ -44,6 +43,7 @@ pub returns-in-None : goal.returns-in-None
 returns-in-None c =
     let a = c.args in
     let s = a.s.now in
-    let t = text_literal s a.at c.if-s-at.false c.if-s-at-eq48.false in
+    let w = c.in_ok-get.ensures.lookup.3 in
+    let t = text_literal s a.at w.0 (λ z. c.if-branch-eq48.false (w.1 0 ∙ z)) in
     sym (t ∙ ap (then_gap a.at (drop a.at s)) (sym c.signed_at.ensures ∙ c.in-None.is)
     ∙ gap_bad a.at (drop a.at s))

@@ -31,14 +31,13 @@ loop-next-init c =
 
 pub loop-next-smaller : goal.loop-next-smaller
 loop-next-smaller c =
-    let a = c.args in
-    let s = a.s.now in
+    let s = c.args.s.now in
     let hb : Bytes s = λ i. omega (arith, c.type_inv.s i) in
     let l = c.loop-next in
     let ch = c.in-Some-Lit.field-0-0 in
     let nx = c.in-Some-Lit.next in
     let et = sym c.token_at.ensures ∙ c.in-Some-Lit.is ∙ ap Some c.in-Some-Lit.field-0-is in
-    let v = lit_at a.f s hb l.at l.invariant.inner.within ch nx et in
+    let v = lit_at c.args.f s hb l.at l.invariant.inner.within ch nx et in
     omega (arith, v.1, v.2)
 
 pub loop-next-preserved : goal.loop-next-preserved
@@ -105,12 +104,11 @@ returns-then-place-s c =
 
 pub returns-else-place-s : goal.returns-else-place-s
 returns-else-place-s c =
-    let a = c.args in
-    let s = a.s.now in
+    let s = c.args.s.now in
     let hb : Bytes s = λ i. omega (arith, c.type_inv.s i) in
     let o = c.steps in
     elim c.if-s-at.branch [
-      | then-s-at w ↦ ap (λ (x : ℕ). Ok (size x o.m)) w.n-is ∙ between_end a.f s o.at o.n o.m hb o.invariant w.if-s-at.true
+      | then-s-at w ↦ ap (λ (x : ℕ). Ok (size x o.m)) w.n-is ∙ between_end c.args.f s o.at o.n o.m hb o.invariant w.if-s-at.true
       | else-s-at+in_default w ↦ absurd (omega arith)
       | else-s-at+in-Some+in-None w ↦ absurd (omega arith)
     ]

@@ -29,11 +29,10 @@ loop-next-init c =
 
 pub loop-next-smaller : goal.loop-next-smaller
 loop-next-smaller c =
-    let a = c.args in
-    let s = a.s.now in
+    let s = c.args.s.now in
     let hb : Bytes s = λ i. omega (arith, c.type_inv.s i) in
     let l = c.loop-next in
-    let v = lit_at a.f s hb l.at l.invariant.0 c.in-Some-Lit.field-0-0 c.in-Some-Lit.next
+    let v = lit_at c.args.f s hb l.at l.invariant.0 c.in-Some-Lit.field-0-0 c.in-Some-Lit.next
     (sym c.token_at.ensures ∙ c.in-Some-Lit.is ∙ ap Some c.in-Some-Lit.field-0-is) in
     omega (arith, v.1, v.2)
 
