@@ -9,36 +9,8 @@ use dimacs::{CnfError, CnfSize};
 use dimacs_read::read_cnf;
 use dimacs_write::write_cnf;
 use drat::WriteError;
+use score::Score;
 use std::io;
-
-// The vectors run, and those of them that came out otherwise.
-#[derive(Clone, Copy)]
-struct Score {
-    run: u64,
-    wrong: u64,
-}
-
-impl Score {
-    fn none() -> Score {
-        Score { run: 0, wrong: 0 }
-    }
-
-    fn told(&mut self, rt: &impl Print, ok: bool) -> io::Result<()> {
-        self.run = self.run.wrapping_add(1);
-        if ok {
-            return Ok(());
-        }
-        self.wrong = self.wrong.wrapping_add(1);
-        let run = self.run;
-        println!(rt; "wrong: vector {run}")
-    }
-
-    fn summary(&self, rt: &impl Print, name: &str) -> io::Result<()> {
-        let run = self.run;
-        let wrong = self.wrong;
-        println!(rt; "{name}: {run} vectors, {wrong} wrong")
-    }
-}
 
 // Whether the words lent are those wanted, and past them each is what it was before the call.
 fn holds<T: Copy + PartialEq>(lent: &[T], want: &[T], before: T) -> bool {
@@ -540,28 +512,28 @@ fn published(rt: &impl Print) -> io::Result<()> {
     aligned(rt, &mut t)?;
     four_variables(rt, &mut t)?;
     satlib(rt, &mut t)?;
-    t.summary(rt, "published")
+    println!(rt; "published: {t}")
 }
 
 fn forms(rt: &impl Print) -> io::Result<()> {
     let mut t = Score::none();
     small(rt, &mut t)?;
     plain(rt, &mut t)?;
-    t.summary(rt, "both ways")?;
+    println!(rt; "both ways: {t}")?;
     let mut t = Score::none();
     comments(rt, &mut t)?;
-    t.summary(rt, "comments")?;
+    println!(rt; "comments: {t}")?;
     let mut t = Score::none();
     headers(rt, &mut t)?;
     openings(rt, &mut t)?;
-    t.summary(rt, "headers")?;
+    println!(rt; "headers: {t}")?;
     let mut t = Score::none();
     numbers(rt, &mut t)?;
     lines(rt, &mut t)?;
-    t.summary(rt, "lines")?;
+    println!(rt; "lines: {t}")?;
     let mut t = Score::none();
     counts(rt, &mut t)?;
-    t.summary(rt, "counts")
+    println!(rt; "counts: {t}")
 }
 
 // A write that fails ends the run.
@@ -570,14 +542,14 @@ fn main(rt: HostRuntime) -> io::Result<()> {
     forms(&rt)?;
     let mut t = Score::none();
     shorts(&rt, &mut t)?;
-    t.summary(&rt, "short")?;
+    println!(rt; "short: {t}")?;
     let mut t = Score::none();
     refused(&rt, &mut t)?;
-    t.summary(&rt, "unwritten")?;
+    println!(rt; "unwritten: {t}")?;
     let mut t = Score::none();
     codes(&rt, &mut t)?;
-    t.summary(&rt, "every code")?;
+    println!(rt; "every code: {t}")?;
     let mut t = Score::none();
     empties(&rt, &mut t)?;
-    t.summary(&rt, "empty clauses")
+    println!(rt; "empty clauses: {t}")
 }

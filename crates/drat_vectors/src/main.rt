@@ -5,24 +5,12 @@
 ghost use Rattle.std.specs.Prelude.{◌≤◌, ◌<◌};
 
 use drat::{Format, Kind, WriteError};
+use score::Agreed;
 use std::alloc::{AllocError, Global};
 use std::io;
 
 fn byte(s: &[u8], i: usize) -> u8 {
     s.get(i).copied().unwrap_or(0)
-}
-
-fn line(rt: &impl Print, name: &str, agree: usize, of: usize) -> io::Result<()> {
-    println!(rt; "{name}: {agree} of {of}")
-}
-
-fn vectors(rt: &impl Print, name: &str, agree: &[bool]) -> io::Result<()> {
-    line(
-        rt,
-        name,
-        agree.iter().filter(|ok| **ok).count(),
-        agree.len(),
-    )
 }
 
 // A number in LEB128 into six bytes of 170, by the function with which the writer writes a code: whether they are then as in the image.
@@ -220,30 +208,27 @@ fn code(alloc: Global, f: Format, c: u32) -> Result<bool, AllocError>
     }
 }
 
-fn codes(alloc: Global, f: Format) -> Result<usize, AllocError> {
+fn codes(alloc: Global, f: Format) -> Result<Agreed, AllocError> {
     let mut n = 0;
     for c in 0..8192 {
         if code(alloc, f, c)? {
             n += 1;
         }
     }
-    Ok(n)
+    Ok(Agreed { agree: n, of: 8192 })
 }
 
 // A write that fails ends the run, as does memory that is lacking.
 fn main(rt: HostRuntime) -> io::Result<()> {
-    vectors(&rt, "leb128", &leb128())?;
-    vectors(&rt, "drat-trim", &drat_trim())?;
-    vectors(&rt, "case 6", &case6())?;
-    vectors(&rt, "case 7", &case7())?;
-    vectors(&rt, "case 8", &case8())?;
-    vectors(&rt, "refusal 3", &outside())?;
-    vectors(&rt, "refusal 2", &lacking())?;
-    line(&rt, "codes in text", codes(rt.alloc(), Format::Text)?, 8192)?;
-    line(
-        &rt,
-        "codes in binary",
-        codes(rt.alloc(), Format::Binary)?,
-        8192,
-    )
+    println!(rt; "leb128: {}", Agreed::among(&leb128()))?;
+    println!(rt; "drat-trim: {}", Agreed::among(&drat_trim()))?;
+    println!(rt; "case 6: {}", Agreed::among(&case6()))?;
+    println!(rt; "case 7: {}", Agreed::among(&case7()))?;
+    println!(rt; "case 8: {}", Agreed::among(&case8()))?;
+    println!(rt; "refusal 3: {}", Agreed::among(&outside()))?;
+    println!(rt; "refusal 2: {}", Agreed::among(&lacking()))?;
+    let text = codes(rt.alloc(), Format::Text)?;
+    println!(rt; "codes in text: {text}")?;
+    let binary = codes(rt.alloc(), Format::Binary)?;
+    println!(rt; "codes in binary: {binary}")
 }

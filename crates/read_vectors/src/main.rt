@@ -7,14 +7,8 @@ ghost use Rattle.std.specs.Prelude.{◌≤◌};
 use drat::Format::{Binary, Text};
 use drat::{Format, ReadError, Size};
 use drat_read::{first_step, first_token, read_proof};
+use score::Score;
 use std::io;
-
-// The vectors run, and those of them that came out otherwise.
-#[derive(Clone, Copy)]
-struct Score {
-    run: u64,
-    wrong: u64,
-}
 
 // What a call must answer, and the words that the three slices must then hold.
 #[derive(Clone, Copy)]
@@ -23,28 +17,6 @@ struct Want {
     codes: [u32; 4],
     ends: [u64; 4],
     kinds: [u8; 4],
-}
-
-impl Score {
-    fn none() -> Score {
-        Score { run: 0, wrong: 0 }
-    }
-
-    fn told(&mut self, rt: &impl Print, ok: bool) -> io::Result<()> {
-        self.run = self.run.wrapping_add(1);
-        if ok {
-            return Ok(());
-        }
-        self.wrong = self.wrong.wrapping_add(1);
-        let run = self.run;
-        println!(rt; "wrong: vector {run}")
-    }
-
-    fn summary(&self, rt: &impl Print, name: &str) -> io::Result<()> {
-        let run = self.run;
-        let wrong = self.wrong;
-        println!(rt; "{name}: {run} vectors, {wrong} wrong")
-    }
 }
 
 fn filled(n: usize, m: usize, codes: [u32; 4], ends: [u64; 4], kinds: [u8; 4]) -> Want {
@@ -324,23 +296,23 @@ fn faults(rt: &impl Print) -> io::Result<()> {
     text_tokens(rt, &mut t)?;
     text_sizes(rt, &mut t)?;
     text_cuts(rt, &mut t)?;
-    t.summary(rt, "text faults")?;
+    println!(rt; "text faults: {t}")?;
     let mut t = Score::none();
     binary_codes(rt, &mut t)?;
     binary_steps(rt, &mut t)?;
-    t.summary(rt, "binary faults")
+    println!(rt; "binary faults: {t}")
 }
 
 fn wholes(rt: &impl Print) -> io::Result<()> {
     let mut t = Score::none();
     text_whole(rt, &mut t)?;
     binary_whole(rt, &mut t)?;
-    t.summary(rt, "whole")?;
+    println!(rt; "whole: {t}")?;
     let mut t = Score::none();
     text_broken(rt, &mut t)?;
     far(rt, &mut t)?;
     wide(rt, &mut t)?;
-    t.summary(rt, "broken lines")
+    println!(rt; "broken lines: {t}")
 }
 
 // A write that fails ends the run.
@@ -349,9 +321,9 @@ fn main(rt: HostRuntime) -> io::Result<()> {
     wholes(&rt)?;
     let mut t = Score::none();
     shorts(&rt, &mut t)?;
-    t.summary(&rt, "short")?;
+    println!(rt; "short: {t}")?;
     let mut t = Score::none();
     text_parts(&rt, &mut t)?;
     binary_parts(&rt, &mut t)?;
-    t.summary(&rt, "first step")
+    println!(rt; "first step: {t}")
 }

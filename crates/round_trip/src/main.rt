@@ -3,12 +3,10 @@
 #![tactic(auto)]
 
 use drat::{Format, Kind, Size};
+use score::Agreed;
 use std::io;
 
-fn line(rt: &impl Print, name: &str, agree: usize, of: usize) -> io::Result<()> {
-    println!(rt; "{name}: {agree} of {of}")
-}
-
+// No From: its impl would stand in drat, where Kind is, and no library turns a kind into its number.
 fn kind_number(k: Kind) -> u8 {
     match k {
         Kind::Add => 0,
@@ -99,13 +97,16 @@ fn code(f: Format, k: Kind, c: u32, broken: bool) -> bool {
     first_reads(f, k, c, &out, e)
 }
 
-fn codes(f: Format, k: Kind, broken: bool) -> usize {
-    (0..8192).filter(|c| code(f, k, *c, broken)).count()
+fn codes(f: Format, k: Kind, broken: bool) -> Agreed {
+    Agreed {
+        agree: (0..8192).filter(|c| code(f, k, *c, broken)).count(),
+        of: 8192,
+    }
 }
 
 fn both(rt: &impl Print, adds: &str, deletes: &str, f: Format, broken: bool) -> io::Result<()> {
-    line(rt, adds, codes(f, Kind::Add, broken), 8192)?;
-    line(rt, deletes, codes(f, Kind::Delete, broken), 8192)
+    println!(rt; "{adds}: {}", codes(f, Kind::Add, broken))?;
+    println!(rt; "{deletes}: {}", codes(f, Kind::Delete, broken))
 }
 
 // A write that fails ends the run.
