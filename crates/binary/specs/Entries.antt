@@ -65,13 +65,6 @@ Named gs l es = (i : ℕ) → i < length es → Pair gs l (get_or es i 0)
 abbrev pub AllNamed : List ℕ → List (List ℕ) → Type 0
 AllNamed gs ss = (l : ℕ) → Named gs l (section_at ss l)
 
--- ---- the places alone
-
-pub record Rising (n : ℕ) (place : List ℕ) : Type 0 where
-  pub few : n ≤ 8192
-  pub size : length place ≡ 8193
-  pub rises : (l : ℕ) → l < n → get_or place l 0 < get_or place (l + 1) 0
-
 -- a watermark and a map of a sound table
 pub record Small (solver : ℕ) (gs : List ℕ) : Type 0 where
   pub mark : solver ≤ 4096

@@ -91,7 +91,7 @@ pub(crate) fn deletes_len(
     s: &Sections,
     room: usize,
 ) -> Result<usize, Refusal>
-    requires all_named { AllNamed gs.now (sections_of s.now.n s.now.lists.now) }
+    requires { AllNamed gs.now (sections_of s.now.n s.now.lists.now) }
     ensures { result ≡ laid (bytes_by f gs.now assignment.now (sections_of s.now.n s.now.lists.now)) room }
 {
     let mut used: usize = 0;

@@ -68,7 +68,7 @@ pub(crate) fn put_lists(
     s: &Sections,
     out: &mut [u32],
 )
-    requires lists_in_bounds { length (words_by assignment.now (sections_of s.now.n s.now.lists.now)) ≤ length out.old }
+    requires { length (words_by assignment.now (sections_of s.now.n s.now.lists.now)) ≤ length out.old }
     ensures { Fills (change out.old out.new) 0 (words_by assignment.now (sections_of s.now.n s.now.lists.now)) }
 {
     let mut at = 0;

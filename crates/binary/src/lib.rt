@@ -38,7 +38,7 @@ fn thin_placed(
     out: &mut [u32],
     bytes: &mut [u8],
 ) -> Result<Thinned, Refusal>
-    requires all_named { AllNamed gs.now (sections_of s.now.n s.now.lists.now) }
+    requires { AllNamed gs.now (sections_of s.now.n s.now.lists.now) }
     ensures value { let ss = sections_of s.now.n s.now.lists.now in
         let ws = words_by assignment.now ss in
         let bs = bytes_by f gs.now assignment.now ss in

@@ -4,7 +4,7 @@
 mod exact;
 mod queues;
 
-ghost use Rattle.std.specs.Prelude.{◌≡◌, true, ◌%◌, ◌≤◌, ◌<◌, length, ltb};
+ghost use Rattle.std.specs.Prelude.{◌≡◌, true, ℕ, ◌%◌, ◌≤◌, ◌<◌, length, ltb, get_or};
 ghost use Rattle.base.specs.Bounded.{every_of};
 ghost use Rattle.scope.specs.Literals.{not_lit};
 ghost use Rattle.scope.specs.Binary.{cutsb, sections_of, section_at, mirrored};
@@ -14,13 +14,14 @@ use drat_write::all_below;
 use exact::exactly_mirrored;
 use queues::heads_meet;
 
-// The words of n sections, and where each of these stands.
+// The words of n sections, and where each of these stands. That a word is below 2^32 is kept too: a slice in a struct does not tell it.
 #[derive(Clone, Copy)]
 pub struct Sections<'a> {
     pub lists: &'a [u32],
     pub place: &'a [usize],
     pub n: usize,
     pub ghost placed: { Placed lists.now n place.now },
+    pub ghost small: { (i : ℕ) → get_or lists.now i 0 < 4294967296 },
 }
 
 // The literal of the same index and the other sign.
