@@ -1,6 +1,6 @@
 -- What stays of a section and what is deleted, by the lists that these read: what `stays`, `kept_at` and `deletes_at` of scope/specs/Binary.antt read of a
 -- table.
-use Rattle.std.specs.Prelude.{ℕ, ◌+◌, ◌≤◌, ◌<◌, Bool, true, ◌&&◌, not, ◌≢◌, ◌≡◌, List, [], ◌∷◌, map, eqb, ltb, length, get_or}
+use Rattle.std.specs.Prelude.{ℕ, ◌≤◌, ◌<◌, Bool, true, ◌&&◌, not, ◌≢◌, List, [], ◌∷◌, map, eqb, ltb, length, get_or}
 use Rattle.base.specs.Bounded.{keep_of}
 use Rattle.drat.specs.Grammar.{Step, step_of, encode}
 use Rattle.drat.specs.declared.Format.{Format}

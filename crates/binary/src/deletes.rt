@@ -96,14 +96,7 @@ pub(crate) fn deletes_len(
 {
     let mut used: usize = 0;
     for l in 0..s.n {
-        used += section_len(
-            gs,
-            assignment,
-            f,
-            l as u32,
-            s.section_of(l),
-            room - used,
-        )?;
+        used += section_len(gs, assignment, f, l as u32, s.section_of(l), room - used)?;
     }
     Ok(used)
 }
@@ -134,27 +127,13 @@ fn put_section(
 }
 
 // The delete steps of all sections, from the start of `bytes`.
-pub(crate) fn put_deletes(
-    gs: &[u32],
-    assignment: &[u32],
-    f: Format,
-    s: &Sections,
-    bytes: &mut [u8],
-)
+pub(crate) fn put_deletes(gs: &[u32], assignment: &[u32], f: Format, s: &Sections, bytes: &mut [u8])
     requires all_named { AllNamed gs.now (sections_of s.now.n s.now.lists.now) }
     requires lists_in_bounds { length (bytes_by f gs.now assignment.now (sections_of s.now.n s.now.lists.now)) ≤ length bytes.old }
     ensures { Fills (change bytes.old bytes.new) 0 (bytes_by f gs.now assignment.now (sections_of s.now.n s.now.lists.now)) }
 {
     let mut at = 0;
     for l in 0..s.n {
-        at = put_section(
-            gs,
-            assignment,
-            f,
-            l as u32,
-            s.section_of(l),
-            bytes,
-            at,
-        );
+        at = put_section(gs, assignment, f, l as u32, s.section_of(l), bytes, at);
     }
 }

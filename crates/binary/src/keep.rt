@@ -63,22 +63,12 @@ pub(crate) fn count_all(assignment: &[u32], s: &Sections) -> usize
 }
 
 // What stays of all sections, in words, from the start of `out`.
-pub(crate) fn put_lists(
-    assignment: &[u32],
-    s: &Sections,
-    out: &mut [u32],
-)
+pub(crate) fn put_lists(assignment: &[u32], s: &Sections, out: &mut [u32])
     requires { length (words_by assignment.now (sections_of s.now.n s.now.lists.now)) ≤ length out.old }
     ensures { Fills (change out.old out.new) 0 (words_by assignment.now (sections_of s.now.n s.now.lists.now)) }
 {
     let mut at = 0;
     for l in 0..s.n {
-        at = put_section(
-            assignment,
-            l as u32,
-            s.section_of(l),
-            out,
-            at,
-        );
+        at = put_section(assignment, l as u32, s.section_of(l), out, at);
     }
 }

@@ -50,12 +50,7 @@ fn slot_mirrored(s: &Sections, l: usize, m: u32, k: usize) -> bool
 }
 
 // Whether each entry of the section of l has its mirror. Each slot is compared once, and cleared.
-fn each_mirrored(
-    s: &Sections,
-    l: usize,
-    es: &[u32],
-    tally: &mut [usize],
-) -> bool
+fn each_mirrored(s: &Sections, l: usize, es: &[u32], tally: &mut [usize]) -> bool
     requires inside { Inside s.now.lists.now s.now.n }
     requires l_lt_n { l < s.now.n }
     requires es_value { es.now ≡ section_at (sections_of s.now.n s.now.lists.now) l }
@@ -87,7 +82,7 @@ fn section_mirrored(s: &Sections, l: usize, tally: &mut [usize]) -> bool
 }
 
 pub(crate) fn exactly_mirrored(s: &Sections) -> bool
-    requires inside { Inside s.now.lists.now s.now.n }
+    requires { Inside s.now.lists.now s.now.n }
     ensures { result ≡ mirrored (sections_of s.now.n s.now.lists.now) }
 {
     let mut tally = [0usize; 8192];

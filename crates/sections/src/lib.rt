@@ -67,7 +67,7 @@ impl<'a> Sections<'a> {
     }
 }
 
-// Whether every entry is the code of a section.
+// Whether every entry is the code of a section. What it finds stays a `requires` below: a second struct would wrap the first for two modules alone.
 fn all_inside(s: &Sections) -> bool
     ensures inside { result ≡ true → Inside s.now.lists.now s.now.n }
     ensures value { mirrored (sections_of s.now.n s.now.lists.now) ≡ true → result ≡ true }

@@ -38,13 +38,7 @@ fn start_heads(place: &[usize], n: usize, head: &mut [usize; 8192])
 }
 
 // The head of x is at h; its mirror is in another section, that of y.
-fn meet_mirror(
-    s: &Sections,
-    x: usize,
-    h: usize,
-    y: usize,
-    head: &mut [usize; 8192],
-) -> Met
+fn meet_mirror(s: &Sections, x: usize, h: usize, y: usize, head: &mut [usize; 8192]) -> Met
     requires even { Even s.now.lists.now s.now.n s.now.place.now head.old }
     requires facing { Facing s.now.lists.now s.now.n s.now.place.now head.old x h y }
     ensures { Even s.now.lists.now s.now.n s.now.place.now head.new }
@@ -157,7 +151,7 @@ fn all_taken(place: &[usize], n: usize, head: &[usize; 8192]) -> bool
 
 // An entry that is taken lets the section that waits for it go on, so that there are at most as many waits as takings.
 pub(crate) fn heads_meet(s: &Sections) -> bool
-    requires inside { Inside s.now.lists.now s.now.n }
+    requires { Inside s.now.lists.now s.now.n }
     ensures { result ≡ true → mirrored (sections_of s.now.n s.now.lists.now) ≡ true }
 {
     let mut head = [0usize; 8192];

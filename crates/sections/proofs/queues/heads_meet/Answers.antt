@@ -13,4 +13,4 @@ loop-walk-init c = (
 pub returns : goal.returns
 returns c =
     λ e. even_end c.args.s.now.lists.now c.args.s.now.n c.args.s.now.place.now c.args.s.now.placed _
-    c.loop-walk.invariant.0 c.requires.inside (c.all_taken.ensures e)
+    c.loop-walk.invariant.0 c.requires (c.all_taken.ensures e)
