@@ -1,6 +1,6 @@
 -- What stays of a section and what is deleted, by the lists that these read: what `stays`, `kept_at` and `deletes_at` of scope/specs/Binary.antt read of a
 -- table.
-use Rattle.std.specs.Prelude.{ℕ, ◌+◌, ◌≤◌, ◌<◌, Bool, true, ◌&&◌, not, ◌≢◌, ◌≡◌, List, [], ◌∷◌, map, eqb, ltb, length, get_or}
+use Rattle.std.specs.Prelude.{ℕ, ◌≤◌, ◌<◌, Bool, true, ◌&&◌, not, ◌≢◌, List, [], ◌∷◌, map, eqb, ltb, length, get_or}
 use Rattle.base.specs.Bounded.{keep_of}
 use Rattle.drat.specs.Grammar.{Step, step_of, encode}
 use Rattle.drat.specs.declared.Format.{Format}
@@ -64,13 +64,6 @@ Named gs l es = (i : ℕ) → i < length es → Pair gs l (get_or es i 0)
 -- and those of every section
 abbrev pub AllNamed : List ℕ → List (List ℕ) → Type 0
 AllNamed gs ss = (l : ℕ) → Named gs l (section_at ss l)
-
--- ---- the places alone
-
-pub record Rising (n : ℕ) (place : List ℕ) : Type 0 where
-  pub few : n ≤ 8192
-  pub size : length place ≡ 8193
-  pub rises : (l : ℕ) → l < n → get_or place l 0 < get_or place (l + 1) 0
 
 -- a watermark and a map of a sound table
 pub record Small (solver : ℕ) (gs : List ℕ) : Type 0 where

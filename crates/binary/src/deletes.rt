@@ -1,28 +1,26 @@
 // The delete steps of the clauses that go, each once, under global names.
-ghost use Rattle.std.specs.Prelude.{◌≡◌, List, ℕ, ◌+◌, ◌≤◌, length};
+ghost use Rattle.std.specs.Prelude.{◌≡◌, ◌+◌, ◌≤◌, length};
 ghost use Rattle.base.specs.Lent.{Fills, change};
 ghost use Rattle.base.specs.Bounded.{any_of};
 ghost use Rattle.drat.specs.Grammar.{encode_step, encode};
 ghost use Rattle.scope.specs.Binary.{sections_of, filled_codes};
-ghost use Rattle.sections.specs.Places.{Placed};
 ghost use Rattle.steps.specs.Refusals.{laid};
-ghost use Rattle.binary.specs.Entries.{goes_as, clause_by, deletes_by, bytes_by, unheld_by, Pair, Named, AllNamed, Rising};
+ghost use Rattle.binary.specs.Entries.{goes_as, clause_by, deletes_by, bytes_by, unheld_by, Pair, Named, AllNamed};
 
 use crate::keep::stays;
 use drat::{Format, Kind};
 use drat_write::{put_step, step_len};
 use scope::{Refusal, Solver};
-use sections::{not_lit, section_of};
+use sections::{Sections, not_lit};
 use steps::rename::rename_lit;
 use table::holder;
 
 // Whether a section that is not empty is of an index with no holder.
-pub(crate) fn any_unheld(gs: &[u32], place: &[usize], n: usize) -> bool
-    requires { Rising n place.now }
-    ensures { (lists : List ℕ) → Placed lists n place.now → result ≡ any_of (unheld_by gs.now) (filled_codes (sections_of n lists)) }
+pub(crate) fn any_unheld(gs: &[u32], s: &Sections) -> bool
+    ensures { result ≡ any_of (unheld_by gs.now) (filled_codes (sections_of s.now.n s.now.lists.now)) }
 {
-    for l in 0..n {
-        if place[l] + 1 < place[l + 1] {
+    for l in 0..s.n {
+        if s.place[l] + 1 < s.place[l + 1] {
             let index = l as u32 / 2;
             let Some(_) = holder(gs, Solver(index)) else {
                 return true;
@@ -90,25 +88,15 @@ pub(crate) fn deletes_len(
     gs: &[u32],
     assignment: &[u32],
     f: Format,
-    lists: &[u32],
-    place: &[usize],
-    n: usize,
+    s: &Sections,
     room: usize,
 ) -> Result<usize, Refusal>
-    requires placed { Placed lists.now n place.now }
-    requires all_named { AllNamed gs.now (sections_of n lists.now) }
-    ensures { result ≡ laid (bytes_by f gs.now assignment.now (sections_of n lists.now)) room }
+    requires { AllNamed gs.now (sections_of s.now.n s.now.lists.now) }
+    ensures { result ≡ laid (bytes_by f gs.now assignment.now (sections_of s.now.n s.now.lists.now)) room }
 {
     let mut used: usize = 0;
-    for l in 0..n {
-        used += section_len(
-            gs,
-            assignment,
-            f,
-            l as u32,
-            section_of(lists, place, n, l),
-            room - used,
-        )?;
+    for l in 0..s.n {
+        used += section_len(gs, assignment, f, l as u32, s.section_of(l), room - used)?;
     }
     Ok(used)
 }
@@ -139,30 +127,13 @@ fn put_section(
 }
 
 // The delete steps of all sections, from the start of `bytes`.
-pub(crate) fn put_deletes(
-    gs: &[u32],
-    assignment: &[u32],
-    f: Format,
-    lists: &[u32],
-    place: &[usize],
-    n: usize,
-    bytes: &mut [u8],
-)
-    requires placed { Placed lists.now n place.now }
-    requires all_named { AllNamed gs.now (sections_of n lists.now) }
-    requires lists_in_bounds { length (bytes_by f gs.now assignment.now (sections_of n lists.now)) ≤ length bytes.old }
-    ensures { Fills (change bytes.old bytes.new) 0 (bytes_by f gs.now assignment.now (sections_of n lists.now)) }
+pub(crate) fn put_deletes(gs: &[u32], assignment: &[u32], f: Format, s: &Sections, bytes: &mut [u8])
+    requires all_named { AllNamed gs.now (sections_of s.now.n s.now.lists.now) }
+    requires lists_in_bounds { length (bytes_by f gs.now assignment.now (sections_of s.now.n s.now.lists.now)) ≤ length bytes.old }
+    ensures { Fills (change bytes.old bytes.new) 0 (bytes_by f gs.now assignment.now (sections_of s.now.n s.now.lists.now)) }
 {
     let mut at = 0;
-    for l in 0..n {
-        at = put_section(
-            gs,
-            assignment,
-            f,
-            l as u32,
-            section_of(lists, place, n, l),
-            bytes,
-            at,
-        );
+    for l in 0..s.n {
+        at = put_section(gs, assignment, f, l as u32, s.section_of(l), bytes, at);
     }
 }

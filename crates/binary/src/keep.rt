@@ -3,10 +3,9 @@ ghost use Rattle.std.specs.Prelude.{◌≡◌, ◌+◌, ◌≤◌, ◌<◌, leng
 ghost use Rattle.std.specs.List.{count_by};
 ghost use Rattle.base.specs.Lent.{Fills, change};
 ghost use Rattle.scope.specs.Binary.{sections_of, section_words};
-ghost use Rattle.sections.specs.Places.{Placed};
 ghost use Rattle.binary.specs.Entries.{stays_by, kept_by, words_by, entries_by};
 
-use sections::section_of;
+use sections::Sections;
 use table::word_at;
 
 // Whether the clause of the entry m under l stays.
@@ -52,38 +51,24 @@ fn put_section(assignment: &[u32], l: u32, es: &[u32], out: &mut [u32], at: usiz
 }
 
 // How many entries of all sections stay.
-pub(crate) fn count_all(assignment: &[u32], lists: &[u32], place: &[usize], n: usize) -> usize
-    requires { Placed lists.now n place.now }
-    ensures value { result ≡ length (entries_by assignment.now (sections_of n lists.now)) }
-    ensures upper_bound { result ≤ length lists.now }
+pub(crate) fn count_all(assignment: &[u32], s: &Sections) -> usize
+    ensures value { result ≡ length (entries_by assignment.now (sections_of s.now.n s.now.lists.now)) }
+    ensures upper_bound { result ≤ length s.now.lists.now }
 {
     let mut k = 0;
-    for l in 0..n {
-        k += count_kept(assignment, l as u32, section_of(lists, place, n, l));
+    for l in 0..s.n {
+        k += count_kept(assignment, l as u32, s.section_of(l));
     }
     k
 }
 
 // What stays of all sections, in words, from the start of `out`.
-pub(crate) fn put_lists(
-    assignment: &[u32],
-    lists: &[u32],
-    place: &[usize],
-    n: usize,
-    out: &mut [u32],
-)
-    requires placed { Placed lists.now n place.now }
-    requires lists_in_bounds { length (words_by assignment.now (sections_of n lists.now)) ≤ length out.old }
-    ensures { Fills (change out.old out.new) 0 (words_by assignment.now (sections_of n lists.now)) }
+pub(crate) fn put_lists(assignment: &[u32], s: &Sections, out: &mut [u32])
+    requires { length (words_by assignment.now (sections_of s.now.n s.now.lists.now)) ≤ length out.old }
+    ensures { Fills (change out.old out.new) 0 (words_by assignment.now (sections_of s.now.n s.now.lists.now)) }
 {
     let mut at = 0;
-    for l in 0..n {
-        at = put_section(
-            assignment,
-            l as u32,
-            section_of(lists, place, n, l),
-            out,
-            at,
-        );
+    for l in 0..s.n {
+        at = put_section(assignment, l as u32, s.section_of(l), out, at);
     }
 }

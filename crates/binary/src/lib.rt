@@ -11,7 +11,6 @@ ghost use Rattle.scope.specs.Table.{Table};
 ghost use Rattle.scope.specs.Sound.{soundb};
 ghost use Rattle.scope.specs.Contract.{given, Meets, reads};
 ghost use Rattle.scope.specs.Binary.{sections_of, binary_of};
-ghost use Rattle.sections.specs.Places.{Placed};
 ghost use Rattle.binary.specs.Answers.{thinned, thinned_by, fills_words, fills_bytes};
 ghost use Rattle.binary.specs.Entries.{words_by, entries_by, bytes_by, AllNamed, Small};
 
@@ -19,7 +18,7 @@ use deletes::{any_unheld, deletes_len, put_deletes};
 use drat::Format;
 use keep::{count_all, put_lists};
 use scope::{Counts, Refusal};
-use sections::{all_mirrored, cut_sections};
+use sections::{Sections, all_mirrored, cut_sections};
 use table::Lists;
 
 // How many words the lists have, half the number of their entries, and how many bytes were filled.
@@ -35,35 +34,32 @@ fn thin_placed(
     gs: &[u32],
     assignment: &[u32],
     f: Format,
-    lists: &[u32],
-    place: &[usize],
-    n: usize,
+    s: &Sections,
     out: &mut [u32],
     bytes: &mut [u8],
 ) -> Result<Thinned, Refusal>
-    requires placed { Placed lists.now n place.now }
-    requires all_named { AllNamed gs.now (sections_of n lists.now) }
-    ensures value { let ss = sections_of n lists.now in
+    requires { AllNamed gs.now (sections_of s.now.n s.now.lists.now) }
+    ensures value { let ss = sections_of s.now.n s.now.lists.now in
         let ws = words_by assignment.now ss in
         let bs = bytes_by f gs.now assignment.now ss in
         result ≡ thinned_by ws (entries_by assignment.now ss) bs (length out.old) (length bytes.old) }
-    ensures out { let ss = sections_of n lists.now in
+    ensures out { let ss = sections_of s.now.n s.now.lists.now in
         let ws = words_by assignment.now ss in
         let bs = bytes_by f gs.now assignment.now ss in
         Fills (change out.old out.new) 0 (fills_words ws bs (length out.old) (length bytes.old)) }
-    ensures bytes { let ss = sections_of n lists.now in
+    ensures bytes { let ss = sections_of s.now.n s.now.lists.now in
         let ws = words_by assignment.now ss in
         let bs = bytes_by f gs.now assignment.now ss in
         Fills (change bytes.old bytes.new) 0 (fills_bytes ws bs (length out.old) (length bytes.old)) }
 {
-    let kept = count_all(assignment, lists, place, n);
-    let words = n + kept;
+    let kept = count_all(assignment, s);
+    let words = s.n + kept;
     if out.len() < words {
         return Err(Refusal::Short);
     }
-    let deleted = deletes_len(gs, assignment, f, lists, place, n, bytes.len())?;
-    put_lists(assignment, lists, place, n, out);
-    put_deletes(gs, assignment, f, lists, place, n, bytes);
+    let deleted = deletes_len(gs, assignment, f, s, bytes.len())?;
+    put_lists(assignment, s, out);
+    put_deletes(gs, assignment, f, s, bytes);
     Ok(Thinned {
         words,
         half: kept / 2,
@@ -91,13 +87,18 @@ fn thin_lists(
     if !cut_sections(lists, n, &mut place) {
         return Err(Refusal::BadLists);
     }
-    if !all_mirrored(lists, &place, n) {
+    let s = Sections {
+        lists,
+        place: &place,
+        n,
+    };
+    if !all_mirrored(&s) {
         return Err(Refusal::BadLists);
     }
-    if any_unheld(gs, &place, n) {
+    if any_unheld(gs, &s) {
         return Err(Refusal::NotHeld);
     }
-    thin_placed(gs, assignment, f, lists, &place, n, out, bytes)
+    thin_placed(gs, assignment, f, &s, out, bytes)
 }
 
 // Binary clauses before the sweep (document 02, order 1; 1, 15, 8, 2): `simplify_binary`.

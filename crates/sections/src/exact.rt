@@ -4,10 +4,10 @@ ghost use Rattle.std.specs.Prelude.{◌≡◌, true, [], ◌<◌};
 ghost use Rattle.base.specs.Bounded.{every_of};
 ghost use Rattle.drat.specs.Grammar.{Codes};
 ghost use Rattle.scope.specs.Binary.{times, sections_of, section_at, has_mirror, mirrored};
-ghost use Rattle.sections.specs.Places.{Placed, Inside};
+ghost use Rattle.sections.specs.Places.{Inside};
 ghost use Rattle.sections.specs.Tally.{Tallied, Slot};
 
-use crate::{not_lit, section_of};
+use crate::{Sections, not_lit};
 
 // How often a word stands among others.
 fn count_of(es: &[u32], m: u32) -> usize
@@ -34,42 +34,33 @@ fn tally_all(es: &[u32], tally: &mut [usize])
 }
 
 // Whether the entry m of the section of l, which stands there k times, has its mirror. A slot that is cleared was compared before.
-fn slot_mirrored(lists: &[u32], place: &[usize], n: usize, l: usize, m: u32, k: usize) -> bool
-    requires placed { Placed lists.now n place.now }
-    requires l_lt_n { l < n }
-    requires m_lt_n { m < n }
-    requires slot { Slot (sections_of n lists.now) l m k }
-    ensures { result ≡ has_mirror (sections_of n lists.now) l m }
+fn slot_mirrored(s: &Sections, l: usize, m: u32, k: usize) -> bool
+    requires l_lt_n { l < s.now.n }
+    requires m_lt_n { m < s.now.n }
+    requires slot { Slot (sections_of s.now.n s.now.lists.now) l m k }
+    ensures { result ≡ has_mirror (sections_of s.now.n s.now.lists.now) l m }
 {
     if k == 0 {
         return true;
     }
     let x = not_lit(l as u32);
     let y = not_lit(m) as usize;
-    let other = count_of(section_of(lists, place, n, y), x);
+    let other = count_of(s.section_of(y), x);
     k == other
 }
 
 // Whether each entry of the section of l has its mirror. Each slot is compared once, and cleared.
-fn each_mirrored(
-    lists: &[u32],
-    place: &[usize],
-    n: usize,
-    l: usize,
-    es: &[u32],
-    tally: &mut [usize],
-) -> bool
-    requires placed { Placed lists.now n place.now }
-    requires inside { Inside lists.now n }
-    requires l_lt_n { l < n }
-    requires es_value { es.now ≡ section_at (sections_of n lists.now) l }
+fn each_mirrored(s: &Sections, l: usize, es: &[u32], tally: &mut [usize]) -> bool
+    requires inside { Inside s.now.lists.now s.now.n }
+    requires l_lt_n { l < s.now.n }
+    requires es_value { es.now ≡ section_at (sections_of s.now.n s.now.lists.now) l }
     requires tallied { Tallied es.now tally.old }
-    ensures value { result ≡ every_of (has_mirror (sections_of n lists.now) l) es.now }
+    ensures value { result ≡ every_of (has_mirror (sections_of s.now.n s.now.lists.now) l) es.now }
     ensures tallied_2 { result ≡ true → Tallied [] tally.new }
 {
     for m in es {
         let k = tally[*m as usize];
-        if !slot_mirrored(lists, place, n, l, *m, k) {
+        if !slot_mirrored(s, l, *m, k) {
             return false;
         }
         tally[*m as usize] = 0;
@@ -78,27 +69,25 @@ fn each_mirrored(
 }
 
 // The same, with a tally that is clear before and, where it goes on, after.
-fn section_mirrored(lists: &[u32], place: &[usize], n: usize, l: usize, tally: &mut [usize]) -> bool
-    requires placed { Placed lists.now n place.now }
-    requires inside { Inside lists.now n }
-    requires l_lt_n { l < n }
+fn section_mirrored(s: &Sections, l: usize, tally: &mut [usize]) -> bool
+    requires inside { Inside s.now.lists.now s.now.n }
+    requires l_lt_n { l < s.now.n }
     requires tallied { Tallied [] tally.old }
-    ensures result_value { let ss = sections_of n lists.now in result ≡ every_of (has_mirror ss l) (section_at ss l) }
+    ensures result_value { let ss = sections_of s.now.n s.now.lists.now in result ≡ every_of (has_mirror ss l) (section_at ss l) }
     ensures tallied_2 { result ≡ true → Tallied [] tally.new }
 {
-    let es = section_of(lists, place, n, l);
+    let es = s.section_of(l);
     tally_all(es, tally);
-    each_mirrored(lists, place, n, l, es, tally)
+    each_mirrored(s, l, es, tally)
 }
 
-pub(crate) fn exactly_mirrored(lists: &[u32], place: &[usize], n: usize) -> bool
-    requires placed { Placed lists.now n place.now }
-    requires inside { Inside lists.now n }
-    ensures { result ≡ mirrored (sections_of n lists.now) }
+pub(crate) fn exactly_mirrored(s: &Sections) -> bool
+    requires { Inside s.now.lists.now s.now.n }
+    ensures { result ≡ mirrored (sections_of s.now.n s.now.lists.now) }
 {
     let mut tally = [0usize; 8192];
-    for l in 0..n {
-        if !section_mirrored(lists, place, n, l, &mut tally) {
+    for l in 0..s.n {
+        if !section_mirrored(s, l, &mut tally) {
             return false;
         }
     }

@@ -3,10 +3,10 @@
 // are heads; else the section of the mirror comes first, and the one that waits for it is kept on a path.
 ghost use Rattle.std.specs.Prelude.{◌≡◌, true, ℕ, ◌+◌, ◌<◌, ◌≤◌, length, get_or};
 ghost use Rattle.scope.specs.Binary.{sections_of, mirrored};
-ghost use Rattle.sections.specs.Places.{Placed, Inside};
+ghost use Rattle.sections.specs.Places.{Inside};
 ghost use Rattle.sections.specs.Queues.{Even, Facing, Going, Turned};
 
-use crate::not_lit;
+use crate::{Sections, not_lit};
 
 // What came of the head of a section: none is left; it is taken with its mirror; the section of its mirror comes first; its mirror is missing.
 #[derive(Clone, Copy)]
@@ -38,25 +38,16 @@ fn start_heads(place: &[usize], n: usize, head: &mut [usize; 8192])
 }
 
 // The head of x is at h; its mirror is in another section, that of y.
-fn meet_mirror(
-    lists: &[u32],
-    place: &[usize],
-    n: usize,
-    x: usize,
-    h: usize,
-    y: usize,
-    head: &mut [usize; 8192],
-) -> Met
-    requires placed { Placed lists.now n place.now }
-    requires even { Even lists.now n place.now head.old }
-    requires facing { Facing lists.now n place.now head.old x h y }
-    ensures { Even lists.now n place.now head.new }
+fn meet_mirror(s: &Sections, x: usize, h: usize, y: usize, head: &mut [usize; 8192]) -> Met
+    requires even { Even s.now.lists.now s.now.n s.now.place.now head.old }
+    requires facing { Facing s.now.lists.now s.now.n s.now.place.now head.old x h y }
+    ensures { Even s.now.lists.now s.now.n s.now.place.now head.new }
 {
     let k = head[y];
-    if place[y + 1] <= k {
+    if s.place[y + 1] <= k {
         return Met::Missing;
     }
-    if lists[k] != not_lit(x as u32) {
+    if s.lists[k] != not_lit(x as u32) {
         return Met::Waits(y);
     }
     head[x] = h + 1;
@@ -65,22 +56,21 @@ fn meet_mirror(
 }
 
 // What comes of the head of x.
-fn meet_head(lists: &[u32], place: &[usize], n: usize, x: usize, head: &mut [usize; 8192]) -> Met
-    requires placed { Placed lists.now n place.now }
-    requires inside { Inside lists.now n }
-    requires even { Even lists.now n place.now head.old }
-    ensures { Even lists.now n place.now head.new }
+fn meet_head(s: &Sections, x: usize, head: &mut [usize; 8192]) -> Met
+    requires inside { Inside s.now.lists.now s.now.n }
+    requires even { Even s.now.lists.now s.now.n s.now.place.now head.old }
+    ensures { Even s.now.lists.now s.now.n s.now.place.now head.new }
 {
-    if n <= x {
+    if s.n <= x {
         return Met::Missing;
     }
     let h = head[x];
-    if place[x + 1] <= h {
+    if s.place[x + 1] <= h {
         return Met::Done;
     }
-    let y = not_lit(lists[h]) as usize;
+    let y = not_lit(s.lists[h]) as usize;
     if y != x {
-        return meet_mirror(lists, place, n, x, h, y, head);
+        return meet_mirror(s, x, h, y, head);
     }
     head[x] = h + 1;
     Met::Taken
@@ -160,15 +150,14 @@ fn all_taken(place: &[usize], n: usize, head: &[usize; 8192]) -> bool
 }
 
 // An entry that is taken lets the section that waits for it go on, so that there are at most as many waits as takings.
-pub(crate) fn heads_meet(lists: &[u32], place: &[usize], n: usize) -> bool
-    requires placed { Placed lists.now n place.now }
-    requires inside { Inside lists.now n }
-    ensures { result ≡ true → mirrored (sections_of n lists.now) ≡ true }
+pub(crate) fn heads_meet(s: &Sections) -> bool
+    requires { Inside s.now.lists.now s.now.n }
+    ensures { result ≡ true → mirrored (sections_of s.now.n s.now.lists.now) ≡ true }
 {
     let mut head = [0usize; 8192];
     let mut path = [0usize; 8192];
-    start_heads(place, n, &mut head);
-    let turns = 2 * lists.len() + 16384;
+    start_heads(s.place, s.n, &mut head);
+    let turns = 2 * s.lists.len() + 16384;
     let mut walk = Walk {
         next: 0,
         waiting: 0,
@@ -177,8 +166,8 @@ pub(crate) fn heads_meet(lists: &[u32], place: &[usize], n: usize) -> bool
     // Not once for each entry: a turn may go back in a queue.
     while 0 < walk.turns {
         let x = walk.looked_at(&path);
-        let met = meet_head(lists, place, n, x, &mut head);
+        let met = meet_head(s, x, &mut head);
         walk = walk.after(met, &mut path);
     }
-    all_taken(place, n, &head)
+    all_taken(s.place, s.n, &head)
 }

@@ -20,18 +20,18 @@ returns-then-any_unheld c =
     λ t s e g v. says_unheld c.args.f t c.args.lists.now c.args.out.now c.args.bytes.now c.args.solver c.args.gs.now
     c.args.assignment.now s e g v (sym c.cut_sections.ensures.value ∙ c.if-not-cut_sections.false)
     (sym c.all_mirrored.ensures ∙ c.if-not-all_mirrored.false)
-    (sym (c.any_unheld.ensures _ (c.cut_sections.ensures.placed c.if-not-cut_sections.false)) ∙ c.if-any_unheld.true)
+    (sym c.any_unheld.ensures ∙ c.if-any_unheld.true)
 
-pub thin_placed-requires-clause-all_named : goal.thin_placed-requires-clause-all_named
-thin_placed-requires-clause-all_named c =
+pub thin_placed-requires : goal.thin_placed-requires
+thin_placed-requires c =
     all_named c.args.solver _ _ c.requires
     (sym c.all_mirrored.ensures ∙ c.if-not-all_mirrored.false)
-    (sym (c.any_unheld.ensures _ (c.cut_sections.ensures.placed c.if-not-cut_sections.false)) ∙ c.if-any_unheld.false)
+    (sym c.any_unheld.ensures ∙ c.if-any_unheld.false)
 
 pub returns : goal.returns
 returns c =
     λ t s e g v. says_thinned c.args.f t c.args.lists.now c.args.out.now c.args.bytes.now c.args.solver c.args.gs.now
     c.args.assignment.now s e g v (sym c.cut_sections.ensures.value ∙ c.if-not-cut_sections.false)
     (sym c.all_mirrored.ensures ∙ c.if-not-all_mirrored.false) _ _ _
-    (sym (c.any_unheld.ensures _ (c.cut_sections.ensures.placed c.if-not-cut_sections.false)) ∙ c.if-any_unheld.false)
+    (sym c.any_unheld.ensures ∙ c.if-any_unheld.false)
     (c.thin_placed.ensures.value, (c.thin_placed.ensures.out, c.thin_placed.ensures.bytes))

@@ -5,4 +5,4 @@ use mathlib.Core.Path.{◌≡◌}
 use Rattle.sections.proofs.all_inside.Given as goal
 
 abbrev pub invariant-loop-l : goal.invariant-loop-l
-invariant-loop-l l = ((j : ℕ) → j < l.l → low_at l.lists l.n j ≡ true)
+invariant-loop-l l = ((j : ℕ) → j < l.l → low_at l.s.lists.now l.s.n j ≡ true)

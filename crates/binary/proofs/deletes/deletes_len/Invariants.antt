@@ -9,5 +9,5 @@ use Rattle.binary.proofs.deletes.deletes_len.Given as goal
 
 abbrev pub invariant-loop-l : goal.invariant-loop-l
 invariant-loop-l l =
-    (l.used + length (encode l.f (from (deletes_by l.gs l.assignment) l.n l.lists l.l)) ≡ length (bytes_by l.f l.gs l.assignment (sections_of l.n l.lists)))
+    (l.used + length (encode l.f (from (deletes_by l.gs l.assignment) l.s.n l.s.lists.now l.l)) ≡ length (bytes_by l.f l.gs l.assignment (sections_of l.s.n l.s.lists.now)))
     × (l.used ≤ l.room)

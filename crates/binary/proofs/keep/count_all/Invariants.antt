@@ -8,6 +8,6 @@ use Rattle.binary.proofs.keep.count_all.Given as goal
 
 abbrev pub invariant-loop-l : goal.invariant-loop-l
 invariant-loop-l l =
-    (l.k + length (from (kept_by l.assignment) l.n l.lists l.l) ≡ length (entries_by l.assignment (sections_of l.n l.lists)))
-    × (l.k ≤ get_or l.place l.l 0)
-    × (l.k ≤ length l.lists)
+    (l.k + length (from (kept_by l.assignment) l.s.n l.s.lists.now l.l) ≡ length (entries_by l.assignment (sections_of l.s.n l.s.lists.now)))
+    × (l.k ≤ get_or l.s.place.now l.l 0)
+    × (l.k ≤ length l.s.lists.now)

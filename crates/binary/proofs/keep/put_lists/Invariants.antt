@@ -9,5 +9,5 @@ use Rattle.binary.proofs.keep.put_lists.Given as goal
 
 abbrev pub invariant-loop-l : goal.invariant-loop-l
 invariant-loop-l l =
-    (l.at + length (from (λ i es. section_words (kept_by l.assignment i es)) l.n l.lists l.l) ≡ length (words_by l.assignment (sections_of l.n l.lists)))
-    × (sets l.out l.at (from (λ i es. section_words (kept_by l.assignment i es)) l.n l.lists l.l) ≡ sets l.initial.out 0 (words_by l.assignment (sections_of l.n l.lists)))
+    (l.at + length (from (λ i es. section_words (kept_by l.assignment i es)) l.s.n l.s.lists.now l.l) ≡ length (words_by l.assignment (sections_of l.s.n l.s.lists.now)))
+    × (sets l.out l.at (from (λ i es. section_words (kept_by l.assignment i es)) l.s.n l.s.lists.now l.l) ≡ sets l.initial.out 0 (words_by l.assignment (sections_of l.s.n l.s.lists.now)))

@@ -7,4 +7,4 @@ use lib.ListN.{take}
 use Rattle.sections.proofs.exact.each_mirrored.Given as goal
 
 abbrev pub invariant-loop-m : goal.invariant-loop-m
-invariant-loop-m l = (every_of (has_mirror (sections_of l.n l.lists) l.l) (take l.m-index l.es) ≡ true) × Cleared l.es l.m-index l.tally
+invariant-loop-m l = (every_of (has_mirror (sections_of l.s.n l.s.lists.now) l.l) (take l.m-index l.es) ≡ true) × Cleared l.es l.m-index l.tally

@@ -6,17 +6,17 @@ use native.Mathlib.Omega.{arith}
 use Rattle.sections.proofs.exact.exactly_mirrored.Goals as goal
 
 pub loop-l-init : goal.loop-l-init
-loop-l-init c = (all_none (mirror_at c.args.lists.now c.args.n), tally_none)
+loop-l-init c = (all_none (mirror_at c.args.s.now.lists.now c.args.s.now.n), tally_none)
 
 pub returns-then-not-section_mirrored : goal.returns-then-not-section_mirrored
 returns-then-not-section_mirrored c =
-    sym (mirrored_is c.args.lists.now c.args.n ∙ all_fails c.args.n (mirror_at c.args.lists.now c.args.n)
+    sym (mirrored_is c.args.s.now.lists.now c.args.s.now.n ∙ all_fails c.args.s.now.n (mirror_at c.args.s.now.lists.now c.args.s.now.n)
     c.loop-l.l c.loop-l-test.true
     (sym c.section_mirrored.ensures.result_value ∙ c.if-not-section_mirrored.true))
 
 pub loop-l-preserved : goal.loop-l-preserved
 loop-l-preserved c = (
-  all_more c.loop-l.l (mirror_at c.args.lists.now c.args.n) c.loop-l.invariant.0
+  all_more c.loop-l.l (mirror_at c.args.s.now.lists.now c.args.s.now.n) c.loop-l.invariant.0
       (sym c.section_mirrored.ensures.result_value ∙ c.if-not-section_mirrored.false),
   c.section_mirrored.ensures.tallied_2
       c.if-not-section_mirrored.false,
@@ -24,5 +24,5 @@ loop-l-preserved c = (
 
 pub returns : goal.returns
 returns c =
-    sym (mirrored_is c.args.lists.now c.args.n ∙ all_upto c.loop-l.l c.args.n
-    (mirror_at c.args.lists.now c.args.n) (omega arith) c.loop-l.invariant.0)
+    sym (mirrored_is c.args.s.now.lists.now c.args.s.now.n ∙ all_upto c.loop-l.l c.args.s.now.n
+    (mirror_at c.args.s.now.lists.now c.args.s.now.n) (omega arith) c.loop-l.invariant.0)

@@ -7,4 +7,4 @@ use mathlib.Core.Path.{◌≡◌}
 use Rattle.sections.proofs.exact.exactly_mirrored.Given as goal
 
 abbrev pub invariant-loop-l : goal.invariant-loop-l
-invariant-loop-l l = (all_below l.l (mirror_at l.lists l.n) ≡ true) × Tallied [] l.tally
+invariant-loop-l l = (all_below l.l (mirror_at l.s.lists.now l.s.n) ≡ true) × Tallied [] l.tally

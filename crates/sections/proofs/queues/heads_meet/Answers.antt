@@ -4,7 +4,7 @@ use Rattle.sections.proofs.queues.heads_meet.Goals as goal
 
 pub loop-walk-init : goal.loop-walk-init
 loop-walk-init c = (
-  even_start c.args.lists.now c.args.n c.args.place.now c.requires.placed _
+  even_start c.args.s.now.lists.now c.args.s.now.n c.args.s.now.place.now c.args.s.now.placed _
       c.start_heads.ensures,
   omega arith,
   omega arith,
@@ -12,5 +12,5 @@ loop-walk-init c = (
 
 pub returns : goal.returns
 returns c =
-    λ e. even_end c.args.lists.now c.args.n c.args.place.now c.requires.placed _
-    c.loop-walk.invariant.0 c.requires.inside (c.all_taken.ensures e)
+    λ e. even_end c.args.s.now.lists.now c.args.s.now.n c.args.s.now.place.now c.args.s.now.placed _
+    c.loop-walk.invariant.0 c.requires (c.all_taken.ensures e)
