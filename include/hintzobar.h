@@ -12,7 +12,7 @@
  * change overlaps no other list lent to it.
  * An index, a literal code (twice the index, one more if negated) and a length may be any number, and a list may hold any words; only calls named
  * hz_known_ assume more of the table, see there.
- * Stack, beside the caller's own: hz_simplify_binary takes 193 KB, hz_simplify up to 99 KB, hz_pose 37 KB and hz_write 35 KB, also for a short
+ * Stack, beside the caller's own: hz_simplify_binary takes 193 KB, hz_simplify up to 99 KB, hz_pose 33 KB and hz_write 35 KB, also for a short
  * clause, the others a few. A thread of 256 KB is enough for any call, one of 128 KB for any but hz_simplify_binary; one of 64 KB is too small
  * for hz_simplify. A call named hz_known_ takes no more than the call without known.
  *

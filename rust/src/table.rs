@@ -382,7 +382,7 @@ impl Table {
     /// To lend: a solver literal for each literal given; one note for each user that is mapped, as in [`Table::map`], and one for each solver
     /// index that is granted, which [`Table::users_to_map`] counts beforehand. [`Table::notes`] is enough.
     ///
-    /// Stack: 37 KB beside the caller's own, where a user has no solver index yet. A thread of 128 KB is enough.
+    /// Stack: 33 KB beside the caller's own, where a user has no solver index yet. A thread of 128 KB is enough.
     #[inline]
     pub fn pose(
         &mut self,
