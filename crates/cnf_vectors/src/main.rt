@@ -14,13 +14,7 @@ use std::io;
 
 // Whether the words lent are those wanted, and past them each is what it was before the call.
 fn holds<T: Copy + PartialEq>(lent: &[T], want: &[T], before: T) -> bool {
-    for i in 0..lent.len() {
-        let word = if i < want.len() { want[i] } else { before };
-        if lent[i] != word {
-            return false;
-        }
-    }
-    true
+    lent.starts_with(want) && lent[want.len()..].iter().all(|word| *word == before)
 }
 
 // What Read CNF answers where it fills.

@@ -14,7 +14,7 @@ use Rattle.drat.proofs.Steps.{next}
 use Rattle.drat.specs.declared.Format.{Format}
 use Rattle.drat.proofs.Shapes.{one_le}
 use Rattle.drat.specs.Numeral.{in_range}
-use Rattle.drat_judge.specs.Local.{may_follow, ended, before, runs, byte_back, runs_at, tally, starts, starts_at}
+use Rattle.drat_judge.specs.Local.{may_follow, ended, before, runs, byte_back, runs_at, tally, starts}
 
 back_suc : (f : Format) (s : List ℕ) (i k : ℕ) → byte_back f s (i + 1) (k + 1) ≡ byte_back f s i k
 back_suc f s i k =
@@ -110,24 +110,15 @@ unfolding tally
 tally_most lo hi [] = omega arith
 tally_most lo hi (x ∷ l) = let h = tally_most lo hi l in let k = one_le (in_range lo hi x) in omega arith
 
--- the bytes counted that stand after a separator
-pub starts_next : (lo hi : ℕ) (s : List ℕ) (i : ℕ) → i < length s
-    → starts_at lo hi s i ≡ pick (ltb (get_or s (i - 1) 0) 45 && in_range lo hi (get_or s i 0)) 1 0 + starts_at lo hi s (i + 1)
+-- the bytes counted that stand after a separator; p is the byte before place i
+pub starts_next : (lo hi p : ℕ) (s : List ℕ) (i : ℕ) → i < length s
+    → starts lo hi p (drop i s) ≡ pick (ltb p 45 && in_range lo hi (get_or s i 0)) 1 0 + starts lo hi (get_or s i 0) (drop (i + 1) s)
 unfolding starts
-starts_next lo hi s i h =
-    let e : i + 1 - 1 ≡ i = omega arith in
-    ap (starts lo hi (get_or s (i - 1) 0)) (next s i h)
-    ∙ ap (λ (j : ℕ). pick (ltb (get_or s (i - 1) 0) 45 && in_range lo hi (get_or s i 0)) 1 0 + starts lo hi (get_or s j 0) (drop (i + 1) s)) (sym e)
+starts_next lo hi p s i h = ap (starts lo hi p) (next s i h)
 
-pub starts_done : (lo hi : ℕ) (s : List ℕ) (i : ℕ) → length s ≤ i → starts_at lo hi s i ≡ 0
+pub starts_done : (lo hi p : ℕ) (s : List ℕ) (i : ℕ) → length s ≤ i → starts lo hi p (drop i s) ≡ 0
 unfolding starts
-starts_done lo hi s i h = ap (starts lo hi (get_or s (i - 1) 0)) (drop_of_length-le s h)
-
-pub starts_first : (lo hi p : ℕ) (s : List ℕ) → 0 < length s
-    → starts lo hi p s ≡ pick (ltb p 45 && in_range lo hi (get_or s 0 0)) 1 0 + starts_at lo hi s 1
-unfolding starts
-starts_first lo hi p [] h = absurd (omega arith)
-starts_first lo hi p (x ∷ s) h = refl
+starts_done lo hi p s i h = ap (starts lo hi p) (drop_of_length-le s h)
 
 -- nothing to count
 pub tally_none : (lo hi : ℕ) (s : List ℕ) → length s ≡ 0 → tally lo hi s ≡ 0

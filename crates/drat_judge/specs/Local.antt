@@ -98,12 +98,9 @@ abbrev pub lits_by : Format → List ℕ → ℕ
 lits_by Text l = starts 45 99 10 l - starts 48 48 10 l
 lits_by Binary l = tally 0 127 l - 2 * tally 0 0 l
 
--- The byte k places before place i; the judging, and the count, from place i on.
+-- The byte k places before place i; the judging from place i on.
 abbrev pub byte_back : Format → List ℕ → ℕ → ℕ → ℕ
 byte_back f s i k = pick (ltb i k) (before f (k - i)) (get_or s (i - k) 0)
 
 abbrev pub runs_at : Format → List ℕ → ℕ → Bool
 runs_at f s i = runs f (byte_back f s i 4) (byte_back f s i 3) (byte_back f s i 2) (byte_back f s i 1) (drop i s)
-
-abbrev pub starts_at : ℕ → ℕ → List ℕ → ℕ → ℕ
-starts_at lo hi s i = starts lo hi (get_or s (i - 1) 0) (drop i s)

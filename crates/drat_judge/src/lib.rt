@@ -217,16 +217,17 @@ pub fn tally_of(s: &[u8], lo: u8, hi: u8) -> usize
     k
 }
 
-// How many of 1 to 192 bytes of text are from lo to hi and stand after a separator; p is the byte before the first. Apart from `block`, which does
+// How many of at most 192 bytes of text are from lo to hi and stand after a separator; p is the byte before the first. Apart from `block`, which does
 // not look at the byte before: a test given as a closure would carry its contract through both.
 fn starts_block(p: u8, s: &[u8], lo: u8, hi: u8) -> u8
-    requires some { 0 < length s.now }
-    requires few { length s.now ≤ 192 }
+    requires { length s.now ≤ 192 }
     ensures { (result ≡ starts lo hi p s.now) × (result ≤ length s.now) }
 {
-    let mut k = ((p < 45) & in_range(s[0], lo, hi)) as u8;
-    for i in 1..s.len() {
-        k += ((s[i - 1] < 45) & in_range(s[i], lo, hi)) as u8;
+    let mut k = 0;
+    let mut last = p;
+    for x in s {
+        k += ((last < 45) & in_range(*x, lo, hi)) as u8;
+        last = *x;
     }
     k
 }

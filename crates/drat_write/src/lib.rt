@@ -15,7 +15,7 @@ ghost use Rattle.drat.specs.Listed.{write_all_of};
 ghost use Rattle.drat.proofs.Shapes.{Short, last_digits};
 
 use drat::{Format, Kind, WriteError};
-use proof::{no_proof, numbers_len, proof_fits, put_proof};
+use proof::{no_proof, proof_fits, put_proof};
 
 pub mod proof;
 
@@ -57,6 +57,20 @@ fn end_len(f: Format) -> usize
     }
 }
 
+// How many bytes at most 8,192 literals take. Apart from `numbers_len`, whose sum may need more than 32 bits: one over usize takes twice as long.
+fn lits_len(f: Format, lits: &[u32]) -> u32
+    requires codes { Codes lits.now }
+    requires lits_len_bound { length lits.now ≤ 8192 }
+    ensures value { result ≡ length (numbers f lits.now) }
+    ensures upper_bound { result ≤ 49152 }
+{
+    let mut k: u32 = 0;
+    for lit in lits {
+        k += number_len(f, *lit);
+    }
+    k
+}
+
 // How many bytes a step takes.
 pub fn step_len(f: Format, k: Kind, lits: &[u32]) -> usize
     requires codes { Codes lits.now }
@@ -64,7 +78,7 @@ pub fn step_len(f: Format, k: Kind, lits: &[u32]) -> usize
     ensures value { result ≡ length (encode_step f (step_of k lits.now)) }
     ensures upper_bound { result ≤ 49156 }
 {
-    open_len(f, k) + numbers_len(f, lits) + end_len(f)
+    open_len(f, k) + lits_len(f, lits) as usize + end_len(f)
 }
 
 // Whether a step fits in `room` bytes. A literal takes at most six: where there is as much room, none is counted.
@@ -241,7 +255,6 @@ fn put_lits(f: Format, lits: &[u32], out: &mut [u8], at: usize) -> usize
     }
 }
 
-#[inline(never)]
 fn put_any(f: Format, k: Kind, lits: &[u32], out: &mut [u8], at: usize) -> usize
     requires codes { Codes lits.now }
     requires lits_in_bounds { at + length (encode_step f (step_of k lits.now)) ≤ length out.old }
@@ -253,20 +266,22 @@ fn put_any(f: Format, k: Kind, lits: &[u32], out: &mut [u8], at: usize) -> usize
     put_end(f, out, q)
 }
 
-// In binary, with no pass over the literals before they are written. Apart from `put_any`, since one function for both takes 1.1 to 1.3 times as
-// long at 3 to 10 literals.
-fn put_few(k: Kind, lits: &[u32], out: &mut [u8], at: usize) -> usize
+// With no pass over the literals before they are written. Apart from `put_any`, since one function for both takes 1.1 to 1.3 times as long in binary
+// at 3 to 10 literals.
+#[inline(always)]
+fn put_few(f: Format, k: Kind, lits: &[u32], out: &mut [u8], at: usize) -> usize
     requires codes { Codes lits.now }
-    requires lits_in_bounds { at + length (encode_step Binary (step_of k lits.now)) ≤ length out.old }
-    ensures value { result ≡ at + length (encode_step Binary (step_of k lits.now)) }
-    ensures fills { Fills (change out.old out.new) at (encode_step Binary (step_of k lits.now)) }
+    requires lits_in_bounds { at + length (encode_step f (step_of k lits.now)) ≤ length out.old }
+    ensures value { result ≡ at + length (encode_step f (step_of k lits.now)) }
+    ensures fills { Fills (change out.old out.new) at (encode_step f (step_of k lits.now)) }
 {
-    let p = put_open(Format::Binary, k, out, at);
-    let q = put_each(Format::Binary, lits, out, p);
-    put_end(Format::Binary, out, q)
+    let p = put_open(f, k, out, at);
+    let q = put_each(f, lits, out, p);
+    put_end(f, out, q)
 }
 
-// Writes a step from the place `at` on, and gives the place after it. Short binary ones are inlined in the loops that call this.
+// Writes a step from the place `at` on, and gives the place after it. Short binary ones and single literals in text are inlined in the loops
+// that call this: one add per unit takes half the time so.
 #[inline(always)]
 pub fn put_step(f: Format, k: Kind, lits: &[u32], out: &mut [u8], at: usize) -> usize
     requires codes { Codes lits.now }
@@ -275,7 +290,8 @@ pub fn put_step(f: Format, k: Kind, lits: &[u32], out: &mut [u8], at: usize) -> 
     ensures fills { Fills (change out.old out.new) at (encode_step f (step_of k lits.now)) }
 {
     match f {
-        Format::Binary if lits.len() < 16 => put_few(k, lits, out, at),
+        Format::Binary if lits.len() < 16 => put_few(Format::Binary, k, lits, out, at),
+        Format::Text if lits.len() == 1 => put_few(Format::Text, k, lits, out, at),
         _ => put_any(f, k, lits, out, at),
     }
 }

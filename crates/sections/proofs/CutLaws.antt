@@ -1,7 +1,7 @@
 -- The loop that cuts the words into sections.
 use Prim.Native.Nat.{ℕ, suc, ◌+◌, ◌-◌, ◌<◌, ◌≤◌, ◌%◌}
 use mathlib.Core.Path.{◌≡◌, sym, ap, ◌∙◌}
-use mathlib.Core.Bool.{Bool, true, false, ◌&&◌}
+use mathlib.Core.Bool.{Bool, true, false, ◌&&◌, true≢false}
 use mathlib.Core.List.{List}
 use mathlib.Core.Logic.{⊎_elim}
 use native.Mathlib.Omega.{arith}
@@ -123,10 +123,13 @@ module _ (lists : List ℕ) (n : ℕ) (place : List ℕ) (at l : ℕ) (c : CutTo
   cut_whole : n ≤ l → length lists ≤ at → cutsb n lists ≡ true
   cut_whole h k = end h ∙ eq-eqb (length (drop at lists)) 0 (omega (arith, length-drop at lists))
 
-  pub cut_tested : n ≤ l → eqb at (length lists) ≡ cutsb n lists
-  cut_tested h = ⊎_elim
-      (λ (k : at < length lists). ne_eqb at (length lists) (λ z. omega arith) ∙ sym (cut_over h k))
-      (λ (k : length lists ≤ at). eq-eqb at (length lists) (omega (arith, c.inside)) ∙ sym (cut_whole h k))
+  pub cut_is : n ≤ l → at ≡ length lists → cutsb n lists ≡ true
+  cut_is h e = cut_whole h (omega (arith, e))
+
+  pub cut_ends : n ≤ l → cutsb n lists ≡ true → at ≡ length lists
+  cut_ends h z = ⊎_elim
+      (λ (k : at < length lists). absurd (true≢false (sym z ∙ cut_over h k)))
+      (λ (k : length lists ≤ at). omega (arith, c.inside))
       (split at (length lists))
 
   pub cut_placed : n ≤ 8192 → n % 2 ≡ 0 → n ≤ l → Placed lists n place

@@ -7,7 +7,7 @@ use mathlib.Core.Logic.{⊎_elim}
 use native.Mathlib.Omega.{arith}
 use lib.Dec.{eqb, ltb}
 use lib.ListN.{length, get_or}
-use borrow.Author.Tests.{ltb-true, lt-ltb, eq-eqb}
+use borrow.Author.Tests.{ltb-true, lt-ltb, eq-eqb, eqb-true}
 use Rattle.base.specs.Bounded.{all_below, every_of}
 use Rattle.base.proofs.Truth.{split}
 use Rattle.base.proofs.BelowLaws.{and_left, all_at, all_intro}
@@ -78,6 +78,9 @@ module _ (lists : List ℕ) (n : ℕ) where
 
     pub mirror_is : a ≡ b → has_mirror (sections_of n lists) l m ≡ true
     mirror_is e = sym mirror_tested ∙ eq-eqb a b e
+
+    pub mirror_counts : has_mirror (sections_of n lists) l m ≡ true → a ≡ b
+    mirror_counts z = eqb-true a b (mirror_tested ∙ z)
 
   -- the count of the other literal, y, in the section of x, that of m's other literal
   pub count_there : (l m y x k : ℕ) (es : List ℕ) → y ≡ not_lit l → x ≡ not_lit m → k ≡ times y es → es ≡ section_at (sections_of n lists) x

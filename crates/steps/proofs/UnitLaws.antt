@@ -1,6 +1,8 @@
 -- One add per unit, for a loop that has passed the first i units; and the bytes of a single step.
-use Prim.Native.Nat.{ℕ, ◌+◌, ◌-◌, ◌≤◌, ◌<◌}
-use mathlib.Core.Path.{◌≡◌, refl, sym, ap, ap₂, ◌∙◌}
+use Prim.Native.Nat.{ℕ, ◌+◌, ◌-◌, ◌/◌, ◌≤◌, ◌<◌}
+use mathlib.Core.Path.{◌≡◌, refl, sym, ap, ap₂, ◌∙◌, subst}
+use mathlib.Core.Bool.{Bool, true}
+use mathlib.Core.Logic.{◌≢◌}
 use mathlib.Core.List.{List, [], ◌∷◌, ◌++◌}
 use native.Mathlib.Omega.{arith}
 use lib.ListN.{length, get_or, take, drop, length-append, drop_of_length-le}
@@ -23,6 +25,20 @@ unit_is l i h = ap (take (i + 1 - i)) (next l i h) ∙ ap (λ (n : ℕ). take n 
   where
     one : i + 1 - i ≡ 1
     one = omega arith
+
+-- what its renaming asks, and what it gives
+pub unit_asks : (gs : List ℕ) (s : Bool) (l : List ℕ) (i : ℕ) → i < length l
+    → get_or gs (get_or l i 0 / 2) 0 ≤ 4096 → (s ≡ true → get_or gs (get_or l i 0 / 2) 0 ≢ 0)
+    → (length (take (i + 1 - i) (drop i l)) ≡ 1)
+    × ((get_or gs (get_or (take (i + 1 - i) (drop i l)) 0 0 / 2) 0 ≤ 4096) × (s ≡ true → get_or gs (get_or (take (i + 1 - i) (drop i l)) 0 0 / 2) 0 ≢ 0))
+unit_asks gs s l i h a b =
+    let e = unit_is l i h in (
+      ap length e,
+      subst (λ (xs : List ℕ). (get_or gs (get_or xs 0 0 / 2) 0 ≤ 4096) × (s ≡ true → get_or gs (get_or xs 0 0 / 2) 0 ≢ 0)) (sym e) (a, b),
+    )
+
+pub unit_named : (name : ℕ → ℕ) (l : List ℕ) (i r : ℕ) → i < length l → r ≡ name (get_or (take (i + 1 - i) (drop i l)) 0 0) → r ≡ name (get_or l i 0)
+unit_named name l i r h e = e ∙ ap (λ (xs : List ℕ). name (get_or xs 0 0)) (unit_is l i h)
 
 module _ (f : Format) (l : List ℕ) where
   -- the bytes of the units from i on, and of the unit at i alone

@@ -17,14 +17,19 @@ ghost use Rattle.steps.specs.Refusals.{literal_refusal};
 ghost use Rattle.steps.specs.Answers.{renamed, in_full};
 
 use crate::kinds::{differ, hashes_of, literals_of};
-use scope::{Counts, ProofStep, Refusal};
-use table::{Lists, any_outside, word_at};
+use scope::{Counts, ProofStep, Refusal, Solver};
+use table::{Lists, any_outside, holder, word_at};
 
 // Some literal's index has no holder.
 fn any_unheld(gs: &[u32], lits: &[u32]) -> bool
     ensures { result ≡ list_any (λ c. eqb (get_or gs.now (index_of c) 0) 0) lits.now }
 {
-    lits.iter().any(|lit| word_at(gs, *lit / 2) == 0)
+    for lit in lits {
+        let Some(_) = holder(gs, Solver(*lit / 2)) else {
+            return true;
+        };
+    }
+    false
 }
 
 // The first refusal that literals have: 3, 8.
@@ -59,18 +64,39 @@ pub fn rename_lit(gs: &[u32], solvervars: bool, code: u32) -> u32
     2 * (w - 1) + code % 2
 }
 
+// A unit, a part of the buffer of literals (document 01), under its global name.
+fn rename_unit(gs: &[u32], solvervars: bool, unit: &[u32]) -> u32
+    requires unit_len { length unit.now ≡ 1 }
+    requires unit_bound { get_or gs.now (get_or unit.now 0 0 / 2) 0 ≤ 4096 }
+    requires unit_nonzero { solvervars ≡ true → get_or gs.now (get_or unit.now 0 0 / 2) 0 ≢ 0 }
+    ensures { result ≡ rename_lit (λ s. get_or gs.now s 0) solvervars (get_or unit.now 0 0) }
+{
+    rename_lit(gs, solvervars, unit[0])
+}
+
 // Literals under global names, from the start of `out`.
 pub fn rename_lits(gs: &[u32], solvervars: bool, lits: &[u32], out: &mut [u32])
     requires named { Named gs.now solvervars lits.now }
     requires lits_in_bounds { length lits.now ≤ length out.old }
     ensures { Fills (change out.old out.new) 0 (names_by gs.now solvervars lits.now) }
 {
-    for (i, lit) in lits.iter().enumerate() {
-        out[i] = rename_lit(gs, solvervars, *lit);
+    for i in 0..lits.len() {
+        out[i] = rename_unit(gs, solvervars, &lits[i..i + 1]);
+    }
+}
+
+// Hashes pass unchanged. In a loop, as `copy_lits` of crates/table.
+fn copy_hashes(hashes: &[u64], out: &mut [u64])
+    requires { length hashes.now ≤ length out.old }
+    ensures { Fills (change out.old out.new) 0 hashes.now }
+{
+    for i in 0..hashes.len() {
+        out[i] = hashes[i];
     }
 }
 
 // The first refusal that a step has on a sound table, rooms apart: 14, 3, 8.
+#[inline(always)]
 pub fn step_refusal(
     t: &Lists,
     step: ProofStep,
@@ -192,7 +218,7 @@ pub fn known_rename_step(
     let carried = literals_of(step, lits);
     let hashed = hashes_of(step, hashes);
     rename_lits(gs, solvervars, carried, out);
-    hashout[..hashed.len()].copy_from_slice(hashed);
+    copy_hashes(hashed, hashout);
     Ok(Renamed {
         lits: carried.len(),
         hashes: hashed.len(),

@@ -1,4 +1,4 @@
-// Whether a table is sound, the words of its maps, refusal 8, and the words of a note: what the calls over a table share.
+// Whether a table is sound, the words of its maps, and the words of a note: what the calls over a table share.
 #![tactic(auto)]
 
 mod checks;
@@ -83,12 +83,14 @@ pub fn any_outside(capacity: u32, lits: &[u32]) -> bool
     found
 }
 
-// The literals as they are, from the start of `out` on.
+// The literals as they are, from the start of `out` on. In a loop, since `copy_from_slice` of a length not known asks the archives' users for `memmove`.
 pub fn copy_lits(lits: &[u32], out: &mut [u32])
     requires { length lits.now ≤ length out.old }
     ensures { Fills (change out.old out.new) 0 lits.now }
 {
-    out[..lits.len()].copy_from_slice(lits);
+    for i in 0..lits.len() {
+        out[i] = lits[i];
+    }
 }
 
 // The words of a note. The kinds' numbers stand here and nowhere else in the code.

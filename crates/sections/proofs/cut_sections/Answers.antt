@@ -1,4 +1,6 @@
-use Rattle.sections.proofs.CutLaws.{cut_missing, cut_short, cut_more, cut_tested}
+use Rattle.base.proofs.Truth.{truth}
+use Rattle.scope.proofs.WantedLaws.{both_ways_lem}
+use Rattle.sections.proofs.CutLaws.{cut_missing, cut_short, cut_more, cut_is, cut_ends}
 use mathlib.Core.Path.{sym}
 use native.Mathlib.Omega.{arith}
 use Rattle.sections.proofs.cut_sections.Goals as goal
@@ -19,4 +21,6 @@ loop-l-preserved c =
 
 pub returns-clause-value : goal.returns-clause-value
 returns-clause-value c =
-    cut_tested c.args.lists.now c.args.n _ _ _ c.loop-l.invariant c.loop-l-test.false
+    both_ways_lem _ _
+    (λ h. let k = simp truth at h in cut_is c.args.lists.now c.args.n _ _ _ c.loop-l.invariant c.loop-l-test.false (omega arith))
+    (λ z. let e = cut_ends c.args.lists.now c.args.n _ _ _ c.loop-l.invariant c.loop-l-test.false z in simp truth (omega arith))

@@ -86,12 +86,14 @@ code_of-requires-then-d-lt45 c =
     let a = c.args in
     let pre = c.requires in
     let k = c.lead-then-d-lt45 in
-    let w = three_is a.s.now a.at pre c.if-b-lt45.false c.if-c-lt45.false c.if-d-lt45.true in (
+    let w = three_is a.s.now a.at pre c.if-b-lt45.false c.if-c-lt45.false c.if-d-lt45.true in
+    let p = (third_inside a.s.now a.at pre c.if-b-lt45.false).1 in
+    let q = (fourth_inside a.s.now a.at pre c.if-b-lt45.false c.if-c-lt45.false).1 in (
       omega (arith, k.ensures.1),
       omega arith,
-      (third_inside a.s.now a.at pre c.if-b-lt45.false).1,
-      (fourth_inside a.s.now a.at pre c.if-b-lt45.false c.if-c-lt45.false).1,
-      omega (arith, k.ensures.0, w.1),
+      omega (arith, p, q),
+      omega (arith, p, q),
+      omega (arith, k.ensures.0, w.1, p, q),
     )
 
 pub returns-then-d-lt45 : goal.returns-then-d-lt45

@@ -1,11 +1,10 @@
 use mathlib.Core.Path.{refl, sym, ap, subst, ◌∙◌}
-use mathlib.Core.List.{List, ◌++◌}
-use Prim.Native.Nat.{ℕ, ◌≤◌}
-use lib.ListN.{length, drop, length-take}
+use mathlib.Core.List.{List}
+use Prim.Native.Nat.{ℕ}
+use lib.ListN.{length}
 use lib.Seq.{sets}
 use native.Mathlib.Omega.{arith}
 use Rattle.std.proofs.lemmas.Result.{err_from_is_err_and}
-use Rattle.base.proofs.SetsLaws.{sets_front}
 use Rattle.scope.proofs.RefusedLaws.{refused_err, refused_ok}
 use Rattle.steps.specs.Names.{Named, names_by}
 use Rattle.steps.proofs.LiteralLaws.{nameable_named}
@@ -45,20 +44,11 @@ rename_lits-requires-clause-lits_in_bounds c =
     let r = rename_clear _ a.step a.solvervars a.lits.now a.hashes.now _ _ _ c.rename_refusal.ensures (refused_ok _ _ c.in_ok-rename_refusal.was) in
     omega (arith, ap length c.literals_of-carried.ensures, r.room)
 
-pub slice_bounds-copy_from_slice-end : goal.slice_bounds-copy_from_slice-end
-slice_bounds-copy_from_slice-end c =
+pub copy_hashes-requires : goal.copy_hashes-requires
+copy_hashes-requires c =
     let a = c.args in
     let r = rename_clear _ a.step a.solvervars a.lits.now a.hashes.now _ _ _ c.rename_refusal.ensures (refused_ok _ _ c.in_ok-rename_refusal.was) in
     omega (arith, ap length c.hashes_of-hashed.ensures, r.hashroom)
-
-pub slice_bounds-copy_from_slice-end-2 : goal.slice_bounds-copy_from_slice-end-2
-slice_bounds-copy_from_slice-end-2 c =
-    let a = c.args in
-    let r = rename_clear _ a.step a.solvervars a.lits.now a.hashes.now _ _ _ c.rename_refusal.ensures (refused_ok _ _ c.in_ok-rename_refusal.was) in
-    omega (arith, ap length c.hashes_of-hashed.ensures, r.hashroom, length-take (length c.hashes_of-hashed.result.now) a.hashout.now)
-
-pub copy_from_slice-requires : goal.copy_from_slice-requires
-copy_from_slice-requires c = sym (slice_bounds-copy_from_slice-end-2 c)
 
 pub returns-clause-meets : goal.returns-clause-meets
 returns-clause-meets c =
@@ -81,9 +71,5 @@ returns-clause-hashout c =
     let a = c.args in
     let e = c.rename_refusal.ensures in
     let z = refused_ok _ _ c.in_ok-rename_refusal.was in
-    let h = c.hashes_of-hashed.result.now in
-    let r = rename_clear _ a.step a.solvervars a.lits.now a.hashes.now _ _ _ e z in
-    let l : length h ≤ length a.hashout.now = omega (arith, ap length c.hashes_of-hashed.ensures, r.hashroom) in
-    let w = ap (λ (hs : List ℕ). hs ++ drop (length h) a.hashout.now) c.copy_from_slice.ensures.after
-    ∙ sets_front h a.hashout.now l ∙ ap (sets a.hashout.now 0) c.hashes_of-hashed.ensures in
+    let w = c.copy_hashes.ensures ∙ ap (sets a.hashout.now 0) c.hashes_of-hashed.ensures in
     (rename_done _ a.step a.solvervars a.lits.now a.hashes.now a.out.now a.hashout.now _ _ _ e z refl w).more

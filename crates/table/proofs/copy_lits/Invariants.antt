@@ -1,0 +1,6 @@
+use mathlib.Core.Path.{◌≡◌}
+use Rattle.base.proofs.StoreLaws.{copied}
+use Rattle.table.proofs.copy_lits.Given as goal
+
+abbrev pub invariant-loop-i : goal.invariant-loop-i
+invariant-loop-i l = l.out ≡ copied (λ x. x) l.initial.out l.lits l.i
