@@ -1,5 +1,5 @@
 // A day at the counter of a maker of smart cash boxes: one session from Open to Model at capacity 8, then a short one at capacity 2.
-// Each call is made, and its answer, its notes and its bytes are printed, and how full the table then is.
+// Each call is made, and its answer, its notes and its bytes are printed, and how full the table then is. Each piece of a text is a write of its own.
 #![tactic(auto)]
 
 mod script;
@@ -12,7 +12,15 @@ use scope::Refusal;
 use script::{Call, DAY, SMALL_BOX};
 use session::{Session, front};
 use std::io;
-use telling::{Fill, LEGEND, Lits, Refused, Values};
+use std::io::Write;
+use telling::{Fill, LEGEND, Lits, Values};
+
+// Why a call is refused, after its number.
+fn refuse(rt: &impl Print, why: Refusal) -> io::Result<()> {
+    write!(io::writer(rt), "refused: {}", u32::from(why))?;
+    print!(rt; ", {why}")?;
+    println!(rt)
+}
 
 // The steps of a proof that was read: where the literals of each end, and whether it deletes.
 fn print_steps(rt: &impl Print, codes: &[u32], ends: &[u64], kinds: &[u8]) -> io::Result<()> {
@@ -20,8 +28,8 @@ fn print_steps(rt: &impl Print, codes: &[u32], ends: &[u64], kinds: &[u8]) -> io
     for (end, kind) in ends.iter().zip(kinds) {
         let end = *end as usize;
         let lits = Lits('g', codes.get(start..end).unwrap_or(&[]));
-        let name = if *kind == 0 { "add" } else { "delete" };
-        println!(rt; "  {name}{lits}")?;
+        let name = if *kind == 0 { "  add" } else { "  delete" };
+        writeln!(io::writer(rt), "{name}{lits}")?;
         start = end;
     }
     Ok(())
@@ -35,7 +43,7 @@ fn read_back(rt: &impl Print, bytes: &[u8]) -> io::Result<()> {
     match read_proof(Format::Text, bytes, &mut codes, &mut ends, &mut kinds) {
         Ok(size) => print_steps(rt, &codes, front(&ends, size.steps), &kinds),
         Err(ReadError::NotWhole(_)) => println!(rt; "refused: 13, a step is not whole"),
-        Err(ReadError::Room) => println!(rt; "{}", Refused(Refusal::Short)),
+        Err(ReadError::Room) => refuse(rt, Refusal::Short),
     }
 }
 
@@ -46,10 +54,14 @@ fn print_model<const N: usize>(rt: &impl Print, session: &Session<N>) -> io::Res
     match session.model(&mut globals, &mut users) {
         Ok(made) => {
             let values = Values(front(&globals, made.globals as usize));
-            println!(rt; "values of the globals:{values}")?;
-            println!(rt; "model:{}", Lits('u', front(&users, made.users as usize)))
+            write!(io::writer(rt), "values of the globals:{values}")?;
+            writeln!(
+                io::writer(rt),
+                "\nmodel:{}",
+                Lits('u', front(&users, made.users as usize))
+            )
         }
-        Err(why) => println!(rt; "{}", Refused(why)),
+        Err(why) => refuse(rt, why),
     }
 }
 
@@ -60,12 +72,15 @@ fn play<const N: usize>(
     calls: &[Call],
 ) -> io::Result<()> {
     for call in calls {
-        print!(rt; "{call}:")?;
+        write!(io::writer(rt), "{call}")?;
         match session.make(*call) {
-            Ok(answer) => println!(rt; "{answer}")?,
-            Err(why) => println!(rt; " {}", Refused(why))?,
+            Ok(answer) => write!(io::writer(rt), "{answer}")?,
+            Err(why) => {
+                write!(io::writer(rt), "{}", call.gap())?;
+                refuse(rt, why)?
+            }
         }
-        println!(rt; "    {}", Fill(session.counts()))?;
+        write!(io::writer(rt), "{}", Fill(session.counts()))?;
     }
     println!(rt; "proof:")?;
     read_back(rt, session.proof())?;

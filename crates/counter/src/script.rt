@@ -1,7 +1,27 @@
 // The two sessions, call by call.
-use crate::telling::{Lit, Lits};
+use crate::telling::Lits;
 use scope::{Global, Mark, SamplingMode, Solver, User};
 use std::fmt;
+
+// A clause of at most three literals. Its length is bounded by its type, so that no call here keeps the room for long clauses on the stack.
+#[derive(Clone, Copy)]
+pub enum Clause {
+    Empty,
+    Unit([u32; 1]),
+    Pair([u32; 2]),
+    Three([u32; 3]),
+}
+
+impl Clause {
+    pub fn lits(&self) -> &[u32] {
+        match self {
+            Clause::Empty => &[],
+            Clause::Unit(lits) => lits,
+            Clause::Pair(lits) => lits,
+            Clause::Three(lits) => lits,
+        }
+    }
+}
 
 // The calls, with what they are asked. Literals are codes, of users in Pose and of solver indices elsewhere.
 #[derive(Clone, Copy)]
@@ -17,11 +37,11 @@ pub enum Call {
     Assign(u32),
     Remove(Solver),
     Sweep,
-    Pose(&'static [u32]),
-    Add(&'static [u32]),
-    Delete(&'static [u32]),
-    Rename(&'static [u32]),
-    Simplify(&'static [u32]),
+    Pose(Clause),
+    Add(Clause),
+    Delete(Clause),
+    Rename(Clause),
+    Simplify(Clause),
 }
 
 // The codes of literals: P0 is the positive one of index 0, N0 the negative one.
@@ -47,8 +67,8 @@ pub const DAY: [Call; 40] = [
     Call::SetMode(Global(1), SamplingMode::Hide),
     Call::NewUser,
     Call::Grant(Global(2)),
-    Call::Add(&[N0]),
-    Call::Delete(&[]),
+    Call::Add(Clause::Unit([N0])),
+    Call::Delete(Clause::Empty),
     Call::Sweep,
     Call::Grant(Global(2)),
     Call::SetMode(Global(2), SamplingMode::Hide),
@@ -57,7 +77,7 @@ pub const DAY: [Call; 40] = [
     Call::LookUp(User(2)),
     // Three boxes are posed and in use; case 12; the assumed one may not be removed; one is hidden, one is settled, and its clause becomes
     // shorter.
-    Call::Pose(&[P0, P1, N2]),
+    Call::Pose(Clause::Three([P0, P1, N2])),
     Call::Mark(Mark::Used, Solver(1)),
     Call::Mark(Mark::Used, Solver(2)),
     Call::Mark(Mark::Used, Solver(3)),
@@ -69,22 +89,22 @@ pub const DAY: [Call; 40] = [
     Call::SetMode(Global(1), SamplingMode::Hide),
     Call::Assign(P3),
     Call::Assign(N3),
-    Call::Simplify(&[P1, P2, N3]),
+    Call::Simplify(Clause::Three([P1, P2, N3])),
     // The settled box is swept, its solver index and its user's name go to others, and steps are written under the new names.
     Call::Sweep,
-    Call::Add(&[P3, P1]),
+    Call::Add(Clause::Pair([P3, P1])),
     Call::NewUser,
     Call::Grant(Global(4)),
-    Call::Rename(&[N0, P2]),
-    Call::Add(&[N0, P2]),
+    Call::Rename(Clause::Pair([N0, P2])),
+    Call::Add(Clause::Pair([N0, P2])),
     Call::Assign(P1),
-    Call::Simplify(&[P1, P2]),
+    Call::Simplify(Clause::Pair([P1, P2])),
     Call::Assign(N0),
-    Call::Simplify(&[N0, P2]),
+    Call::Simplify(Clause::Pair([N0, P2])),
     Call::Remove(Solver(2)),
     Call::Sweep,
     Call::Observe,
-    Call::Pose(&[P3]),
+    Call::Pose(Clause::Unit([P3])),
 ];
 
 // Case 10, at capacity 2.
@@ -95,42 +115,58 @@ pub const SMALL_BOX: [Call; 4] = [
     Call::NewUser,
 ];
 
-fn mode_name(mode: SamplingMode) -> &'static str {
+fn to_mode(mode: SamplingMode) -> &'static str {
     match mode {
-        SamplingMode::Sample => "Sample",
-        SamplingMode::Witness => "Witness",
-        SamplingMode::Hide => "Hide",
+        SamplingMode::Sample => " to Sample: ",
+        SamplingMode::Witness => " to Witness: ",
+        SamplingMode::Hide => " to Hide: ",
     }
 }
 
-fn mark_name(mark: Mark) -> &'static str {
+fn as_marked(mark: Mark) -> &'static str {
     match mark {
-        Mark::Used => "used",
-        Mark::Assumed => "assumed",
-        Mark::Released => "no longer assumed",
+        Mark::Used => " used: ",
+        Mark::Assumed => " assumed: ",
+        Mark::Released => " no longer assumed: ",
+    }
+}
+
+impl Call {
+    // What stands between the call and its refusal: where steps are asked for, each answer brings its own blank.
+    pub fn gap(&self) -> &'static str {
+        match self {
+            Call::Add(_) | Call::Delete(_) | Call::Rename(_) | Call::Simplify(_) => " ",
+            _ => "",
+        }
     }
 }
 
 // What is asked.
 impl fmt::Display for Call {
     fn fmt<W: fmt::Write>(&self, f: &mut fmt::Formatter<W>) -> fmt::Result {
-        match *self {
-            Call::Open(capacity) => write!(f, "open, capacity {capacity}"),
-            Call::Map(user) => write!(f, "map user u{}", user.0),
-            Call::NewUser => write!(f, "new user"),
-            Call::SetMode(g, mode) => write!(f, "set global g{} to {}", g.0, mode_name(mode)),
-            Call::Observe => write!(f, "observe"),
-            Call::LookUp(user) => write!(f, "look up user u{}", user.0),
-            Call::Grant(global) => write!(f, "grant global g{}", global.0),
-            Call::Mark(mark, s) => write!(f, "mark solver s{} {}", s.0, mark_name(mark)),
-            Call::Assign(lit) => write!(f, "assign {}", Lit('s', lit)),
-            Call::Remove(solver) => write!(f, "remove solver s{}", solver.0),
-            Call::Sweep => write!(f, "sweep"),
-            Call::Pose(lits) => write!(f, "pose{}", Lits('u', lits)),
-            Call::Add(lits) => write!(f, "write an add of solver literals{}", Lits('s', lits)),
-            Call::Delete(lits) => write!(f, "write a delete of solver literals{}", Lits('s', lits)),
-            Call::Rename(lits) => write!(f, "rename{}", Lits('s', lits)),
-            Call::Simplify(lits) => write!(f, "simplify{}", Lits('s', lits)),
+        match self {
+            Call::Open(capacity) => write!(f, "open, capacity {capacity}: "),
+            Call::Map(user) => write!(f, "map user u{}: ", user.0),
+            Call::NewUser => write!(f, "new user: "),
+            Call::SetMode(g, mode) => write!(f, "set global g{}{}", g.0, to_mode(*mode)),
+            Call::Observe => write!(f, "observe: "),
+            Call::LookUp(user) => write!(f, "look up user u{}: ", user.0),
+            Call::Grant(global) => write!(f, "grant global g{}: ", global.0),
+            Call::Mark(mark, s) => write!(f, "mark solver s{}{}", s.0, as_marked(*mark)),
+            Call::Assign(lit) => write!(f, "assign{}: ", Lits('s', &[*lit])),
+            Call::Remove(solver) => write!(f, "remove solver s{}: ", solver.0),
+            Call::Sweep => write!(f, "sweep: "),
+            Call::Pose(c) => write!(f, "pose{}: ", Lits('u', c.lits())),
+            Call::Add(c) => write!(f, "write an add of solver literals{}:", Lits('s', c.lits())),
+            Call::Delete(c) => {
+                write!(
+                    f,
+                    "write a delete of solver literals{}:",
+                    Lits('s', c.lits())
+                )
+            }
+            Call::Rename(c) => write!(f, "rename{}:", Lits('s', c.lits())),
+            Call::Simplify(c) => write!(f, "simplify{}:", Lits('s', c.lits())),
         }
     }
 }

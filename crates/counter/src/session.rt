@@ -1,6 +1,6 @@
 // One session. Each method makes one call of the library, keeps the counts that come back, and gives the answer. Nothing is decided here.
 // The six lists and the slices to be filled are named one by one at each call, since the C interface lends each by itself.
-use crate::script::Call;
+use crate::script::{Call, Clause};
 use crate::telling::{Answer, Lits, Notes, Quoted, Users};
 use drat::Format;
 use granting::solver_from_global;
@@ -111,13 +111,16 @@ impl<const N: usize> Session<N> {
             Call::Assign(lit) => self.assign(lit),
             Call::Remove(solver) => self.remove(solver),
             Call::Sweep => self.sweep(),
-            Call::Pose(lits) => self.pose(lits),
-            Call::Add(lits) => self.write(ProofStep::AtClause(false), lits),
-            Call::Delete(lits) => {
-                self.write(ProofStep::DeleteClause(DeleteClauseProof::Redundant), lits)
+            Call::Pose(clause) => self.pose(clause),
+            Call::Add(clause) => self.write(ProofStep::AtClause(false), clause),
+            Call::Delete(clause) => {
+                self.write(
+                    ProofStep::DeleteClause(DeleteClauseProof::Redundant),
+                    clause,
+                )
             }
-            Call::Rename(lits) => self.rename(lits),
-            Call::Simplify(lits) => self.simplify(lits),
+            Call::Rename(clause) => self.rename(clause),
+            Call::Simplify(clause) => self.simplify(clause),
         }
     }
 
@@ -297,7 +300,7 @@ impl<const N: usize> Session<N> {
         Ok(Answer::Changed(Notes(&self.notes, made.notes)))
     }
 
-    fn pose(&mut self, lits: &[u32]) -> Result<Answer<'_>, Refusal> {
+    fn pose(&mut self, clause: Clause) -> Result<Answer<'_>, Refusal> {
         let made = solver_from_user_lits(
             self.counts,
             &mut self.gu,
@@ -306,7 +309,7 @@ impl<const N: usize> Session<N> {
             &mut self.gs,
             &mut self.assignment,
             &mut self.records,
-            lits,
+            clause.lits(),
             false,
             &mut self.words,
             &mut self.notes,
@@ -317,7 +320,7 @@ impl<const N: usize> Session<N> {
     }
 
     // Write, from the end of the proof on.
-    fn write(&mut self, step: ProofStep, lits: &[u32]) -> Result<Answer<'_>, Refusal> {
+    fn write(&mut self, step: ProofStep, clause: Clause) -> Result<Answer<'_>, Refusal> {
         let n = write_step(
             self.counts,
             &self.gu,
@@ -329,14 +332,14 @@ impl<const N: usize> Session<N> {
             Format::Text,
             step,
             true,
-            lits,
+            clause.lits(),
             &[],
             self.proof.room()?,
         )?;
         Ok(Answer::Written(self.proof.grow(n)))
     }
 
-    fn rename(&mut self, lits: &[u32]) -> Result<Answer<'_>, Refusal> {
+    fn rename(&mut self, clause: Clause) -> Result<Answer<'_>, Refusal> {
         let made = rename_step(
             self.counts,
             &self.gu,
@@ -347,7 +350,7 @@ impl<const N: usize> Session<N> {
             &self.records,
             ProofStep::AtClause(false),
             true,
-            lits,
+            clause.lits(),
             &[],
             &mut self.words,
             &mut [],
@@ -356,7 +359,7 @@ impl<const N: usize> Session<N> {
     }
 
     // Simplify, its steps from the end of the proof on.
-    fn simplify(&mut self, lits: &[u32]) -> Result<Answer<'_>, Refusal> {
+    fn simplify(&mut self, clause: Clause) -> Result<Answer<'_>, Refusal> {
         let made = simplify_clause(
             self.counts,
             &self.gu,
@@ -366,7 +369,7 @@ impl<const N: usize> Session<N> {
             &self.assignment,
             &self.records,
             Format::Text,
-            lits,
+            clause.lits(),
             false,
             &mut self.words,
             self.proof.room()?,

@@ -1,6 +1,6 @@
 // What `counter` prints. Indices have a letter and count from 0: u a user, g a global, s a solver index; a literal is its index, after a
 // minus sign where it is negative. Notes are in document 01's notation, and refusals have their meaning beside them.
-use scope::{Counts, Global, Note, Refusal, Simplified, Solver, User};
+use scope::{Counts, Global, Note, Simplified, Solver, User};
 use std::fmt;
 
 // How to read the lines.
@@ -14,7 +14,7 @@ pub const LEGEND: &str =
 
 // A literal: the letter of its sort, and its code.
 #[derive(Clone, Copy)]
-pub struct Lit(pub char, pub u32);
+struct Lit(char, u32);
 
 impl fmt::Display for Lit {
     fn fmt<W: fmt::Write>(&self, f: &mut fmt::Formatter<W>) -> fmt::Result {
@@ -45,7 +45,7 @@ pub struct Users<'a>(pub &'a [u32]);
 impl fmt::Display for Users<'_> {
     fn fmt<W: fmt::Write>(&self, f: &mut fmt::Formatter<W>) -> fmt::Result {
         for user in self.0 {
-            write!(f, " u{user}")?;
+            write!(f, " {}{user}", 'u')?;
         }
         Ok(())
     }
@@ -59,27 +59,34 @@ impl fmt::Display for Values<'_> {
     fn fmt<W: fmt::Write>(&self, f: &mut fmt::Formatter<W>) -> fmt::Result {
         for (g, word) in self.0.iter().enumerate() {
             let value = match *word {
-                0 => "none",
-                1 => "false",
-                _ => "true",
+                0 => " none",
+                1 => " false",
+                _ => " true",
             };
-            write!(f, " g{g} {value}")?;
+            write!(f, " {}{g}{value}", 'g')?;
         }
         Ok(())
     }
 }
 
-// Bytes of the proof file, in quotes, a line feed as \n.
+// A line that holds bytes of the proof file in quotes, a line feed as \n.
 #[derive(Clone, Copy)]
 pub struct Quoted<'a>(pub &'a [u8]);
 
 impl fmt::Display for Quoted<'_> {
     fn fmt<W: fmt::Write>(&self, f: &mut fmt::Formatter<W>) -> fmt::Result {
-        write!(f, "\"{}\"", self.0.escape_ascii())
+        write!(f, "\"")?;
+        for byte in self.0 {
+            match *byte {
+                b'\n' => write!(f, "\\n")?,
+                byte => write!(f, "{}", char::from(byte))?,
+            }
+        }
+        write!(f, "\"\n")
     }
 }
 
-// A note, in document 01's notation.
+// A note after a blank, in document 01's notation.
 #[derive(Clone, Copy)]
 struct Told(Note);
 
@@ -99,33 +106,34 @@ fn note_of(kind: u32, global: u32, last: u32) -> Note {
 impl fmt::Display for Told {
     fn fmt<W: fmt::Write>(&self, f: &mut fmt::Formatter<W>) -> fmt::Result {
         match self.0 {
-            Note::UserGranted(global, user) => write!(f, "U(g{},u{})", global.0, user.0),
-            Note::UserWithdrawn(global) => write!(f, "U(g{},-)", global.0),
-            Note::SolverGranted(global, solver) => write!(f, "S(g{},s{})", global.0, solver.0),
-            Note::SolverWithdrawn(global) => write!(f, "S(g{},-)", global.0),
-            Note::Deleted(global) => write!(f, "D(g{})", global.0),
-            Note::ModeChanged(global, true) => write!(f, "C(g{},yes)", global.0),
-            Note::ModeChanged(global, false) => write!(f, "C(g{},no)", global.0),
+            Note::UserGranted(global, user) => write!(f, " U(g{},u{}", global.0, user.0)?,
+            Note::UserWithdrawn(global) => write!(f, " U(g{},-", global.0)?,
+            Note::SolverGranted(global, solver) => write!(f, " S(g{},s{}", global.0, solver.0)?,
+            Note::SolverWithdrawn(global) => write!(f, " S(g{},-", global.0)?,
+            Note::Deleted(global) => write!(f, " D(g{}", global.0)?,
+            Note::ModeChanged(global, true) => write!(f, " C(g{},yes", global.0)?,
+            Note::ModeChanged(global, false) => write!(f, " C(g{},no", global.0)?,
         }
+        write!(f, ")")
     }
 }
 
-// The words of notes, and how many notes are told.
+// The words of notes, and how many notes are told; they end the line.
 #[derive(Clone, Copy)]
 pub struct Notes<'a>(pub &'a [u32], pub u32);
 
 impl fmt::Display for Notes<'_> {
     fn fmt<W: fmt::Write>(&self, f: &mut fmt::Formatter<W>) -> fmt::Result {
         let Notes(words, count) = *self;
-        if count == 0 {
-            return write!(f, "; notes none");
-        }
         write!(f, "; notes")?;
+        if count == 0 {
+            write!(f, " none")?;
+        }
         let (notes, _) = words.as_chunks::<3>();
         for [kind, global, last] in notes.iter().take(count as usize) {
-            write!(f, " {}", Told(note_of(*kind, *global, *last)))?;
+            write!(f, "{}", Told(note_of(*kind, *global, *last)))?;
         }
-        Ok(())
+        write!(f, "\n")
     }
 }
 
@@ -136,26 +144,17 @@ pub struct Fill(pub Counts);
 impl fmt::Display for Fill {
     fn fmt<W: fmt::Write>(&self, f: &mut fmt::Formatter<W>) -> fmt::Result {
         let c = self.0;
-        write!(f, "{} of {} taken, next ", c.used, c.capacity)?;
+        write!(f, "    {} of {} taken, next ", c.used, c.capacity)?;
         if c.next < c.capacity {
-            write!(f, "s{}", c.next)
+            write!(f, "s{}", c.next)?;
         } else {
-            write!(f, "none")
+            write!(f, "none")?;
         }
+        write!(f, "\n")
     }
 }
 
-// Why a call is refused, after its number.
-#[derive(Clone, Copy)]
-pub struct Refused(pub Refusal);
-
-impl fmt::Display for Refused {
-    fn fmt<W: fmt::Write>(&self, f: &mut fmt::Formatter<W>) -> fmt::Result {
-        write!(f, "refused: {}, {}", u32::from(self.0), self.0)
-    }
-}
-
-// What a call answers, with what it filled. It is printed after a blank, as each word of a list.
+// What a call answers, with what it filled, to the end of the line.
 #[derive(Clone, Copy)]
 pub enum Answer<'a> {
     Done,
@@ -175,19 +174,19 @@ pub enum Answer<'a> {
 impl fmt::Display for Answer<'_> {
     fn fmt<W: fmt::Write>(&self, f: &mut fmt::Formatter<W>) -> fmt::Result {
         match *self {
-            Answer::Done => write!(f, " ok"),
-            Answer::Changed(notes) => write!(f, " ok{notes}"),
-            Answer::Mapped(global, notes) => write!(f, " global g{}{notes}", global.0),
-            Answer::Named(user, g, notes) => write!(f, " user u{}, global g{}{notes}", user.0, g.0),
-            Answer::Shown(user, notes) => write!(f, " user u{}{notes}", user.0),
-            Answer::Observed(users, notes) => write!(f, " users{users}{notes}"),
-            Answer::Found(Some(global)) => write!(f, " global g{}", global.0),
-            Answer::Found(None) => write!(f, " none"),
-            Answer::Granted(solver, notes) => write!(f, " solver s{}{notes}", solver.0),
-            Answer::Posed(lits, notes) => write!(f, " solver literals{lits}{notes}"),
+            Answer::Done => write!(f, "ok\n"),
+            Answer::Changed(notes) => write!(f, "ok{notes}"),
+            Answer::Mapped(global, notes) => write!(f, "global g{}{notes}", global.0),
+            Answer::Named(user, g, notes) => write!(f, "user u{}, global g{}{notes}", user.0, g.0),
+            Answer::Shown(user, notes) => write!(f, "user u{}{notes}", user.0),
+            Answer::Observed(users, notes) => write!(f, "users{users}{notes}"),
+            Answer::Found(Some(global)) => write!(f, "global g{}\n", global.0),
+            Answer::Found(None) => write!(f, "none\n"),
+            Answer::Granted(solver, notes) => write!(f, "solver s{}{notes}", solver.0),
+            Answer::Posed(lits, notes) => write!(f, "solver literals{lits}{notes}"),
             Answer::Written(bytes) => write!(f, " {bytes}"),
-            Answer::Renamed(lits) => write!(f, "{lits}"),
-            Answer::Reduced(what, lits, bytes) => { write!(f, " {}{lits}; {bytes}", reduced(what)) }
+            Answer::Renamed(lits) => write!(f, "{lits}\n"),
+            Answer::Reduced(what, lits, bytes) => write!(f, " {}{lits}; {bytes}", reduced(what)),
         }
     }
 }

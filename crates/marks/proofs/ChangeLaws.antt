@@ -1,6 +1,6 @@
 -- Laws by which marks and Assign are what crates/scope/specs/Marks.antt says.
 use Rattle.std.specs.Prelude.{Result, Ok, Err}
-use Prim.Native.Nat.{ℕ, zero, suc, ◌+◌, ◌≤◌, ◌<◌}
+use Prim.Native.Nat.{ℕ, zero, suc, ◌+◌, ◌-◌, ◌≤◌, ◌<◌}
 use mathlib.Core.Path.{◌≡◌, refl, sym, ap, ◌∙◌, subst}
 use mathlib.Core.Bool.{true, false}
 use mathlib.Core.List.{List, []}
@@ -22,6 +22,8 @@ use Rattle.scope.specs.Marks.{not_held, held_else, holder_of, marked, mark, mark
 use Rattle.scope.proofs.SoundLaws.{sound_of}
 use Rattle.scope.proofs.PairLaws.{below_mark, pair_flip}
 use Rattle.scope.proofs.MarkLaws.{held_else_lem}
+use Rattle.scope.specs.Refusals.{number}
+use Rattle.table.proofs.FoundLaws.{held_err, held_ok}
 use Rattle.scope.specs.declared.Refusal.{Refusal}
 use Rattle.scope.specs.declared.Refusal.TheVariants.{NotHeld, HasValue}
 use Rattle.marks.specs.Answers.{changed, with_records, with_values}
@@ -130,18 +132,18 @@ module _ (t : Table) (lit : ℕ) where
     unfolding assign_of assign_refusal held_else not_held
     assign_unheld h = refusing 8 t _ _ _ (λ z. omega arith) (rw (k, eq-eqb (get_or t.global_from_solver (index_of lit) 0) 0 h))
 
-    assign_9 : (g : ℕ) → get_or t.global_from_solver (index_of lit) 0 ≡ g + 1 → get_or t.assignment (index_of lit) 0 ≢ 0
+    assign_9 : get_or t.global_from_solver (index_of lit) 0 ≢ 0 → get_or t.assignment (index_of lit) 0 ≢ 0
         → Does (assign_of t lit) (changed (Err HasValue) t.counts) t [] []
     unfolding assign_of assign_refusal not_held
-    assign_9 g h n =
-        let w = held_else_lem t (index_of lit) _ (ne_eqb (get_or t.global_from_solver (index_of lit) 0) 0 (λ z. omega arith)) in
+    assign_9 h n =
+        let w = held_else_lem t (index_of lit) _ (ne_eqb (get_or t.global_from_solver (index_of lit) 0) 0 h) in
         refusing 9 t _ _ _ (λ z. omega arith) (rw k (w ∙ rw (ne_eqb (get_or t.assignment (index_of lit) 0) 0 n)))
 
-    assign_done : (g : ℕ) → get_or t.global_from_solver (index_of lit) 0 ≡ g + 1 → get_or t.assignment (index_of lit) 0 ≡ 0
+    assign_done : get_or t.global_from_solver (index_of lit) 0 ≢ 0 → get_or t.assignment (index_of lit) 0 ≡ 0
         → Does (assign_of t lit) (changed (Ok tt) t.counts) (with_values t (set t.assignment (index_of lit) (true_value lit))) [] []
     unfolding assign_of assign_refusal not_held put_value
-    assign_done g h z =
-        let w = held_else_lem t (index_of lit) _ (ne_eqb (get_or t.global_from_solver (index_of lit) 0) 0 (λ q. omega arith)) in
+    assign_done h z =
+        let w = held_else_lem t (index_of lit) _ (ne_eqb (get_or t.global_from_solver (index_of lit) 0) 0 h) in
         doing t _ _ _ _ (rw k (w ∙ rw z)) refl
 
 -- in the lists gs and vs, of every sound table that has them
@@ -151,26 +153,28 @@ module _ (lit : ℕ) (gs vs : List ℕ) where
       (t : Table) → soundb t ≡ true → t.global_from_solver ≡ gs → t.assignment ≡ vs
       → Does (assign_of t lit) (changed r t.counts) (with_values t vs2) [] []
 
-  pub assign_in_unheld : get_or gs (index_of lit) 0 ≡ 0 → AssignIn (Err NotHeld) vs
-  assign_in_unheld h t k p q =
-      subst (λ (l : List ℕ). Does (assign_of t lit) (changed (Err NotHeld) t.counts) (with_values t l) [] []) q
-      (assign_unheld t lit k (same_word (index_of lit) 0 p h))
+  pub assign_in_unheld : (r : Refusal) → ((t : Table) → t.global_from_solver ≡ gs → number r ≡ held_else t (index_of lit) 0) → AssignIn (Err r) vs
+  assign_in_unheld r f t k p q =
+      let u = held_err t (index_of lit) r (f t p) in
+      subst (λ (l : List ℕ). Does (assign_of t lit) (changed (Err r) t.counts) (with_values t l) [] []) q
+      (rw u.0 (assign_unheld t lit k u.1))
 
-  module _ (g : ℕ) (h : get_or gs (index_of lit) 0 ≡ g + 1) where
+  module _ (f : (t : Table) → t.global_from_solver ≡ gs → 0 ≡ held_else t (index_of lit) 0) where
     -- a held index has an assignment word
     pub assign_in_place : (t : Table) → soundb t ≡ true → t.global_from_solver ≡ gs → t.assignment ≡ vs → length vs ≤ index_of lit → ⊥
     assign_in_place t k p q l =
-        let x = (held_facts t (index_of lit) g k (same_word (index_of lit) (g + 1) p h)).assignment in
+        let h = held_ok t (index_of lit) (f t p) in
+        let x = (held_facts t (index_of lit) (get_or t.global_from_solver (index_of lit) 0 - 1) k (omega arith)).assignment in
         let e = ap length q in
         omega arith
 
     pub assign_in_9 : get_or vs (index_of lit) 0 ≢ 0 → AssignIn (Err HasValue) vs
     assign_in_9 n t k p q =
         subst (λ (l : List ℕ). Does (assign_of t lit) (changed (Err HasValue) t.counts) (with_values t l) [] []) q
-        (assign_9 t lit k g (same_word (index_of lit) (g + 1) p h) (λ z. n (same_word (index_of lit) 0 (sym q) z)))
+        (assign_9 t lit k (held_ok t (index_of lit) (f t p)) (λ z. n (same_word (index_of lit) 0 (sym q) z)))
 
     pub assign_in_done : (v : ℕ) → get_or vs (index_of lit) 0 ≡ 0 → v ≡ true_value lit → AssignIn (Ok tt) (set vs (index_of lit) v)
     assign_in_done v z e t k p q =
         subst (λ (l : List ℕ). Does (assign_of t lit) (changed (Ok tt) t.counts) (with_values t l) [] [])
         (ap (λ (l : List ℕ). set l (index_of lit) (true_value lit)) q ∙ ap (λ (w : ℕ). set vs (index_of lit) w) (sym e))
-        (assign_done t lit k g (same_word (index_of lit) (g + 1) p h) (same_word (index_of lit) 0 q z))
+        (assign_done t lit k (held_ok t (index_of lit) (f t p)) (same_word (index_of lit) 0 q z))

@@ -11,7 +11,7 @@ ghost use Rattle.scope.specs.Marks.{marked, mark_of, assign_of};
 ghost use Rattle.marks.specs.Answers.{changed, with_records, with_values};
 
 use scope::{Counts, Mark, Refusal, Solver};
-use table::{Lists, holder};
+use table::{Lists, held_refusal, holder};
 
 // The record with the mark: used clears isolated; assumed is set or cleared.
 fn marked_record(mark: Mark, w: u32) -> u32
@@ -111,9 +111,7 @@ pub fn assign_in(gs: &[u32], assignment: &mut [u32], lit: u32) -> Result<(), Ref
     ensures { (t : Table) → soundb t ≡ true → t.global_from_solver ≡ gs.now → t.assignment ≡ assignment.old
         → Does (assign_of t lit) (changed result t.counts) (with_values t assignment.new) [] [] }
 {
-    let Some(_) = holder(gs, Solver(lit / 2)) else {
-        return Err(Refusal::NotHeld);
-    };
+    held_refusal(gs, Solver(lit / 2))?;
     let s = (lit / 2) as usize;
     if assignment.len() <= s {
         return Err(Refusal::Unsound);

@@ -22,6 +22,12 @@ module _ (t : Table) (h : soundb t ≡ true) where
   pub record_there : (g : ℕ) → g < t.counts.global → g < length t.records
   record_there g l = let z = (sound_of t h).sizes in omega arith
 
+  pub solver_there : (g : ℕ) → g < t.counts.global → g < length t.solver_from_global
+  solver_there g l = let z = (sound_of t h).sizes in omega arith
+
+  pub user_there : (u : ℕ) → u < t.counts.user → u < length t.global_from_user
+  user_there u l = let z = (sound_of t h).sizes in omega arith
+
   pub value_there : (g s : ℕ) → get_or t.solver_from_global g 0 ≡ s + 1 → s < length t.assignment
   value_there g s e =
       let z = (sound_of t h).sizes in

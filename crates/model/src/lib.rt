@@ -13,9 +13,10 @@ ghost use Rattle.model.specs.Values.{user_value};
 ghost use Rattle.model.specs.Answers.{modelled};
 
 use scope::{Counts, Global, Refusal, User};
-use table::{Lists, global_of, solver_of};
+use table::Lists;
 
-// The value of a global, coded like the assignment.
+// The value of a global, coded like the assignment. Its words are indexed, here and of a user, and not looked up by `solver_of` and `global_of`, which
+// test the length that a sound table has.
 fn global_value(t: &Lists, global: Global) -> u32
     requires sound { soundb (seen t.now) ≡ true }
     requires below { global.0 < t.now.counts.global }
@@ -26,23 +27,24 @@ fn global_value(t: &Lists, global: Global) -> u32
     if 36 <= x {
         return 0;
     }
-    let Some(solver) = solver_of(t.sg, global) else {
+    let Some(solver) = t.sg[global.0 as usize].checked_sub(1) else {
         let unit = x / 3 % 3;
         return if unit == 0 { 1 } else { unit };
     };
-    t.assignment[solver.0 as usize]
+    t.assignment[solver as usize]
 }
 
 // The value of a user: none if it is not mapped.
 fn user_value(t: &Lists, user: User) -> u32
-    requires { soundb (seen t.now) ≡ true }
+    requires sound { soundb (seen t.now) ≡ true }
+    requires below { user.0 < t.now.counts.user }
     ensures value { result ≡ user_value (seen t.now) user.0 }
     ensures upper_bound { result ≤ 2 }
 {
-    let Some(global) = global_of(t.gu, user) else {
+    let Some(global) = t.gu[user.0 as usize].checked_sub(1) else {
         return 0;
     };
-    global_value(t, global)
+    global_value(t, Global(global))
 }
 
 // How many users have a value.

@@ -33,9 +33,9 @@ impl Answer {
         }
     }
 
-    // A slice that was lent, and the part of the line that says what it holds.
-    pub fn filled<T: Element, S: Element>(self, part: Part, slice: &[T], said: &[S]) -> Answer {
-        if self.differs.is_some() || holds(slice, said) {
+    // A slice that was lent, which must hold what the line's part says.
+    pub fn filled<T: Element>(self, part: Part, slice: &[T], line: &Line) -> Answer {
+        if self.differs.is_some() || holds(slice, line.part(part)) {
             return self;
         }
         Answer {

@@ -31,8 +31,10 @@ pub enum Call {
 }
 
 impl Call {
+    pub const COUNT: usize = 23;
+
     // In the order in which they are counted.
-    pub const ALL: [Call; 23] = [
+    pub const ALL: [Call; Call::COUNT] = [
         Call::Lookup,
         Call::Map,
         Call::NewUser,

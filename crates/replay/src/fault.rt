@@ -1,6 +1,5 @@
 // What can be wrong with a line, and what ends a run before the input does.
 use crate::part::Part;
-use std::alloc::{AllocError, AllocFailed};
 use std::error::Error;
 use std::{fmt, io};
 
@@ -41,7 +40,7 @@ impl fmt::Display for Fault {
     }
 }
 
-// A fault is told. A read, a write or an allocation that fails is the program's error.
+// A fault is told. A read or a write that fails is the program's error.
 #[derive(Debug, Drop)]
 pub enum Stop {
     Fault(Fault),
@@ -57,17 +56,5 @@ impl From<Fault> for Stop {
 impl From<io::Error> for Stop {
     fn from(e: io::Error) -> Stop {
         Stop::Failed(e)
-    }
-}
-
-impl From<AllocError> for Stop {
-    fn from(e: AllocError) -> Stop {
-        Stop::Failed(e.into())
-    }
-}
-
-impl<T: Drop> From<AllocFailed<T>> for Stop {
-    fn from(e: AllocFailed<T>) -> Stop {
-        Stop::from(AllocError::from(e))
     }
 }

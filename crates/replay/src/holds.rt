@@ -8,7 +8,6 @@ use capi::grants::hz_grant;
 use capi::marking::{hz_assign, hz_mark};
 use capi::opening::hz_open;
 use capi::removing::{hz_remove, hz_sweep};
-use std::alloc::{AllocError, Global};
 
 // The counts that a refused Open answers are the capacity and else 0; the table's counts stay.
 pub fn open(table: &mut Table, line: &Line) -> Answer {
@@ -25,12 +24,14 @@ pub fn open(table: &mut Table, line: &Line) -> Answer {
     }
 }
 
-pub fn grant(alloc: Global, table: &mut Table, line: &Line) -> Result<Answer, AllocError> {
+#[inline(never)]
+pub fn grant(table: &mut Table, line: &Line) -> Answer {
     let global = line.arg(0);
-    let mut notes = blank::<u32>(alloc, line.room(0))?;
+    let mut notes = blank::<u32>();
+    let notes = &mut notes[..line.room(0)];
     let (c, gu, ug, sg, gs, assignment, records) = table.lend();
-    let r = hz_grant(c, gu, ug, sg, gs, assignment, records, global, &mut notes);
-    Ok(Answer::from(r).filled(Part::Notes, &notes, &line.notes))
+    let r = hz_grant(c, gu, ug, sg, gs, assignment, records, global, notes);
+    Answer::from(r).filled(Part::Notes, notes, line)
 }
 
 // The marks and Assign make no notes.
@@ -39,27 +40,31 @@ pub fn mark(table: &mut Table, line: &Line) -> Answer {
     let solver = line.arg(1);
     let (c, gu, ug, sg, gs, assignment, records) = table.lend();
     let r = hz_mark(c, gu, ug, sg, gs, assignment, records, mark, solver);
-    Answer::from(r).filled::<u32, u32>(Part::Notes, &[], &line.notes)
+    Answer::from(r).filled::<u32>(Part::Notes, &[], line)
 }
 
 pub fn assign(table: &mut Table, line: &Line) -> Answer {
     let lit = line.arg(0);
     let (c, gu, ug, sg, gs, assignment, records) = table.lend();
     let r = hz_assign(c, gu, ug, sg, gs, assignment, records, lit);
-    Answer::from(r).filled::<u32, u32>(Part::Notes, &[], &line.notes)
+    Answer::from(r).filled::<u32>(Part::Notes, &[], line)
 }
 
-pub fn remove(alloc: Global, table: &mut Table, line: &Line) -> Result<Answer, AllocError> {
+#[inline(never)]
+pub fn remove(table: &mut Table, line: &Line) -> Answer {
     let solver = line.arg(0);
-    let mut notes = blank::<u32>(alloc, line.room(0))?;
+    let mut notes = blank::<u32>();
+    let notes = &mut notes[..line.room(0)];
     let (c, gu, ug, sg, gs, assignment, records) = table.lend();
-    let r = hz_remove(c, gu, ug, sg, gs, assignment, records, solver, &mut notes);
-    Ok(Answer::from(r).filled(Part::Notes, &notes, &line.notes))
+    let r = hz_remove(c, gu, ug, sg, gs, assignment, records, solver, notes);
+    Answer::from(r).filled(Part::Notes, notes, line)
 }
 
-pub fn sweep(alloc: Global, table: &mut Table, line: &Line) -> Result<Answer, AllocError> {
-    let mut notes = blank::<u32>(alloc, line.room(0))?;
+#[inline(never)]
+pub fn sweep(table: &mut Table, line: &Line) -> Answer {
+    let mut notes = blank::<u32>();
+    let notes = &mut notes[..line.room(0)];
     let (c, gu, ug, sg, gs, assignment, records) = table.lend();
-    let r = hz_sweep(c, gu, ug, sg, gs, assignment, records, &mut notes);
-    Ok(Answer::from(r).filled(Part::Notes, &notes, &line.notes))
+    let r = hz_sweep(c, gu, ug, sg, gs, assignment, records, notes);
+    Answer::from(r).filled(Part::Notes, notes, line)
 }

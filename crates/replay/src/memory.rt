@@ -1,38 +1,37 @@
 // The table that the library works on, and a copy of what its lists should be.
-use crate::fault::{Fault, Stop};
+use crate::fault::Fault;
 use crate::line::{Line, WORDS};
+use crate::part::Part;
 use scope::Counts;
-use std::alloc::{AllocError, Global};
 
 // The records hold it where a load sets no other word.
 const RECORD: u32 = 47;
 
 // The six lists, each with room for the longest. By name: an array is not taken apart behind a `&mut`.
-#[derive(Clone, Drop)]
+#[derive(Drop)]
 struct Lists {
-    gu: Vec<u32>,
-    ug: Vec<u32>,
-    sg: Vec<u32>,
-    gs: Vec<u32>,
-    assignment: Vec<u32>,
-    records: Vec<u32>,
+    gu: [u32; WORDS],
+    ug: [u32; WORDS],
+    sg: [u32; WORDS],
+    gs: [u32; WORDS],
+    assignment: [u32; WORDS],
+    records: [u32; WORDS],
 }
 
 impl Lists {
-    // Every word is 0, or in the records as given.
-    fn new(alloc: Global, record: u32) -> Result<Lists, AllocError> {
-        Ok(Lists {
-            gu: vec![in alloc; 0; WORDS]?,
-            ug: vec![in alloc; 0; WORDS]?,
-            sg: vec![in alloc; 0; WORDS]?,
-            gs: vec![in alloc; 0; WORDS]?,
-            assignment: vec![in alloc; 0; WORDS]?,
-            records: vec![in alloc; record; WORDS]?,
-        })
+    fn new() -> Lists {
+        Lists {
+            gu: [0; WORDS],
+            ug: [0; WORDS],
+            sg: [0; WORDS],
+            gs: [0; WORDS],
+            assignment: [0; WORDS],
+            records: [0; WORDS],
+        }
     }
 
     // The lists as lines number them.
-    fn all(&self) -> [&Vec<u32>; 6] {
+    fn all(&self) -> [&[u32; WORDS]; 6] {
         [
             &self.gu,
             &self.ug,
@@ -43,7 +42,7 @@ impl Lists {
         ]
     }
 
-    fn list_mut(&mut self, k: u32) -> Option<&mut Vec<u32>> {
+    fn list_mut(&mut self, k: u64) -> Option<&mut [u32; WORDS]> {
         match k {
             0 => Some(&mut self.gu),
             1 => Some(&mut self.ug),
@@ -53,6 +52,17 @@ impl Lists {
             5 => Some(&mut self.records),
             _ => None,
         }
+    }
+
+    // Every word becomes 0, or in the records 47, but for those that a line sets.
+    fn load(&mut self, set: &[u64]) -> Result<(), Fault> {
+        self.gu.fill(0);
+        self.ug.fill(0);
+        self.sg.fill(0);
+        self.gs.fill(0);
+        self.assignment.fill(0);
+        self.records.fill(RECORD);
+        self.set(set)
     }
 
     // Of each list as many words as it is long.
@@ -70,21 +80,21 @@ impl Lists {
     }
 
     // The words that a line changes: list, place, word.
-    fn set(&mut self, set: &[u32]) -> Result<(), Fault> {
+    fn set(&mut self, set: &[u64]) -> Result<(), Fault> {
         for change in set.chunks_exact(3) {
             let &[k, place, word] = change else {
                 return Err(Fault::Shape);
             };
             let list = self.list_mut(k).ok_or(Fault::Shape)?;
-            *list.get_mut(place as usize).ok_or(Fault::Shape)? = word;
+            *list.get_mut(place as usize).ok_or(Fault::Shape)? = (word % 4294967296) as u32;
         }
         Ok(())
     }
 }
 
 // The first n words.
-fn first(list: &mut Vec<u32>, n: u32) -> &mut [u32] {
-    let n = list.len().min(n as usize);
+fn first(list: &mut [u32; WORDS], n: u32) -> &mut [u32] {
+    let n = WORDS.min(n as usize);
     &mut list[..n]
 }
 
@@ -110,8 +120,8 @@ pub type Taken<'a> = (
 
 impl Table {
     // Before one is loaded, the lists are empty.
-    pub fn new(alloc: Global) -> Result<Table, AllocError> {
-        Ok(Table {
+    pub fn new() -> Table {
+        Table {
             counts: Counts {
                 capacity: 0,
                 user: 0,
@@ -121,45 +131,32 @@ impl Table {
                 next: 0,
             },
             lengths: [0; 6],
-            words: Lists::new(alloc, 0)?,
-            expected: Lists::new(alloc, 0)?,
-        })
+            words: Lists::new(),
+            expected: Lists::new(),
+        }
     }
 
-    // The table of a line that loads one.
-    pub fn load(alloc: Global, line: &Line) -> Result<Table, Stop> {
-        let &[
-            capacity,
-            user,
-            global,
-            solver,
-            used,
-            next,
-            gu,
-            ug,
-            sg,
-            gs,
-            assignment,
-            records,
-        ] = line.args.as_slice()
-        else {
-            return Err(Stop::Fault(Fault::Shape));
+    // The table of a line that loads one: the six counts, and how many words each list has.
+    pub fn load(&mut self, line: &Line) -> Result<(), Fault> {
+        self.words.load(line.part(Part::Set))?;
+        self.expected.load(line.part(Part::Set))?;
+        self.counts = Counts {
+            capacity: line.arg(0),
+            user: line.arg(1),
+            global: line.arg(2),
+            solver: line.arg(3),
+            used: line.arg(4),
+            next: line.arg(5),
         };
-        let mut expected = Lists::new(alloc, RECORD)?;
-        expected.set(&line.set)?;
-        Ok(Table {
-            counts: Counts {
-                capacity,
-                user,
-                global,
-                solver,
-                used,
-                next,
-            },
-            lengths: [gu, ug, sg, gs, assignment, records],
-            words: expected.clone()?,
-            expected,
-        })
+        self.lengths = [
+            line.arg(6),
+            line.arg(7),
+            line.arg(8),
+            line.arg(9),
+            line.arg(10),
+            line.arg(11),
+        ];
+        Ok(())
     }
 
     pub fn lend(&mut self) -> Taken<'_> {
@@ -168,7 +165,7 @@ impl Table {
 
     // The lists and the counts after a call must be what its line says.
     pub fn check(&mut self, line: &Line) -> Result<(), Fault> {
-        self.expected.set(&line.set)?;
+        self.expected.set(line.part(Part::Set))?;
         let expected = self.expected.all();
         let mut lists = self.words.all().into_iter().zip(expected);
         if let Some(k) = lists.position(|(words, expected)| *words != *expected) {

@@ -1,4 +1,6 @@
 // The parts of a line.
+ghost use Rattle.std.specs.Prelude.{◌<◌};
+
 use crate::fault::Fault;
 use std::fmt;
 use std::str::FromStr;
@@ -20,6 +22,28 @@ pub enum Part {
 }
 
 impl Part {
+    pub const COUNT: usize = 12;
+
+    // From 0 on.
+    pub fn index(self) -> usize
+        ensures { result < 12 }
+    {
+        match self {
+            Part::Args => 0,
+            Part::Lits => 1,
+            Part::Hashes => 2,
+            Part::Proof => 3,
+            Part::Room => 4,
+            Part::Gives => 5,
+            Part::Notes => 6,
+            Part::Words => 7,
+            Part::More => 8,
+            Part::Bytes => 9,
+            Part::Counts => 10,
+            Part::Set => 11,
+        }
+    }
+
     // All but the arguments, which begin with the call's name.
     const NAMED: [Part; 11] = [
         Part::Lits,

@@ -1,6 +1,6 @@
 // The calls that change no table: soundness, Lookup, Simplify, Simplify binary, Rename, Write and Model.
 use crate::answer::Answer;
-use crate::lent::blank;
+use crate::lent::{blank, narrowed};
 use crate::line::Line;
 use crate::memory::Table;
 use crate::part::Part;
@@ -13,7 +13,6 @@ use capi::opening::{
     hz_user_from_global,
 };
 use numbers::HzStep;
-use std::alloc::{AllocError, Global};
 
 pub fn sound(table: &mut Table) -> Answer {
     let (c, gu, ug, sg, gs, assignment, records) = table.lend();
@@ -35,47 +34,58 @@ pub fn lookup(table: &mut Table, line: &Line) -> Answer {
     r.into()
 }
 
-pub fn simplify(alloc: Global, table: &mut Table, line: &Line) -> Result<Answer, AllocError> {
+#[inline(never)]
+pub fn simplify(table: &mut Table, line: &Line) -> Answer {
+    let mut lits = blank::<u32>();
+    let lits = narrowed(line.part(Part::Lits), &mut lits);
     let format = line.arg(0);
     let redundant = line.arg(1) != 0;
-    let mut out = blank::<u32>(alloc, line.room(0))?;
-    let mut proof = blank::<u8>(alloc, line.room(1))?;
+    let mut out = blank::<u32>();
+    let out = &mut out[..line.room(0)];
+    let mut proof = blank::<u8>();
+    let proof = &mut proof[..line.room(1)];
     let (c, gu, ug, sg, gs, assignment, records) = table.lend();
     let r = hz_simplify(
-        c, gu, ug, sg, gs, assignment, records, format, &line.lits, redundant, &mut out, &mut proof,
+        c, gu, ug, sg, gs, assignment, records, format, lits, redundant, out, proof,
     );
-    Ok(
-        Answer::from(r)
-            .filled(Part::Words, &out, &line.words)
-            .filled(Part::Bytes, &proof, &line.bytes),
-    )
+    Answer::from(r)
+        .filled(Part::Words, out, line)
+        .filled(Part::Bytes, proof, line)
 }
 
 // The line's literals are the words of the lists.
-pub fn binary(alloc: Global, table: &mut Table, line: &Line) -> Result<Answer, AllocError> {
+#[inline(never)]
+pub fn binary(table: &mut Table, line: &Line) -> Answer {
+    let mut lits = blank::<u32>();
+    let lits = narrowed(line.part(Part::Lits), &mut lits);
     let format = line.arg(0);
-    let mut out = blank::<u32>(alloc, line.room(0))?;
-    let mut proof = blank::<u8>(alloc, line.room(1))?;
+    let mut out = blank::<u32>();
+    let out = &mut out[..line.room(0)];
+    let mut proof = blank::<u8>();
+    let proof = &mut proof[..line.room(1)];
     let (c, gu, ug, sg, gs, assignment, records) = table.lend();
     let r = hz_simplify_binary(
-        c, gu, ug, sg, gs, assignment, records, format, &line.lits, &mut out, &mut proof,
+        c, gu, ug, sg, gs, assignment, records, format, lits, out, proof,
     );
-    Ok(
-        Answer::from(r)
-            .filled(Part::Words, &out, &line.words)
-            .filled(Part::Bytes, &proof, &line.bytes),
-    )
+    Answer::from(r)
+        .filled(Part::Words, out, line)
+        .filled(Part::Bytes, proof, line)
 }
 
-pub fn rename(alloc: Global, table: &mut Table, line: &Line) -> Result<Answer, AllocError> {
+#[inline(never)]
+pub fn rename(table: &mut Table, line: &Line) -> Answer {
+    let mut lits = blank::<u32>();
+    let lits = narrowed(line.part(Part::Lits), &mut lits);
     let step = HzStep {
         kind: line.arg(0),
         a: line.arg(1),
         b: line.arg(2),
     };
     let solver_lits = line.arg(3) != 0;
-    let mut out = blank::<u32>(alloc, line.room(0))?;
-    let mut more = blank::<u64>(alloc, line.room(1))?;
+    let mut out = blank::<u32>();
+    let out = &mut out[..line.room(0)];
+    let mut more = blank::<u64>();
+    let more = &mut more[..line.room(1)];
     let (c, gu, ug, sg, gs, assignment, records) = table.lend();
     let r = hz_rename(
         c,
@@ -87,19 +97,20 @@ pub fn rename(alloc: Global, table: &mut Table, line: &Line) -> Result<Answer, A
         records,
         step,
         solver_lits,
-        &line.lits,
-        &line.hashes,
-        &mut out,
-        &mut more,
+        lits,
+        line.part(Part::Hashes),
+        out,
+        more,
     );
-    Ok(
-        Answer::from(r)
-            .filled(Part::Words, &out, &line.words)
-            .filled(Part::More, &more, &line.more),
-    )
+    Answer::from(r)
+        .filled(Part::Words, out, line)
+        .filled(Part::More, more, line)
 }
 
-pub fn write(alloc: Global, table: &mut Table, line: &Line) -> Result<Answer, AllocError> {
+#[inline(never)]
+pub fn write(table: &mut Table, line: &Line) -> Answer {
+    let mut lits = blank::<u32>();
+    let lits = narrowed(line.part(Part::Lits), &mut lits);
     let format = line.arg(0);
     let step = HzStep {
         kind: line.arg(1),
@@ -107,7 +118,8 @@ pub fn write(alloc: Global, table: &mut Table, line: &Line) -> Result<Answer, Al
         b: line.arg(3),
     };
     let solver_lits = line.arg(4) != 0;
-    let mut proof = blank::<u8>(alloc, line.room(0))?;
+    let mut proof = blank::<u8>();
+    let proof = &mut proof[..line.room(0)];
     let (c, gu, ug, sg, gs, assignment, records) = table.lend();
     let r = hz_write(
         c,
@@ -120,31 +132,22 @@ pub fn write(alloc: Global, table: &mut Table, line: &Line) -> Result<Answer, Al
         format,
         step,
         solver_lits,
-        &line.lits,
-        &line.hashes,
-        &mut proof,
+        lits,
+        line.part(Part::Hashes),
+        proof,
     );
-    Ok(Answer::from(r).filled(Part::Bytes, &proof, &line.bytes))
+    Answer::from(r).filled(Part::Bytes, proof, line)
 }
 
-pub fn model(alloc: Global, table: &mut Table, line: &Line) -> Result<Answer, AllocError> {
-    let mut globals = blank::<u32>(alloc, line.room(0))?;
-    let mut users = blank::<u32>(alloc, line.room(1))?;
+#[inline(never)]
+pub fn model(table: &mut Table, line: &Line) -> Answer {
+    let mut globals = blank::<u32>();
+    let globals = &mut globals[..line.room(0)];
+    let mut users = blank::<u32>();
+    let users = &mut users[..line.room(1)];
     let (c, gu, ug, sg, gs, assignment, records) = table.lend();
-    let r = hz_model(
-        c,
-        gu,
-        ug,
-        sg,
-        gs,
-        assignment,
-        records,
-        &mut globals,
-        &mut users,
-    );
-    Ok(
-        Answer::from(r)
-            .filled(Part::Words, &globals, &line.words)
-            .filled(Part::More, &users, &line.more),
-    )
+    let r = hz_model(c, gu, ug, sg, gs, assignment, records, globals, users);
+    Answer::from(r)
+        .filled(Part::Words, globals, line)
+        .filled(Part::More, users, line)
 }

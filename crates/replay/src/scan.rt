@@ -2,122 +2,130 @@
 ghost use Rattle.std.specs.Prelude.{◌<◌};
 
 use crate::call::Call;
-use crate::fault::{Fault, Stop};
+use crate::fault::Fault;
 use crate::line::Line;
-use std::alloc::Global;
+use std::str::from_utf8;
 
 // No name is longer.
 const LETTERS: usize = 8;
 
-#[derive(Drop)]
+// The word that is not yet whole.
+#[derive(Clone, Copy)]
 enum Word {
+    Nothing,
     Number(u64),
-    Name(String),
+    // Letters, and how many.
+    Name([u8; LETTERS], usize),
 }
 
 #[derive(Drop)]
 pub struct Scan {
-    alloc: Global,
-    // The word that is not yet whole, and the line so far, once its call is known.
-    word: Option<Word>,
-    line: Option<Line>,
+    word: Word,
+    line: Line,
 }
 
 impl Scan {
-    pub fn new(alloc: Global) -> Scan {
+    pub fn new() -> Scan {
         Scan {
-            alloc,
-            word: None,
-            line: None,
+            word: Word::Nothing,
+            line: Line::new(),
         }
+    }
+
+    // The next line begins.
+    pub fn clear(&mut self) {
+        self.word = Word::Nothing;
+        self.line.clear();
     }
 
     // The line's call, if it is known.
     pub fn call(&self) -> Option<Call> {
-        self.line.as_ref().map(|line| line.call)
+        self.line.call()
     }
 
     // Whether a line has begun that has not ended.
     pub fn is_inside(&self) -> bool {
-        self.word.is_some() || self.line.is_some()
+        self.line.call().is_some() || !matches!(self.word, Word::Nothing)
     }
 
     // One byte more, but for a line's end.
-    pub fn take(&mut self, byte: u8) -> Result<(), Stop> {
+    pub fn take(&mut self, byte: u8) -> Result<(), Fault> {
         match byte {
             b'0'..=b'9' => self.digit(byte - b'0'),
-            b'a'..=b'z' => self.letter(char::from(byte)),
+            b'a'..=b'z' => self.letter(byte),
             b' ' => self.end_word(),
-            _ => Err(Stop::Fault(Fault::Byte)),
+            _ => Err(Fault::Byte),
         }
     }
 
-    // The line, which is whole, if it has what its call takes.
-    pub fn end_line(&mut self) -> Result<&Line, Stop> {
+    // The line, which is whole, and its call, if it has what that takes.
+    pub fn end_line(&mut self) -> Result<(&Line, Call), Fault> {
         self.end_word()?;
-        match &self.line {
-            None => Err(Stop::Fault(Fault::Name)),
-            Some(line) if line.fits() => Ok(line),
-            Some(_) => Err(Stop::Fault(Fault::Shape)),
+        let call = self.line.call().ok_or(Fault::Name)?;
+        if self.line.fits(call) {
+            Ok((&self.line, call))
+        } else {
+            Err(Fault::Shape)
         }
     }
 
     // A number is at most 18446744073709551609, which is not the largest of its type: hence a test and no `checked_mul`.
-    fn digit(&mut self, digit: u8) -> Result<(), Stop>
+    fn digit(&mut self, digit: u8) -> Result<(), Fault>
         requires { digit < 10 }
     {
-        let n = match &self.word {
-            None => 0,
-            Some(Word::Number(n)) => *n,
-            Some(Word::Name(_)) => return Err(Stop::Fault(Fault::Byte)),
+        let n = match self.word {
+            Word::Nothing => 0,
+            Word::Number(n) => n,
+            Word::Name(_, _) => return Err(Fault::Byte),
         };
         if u64::MAX / 10 <= n {
-            return Err(Stop::Fault(Fault::Large));
+            return Err(Fault::Large);
         }
-        self.word = Some(Word::Number(10 * n + u64::from(digit)));
+        self.word = Word::Number(10 * n + u64::from(digit));
         Ok(())
     }
 
-    fn letter(&mut self, letter: char) -> Result<(), Stop> {
-        match &mut self.word {
-            None => {
-                let mut name = String::new(self.alloc);
-                name.push(letter)?;
-                self.word = Some(Word::Name(name));
-            }
-            Some(Word::Number(_)) => return Err(Stop::Fault(Fault::Byte)),
-            Some(Word::Name(name)) => {
-                if name.len() == LETTERS {
-                    return Err(Stop::Fault(Fault::Name));
-                }
-                name.push(letter)?;
-            }
+    fn letter(&mut self, letter: u8) -> Result<(), Fault> {
+        let (mut name, len) = match self.word {
+            Word::Nothing => ([0; LETTERS], 0),
+            Word::Number(_) => return Err(Fault::Byte),
+            Word::Name(name, len) => (name, len),
+        };
+        if LETTERS <= len {
+            return Err(Fault::Name);
         }
+        name[len] = letter;
+        self.word = Word::Name(name, len + 1);
         Ok(())
     }
 
     // A blank or the line's end: the word before it, if there is one, is whole.
-    fn end_word(&mut self) -> Result<(), Stop> {
-        match self.word.take() {
-            None => Ok(()),
-            Some(Word::Number(n)) => self.number(n),
-            Some(Word::Name(name)) => self.name(name.as_str()),
+    fn end_word(&mut self) -> Result<(), Fault> {
+        let word = self.word;
+        self.word = Word::Nothing;
+        match word {
+            Word::Nothing => Ok(()),
+            Word::Number(n) => self.number(n),
+            Word::Name(name, len) => self.name(name.get(..len).unwrap_or(&[])),
         }
     }
 
-    fn number(&mut self, n: u64) -> Result<(), Stop> {
-        let Some(line) = &mut self.line else {
-            return Err(Stop::Fault(Fault::Name));
-        };
-        line.push(n)
+    fn number(&mut self, n: u64) -> Result<(), Fault> {
+        if self.line.call().is_none() {
+            return Err(Fault::Name);
+        }
+        self.line.push(n)
     }
 
     // The call's name comes first, and then those of parts.
-    fn name(&mut self, name: &str) -> Result<(), Stop> {
-        match &mut self.line {
-            None => self.line = Some(Line::new(self.alloc, name.parse()?)),
-            Some(line) => line.begin(name.parse()?)?,
+    fn name(&mut self, name: &[u8]) -> Result<(), Fault> {
+        let Ok(name) = from_utf8(name) else {
+            return Err(Fault::Name);
+        };
+        if self.line.call().is_some() {
+            return self.line.begin(name.parse()?);
         }
+        self.line.name(name.parse()?);
         Ok(())
     }
 }

@@ -1,44 +1,49 @@
 // How often each call met each refusal.
 use crate::call::Call;
-use std::alloc::{AllocError, Global};
-use std::collections::BTreeMap;
 use std::fmt;
 
 // Refusals are below it, but for 4294967295, which says that a number for a format, a mode or a mark is none. That one is not tallied.
-const REFUSALS: u32 = 32;
+const REFUSALS: usize = 32;
 
 #[derive(Drop)]
 pub struct Tally {
     calls: u64,
-    met: BTreeMap<(Call, u32), u64>,
+    // For each call, in the order of `Call::ALL`, how often it met each refusal.
+    met: [[u64; REFUSALS]; Call::COUNT],
 }
 
 impl Tally {
-    pub fn new(alloc: Global) -> Tally {
+    pub fn new() -> Tally {
         Tally {
             calls: 0,
-            met: BTreeMap::new(alloc),
+            met: [[0; REFUSALS]; Call::COUNT],
         }
     }
 
     // A call that agreed.
-    pub fn add(&mut self, call: Call, refusal: u32) -> Result<(), AllocError> {
+    pub fn add(&mut self, call: Call, refusal: u32) {
         self.calls = self.calls.saturating_add(1);
-        if refusal < REFUSALS {
-            let n = self.met.entry((call, refusal))?.or_insert(0);
-            *n = n.saturating_add(1);
-        }
-        Ok(())
-    }
-
-    // How often the call was accepted, and how often refused with each number.
-    fn row<W: fmt::Write>(&self, f: &mut fmt::Formatter<W>, row: Call) -> fmt::Result {
-        for ((call, refusal), n) in &self.met {
-            if *call == row {
-                match refusal {
-                    0 => write!(f, " {n} accepted")?,
-                    _ => write!(f, ", {n} refused with {refusal}")?,
+        for (row, of) in self.met.iter_mut().zip(Call::ALL) {
+            if of == call {
+                if let Some(n) = row.get_mut(refusal as usize) {
+                    *n = n.saturating_add(1);
                 }
+            }
+        }
+    }
+}
+
+// How often a call was accepted, and how often refused with each number.
+#[derive(Clone, Copy)]
+struct Row<'a>(&'a [u64]);
+
+impl fmt::Display for Row<'_> {
+    fn fmt<W: fmt::Write>(&self, f: &mut fmt::Formatter<W>) -> fmt::Result {
+        for (refusal, n) in self.0.iter().enumerate() {
+            match (refusal, *n) {
+                (_, 0) => (),
+                (0, n) => write!(f, " {n} accepted")?,
+                (_, n) => write!(f, ", {n} refused with {refusal}")?,
             }
         }
         Ok(())
@@ -49,13 +54,11 @@ impl Tally {
 impl fmt::Display for Tally {
     fn fmt<W: fmt::Write>(&self, f: &mut fmt::Formatter<W>) -> fmt::Result {
         let calls = self.calls;
-        for call in Call::ALL {
+        for (row, call) in self.met.iter().zip(Call::ALL) {
             if call != Call::Load {
-                write!(f, "{call}:")?;
-                self.row(f, call)?;
-                writeln!(f)?;
+                write!(f, "{call}:{}\n", Row(row))?;
             }
         }
-        write!(f, "{calls} calls, {calls} agree")
+        write!(f, "{calls} calls, {calls} agree\n")
     }
 }

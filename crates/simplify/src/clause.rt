@@ -38,13 +38,17 @@ fn any_true(assignment: &[u32], lits: &[u32]) -> bool
     lits.iter().any(|lit| is_true(assignment, *lit))
 }
 
-// How many literals are not false.
+// How many literals are not false. In a loop: by `filter` and `count` of an iterator a clause that is kept took a third more instructions.
 fn count_unfalse(assignment: &[u32], lits: &[u32]) -> usize
     ensures { result ≡ count_by (λ c. not (false_by assignment.now c)) lits.now }
 {
-    lits.iter()
-        .filter(|lit| !is_false(assignment, **lit))
-        .count()
+    let mut k = 0;
+    for lit in lits {
+        if !is_false(assignment, *lit) {
+            k += 1;
+        }
+    }
+    k
 }
 
 // A true literal drops the clause; otherwise false literals go. Two left then is binary; where none went, it is kept.

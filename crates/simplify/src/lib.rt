@@ -13,7 +13,7 @@ ghost use Rattle.scope.specs.Table.{Table};
 ghost use Rattle.scope.specs.Sound.{soundb};
 ghost use Rattle.scope.specs.Contract.{given, Meets, reads};
 ghost use Rattle.scope.specs.Simplify.{flag_of, delete_cause, simplify_steps, simplify_of};
-ghost use Rattle.steps.specs.Names.{names_by};
+ghost use Rattle.steps.specs.Names.{names_by, Nameable};
 ghost use Rattle.steps.specs.Refusals.{laid, laid_bytes};
 ghost use Rattle.simplify.specs.Cuts.{SortedAs, Cuts, Written};
 ghost use Rattle.simplify.specs.Values.{unfalse_by};
@@ -71,20 +71,22 @@ fn keep_clause(lits: &[u32], out: &mut [u32]) -> Result<Reduced, Refusal>
     })
 }
 
-// A clause that is dropped, with one delete step: 2.
+// A clause that is dropped, with one delete step: 2. The lists apart: in a program whose clauses are short the compiler then sees that they are.
 fn drop_clause(
-    whole: &Clause,
+    gs: &[u32],
     f: Format,
+    lits: &[u32],
     redundant: bool,
     bytes: &mut [u8],
 ) -> Result<Reduced, Refusal>
-    ensures { (t : Table) (outs : ℕ) → SortedAs t whole.now.lits.now Dropped → t.global_from_solver ≡ whole.now.gs.now →
-        let o = simplify_of f t whole.now.lits.now redundant outs (length bytes.old) in
+    requires { Nameable gs.now true lits.now }
+    ensures { (t : Table) (outs : ℕ) → SortedAs t lits.now Dropped → t.global_from_solver ≡ gs.now →
+        let o = simplify_of f t lits.now redundant outs (length bytes.old) in
         ((reduced result t.counts).answer ≡ o.answer) × Fills (change bytes.old bytes.new) 0 o.bytes }
 {
     let cause = delete_cause(redundant, DeleteClauseProof::Satisfied);
     let writes = rule_of(ProofStep::DeleteClause(cause)).writes;
-    let wrote = write_judged(whole.gs, f, writes, true, whole.lits, bytes)?;
+    let wrote = write_judged(gs, f, writes, true, lits, bytes)?;
     Ok(Reduced {
         what: Simplified::Dropped,
         left: 0,
@@ -285,7 +287,7 @@ pub fn known_simplify_clause(
     let what = sort_clause(assignment, lits);
     match what {
         Simplified::Kept => keep_clause(lits, out),
-        Simplified::Dropped => drop_clause(&whole, f, redundant, bytes),
+        Simplified::Dropped => drop_clause(gs, f, lits, redundant, bytes),
         Simplified::Shortened | Simplified::Binary => {
             shorten_clause(&whole, f, what, redundant, out, bytes)
         }

@@ -1,4 +1,4 @@
-// Whether a table is sound, the words of its maps, and the words of a note: what the calls over a table share.
+// Whether a table is sound, the words of its maps, refusal 8, and the words of a note: what the calls over a table share.
 #![tactic(auto)]
 
 mod checks;
@@ -7,9 +7,11 @@ ghost use Rattle.std.specs.Prelude.{◌≡◌, Some, None, ◌+◌, ◌^◌, ◌
 ghost use Rattle.base.specs.Bounded.{any_of};
 ghost use Rattle.base.specs.Lent.{Fills, change};
 ghost use Rattle.scope.specs.Literals.{index_of};
+ghost use Rattle.scope.specs.Marks.{held_else};
 ghost use Rattle.scope.specs.Notes.{note_words};
+ghost use Rattle.scope.specs.Refusals.{refused_by};
 ghost use Rattle.scope.specs.Sound.{sizesb, soundb};
-ghost use Rattle.scope.specs.Table.{word};
+ghost use Rattle.scope.specs.Table.{Table, word};
 ghost use Rattle.table.specs.Found.{found_user, found_global, found_solver};
 ghost use Rattle.table.specs.Lists.{seen, tested};
 ghost use Rattle.table.specs.Noted.{note_of, last_of};
@@ -70,6 +72,16 @@ pub fn holder(gs: &[u32], solver: Solver) -> Option<Global>
     ensures { result ≡ found_global (get_or gs.now solver.0 0) }
 {
     Some(Global(index_at(gs, solver.0)?))
+}
+
+// Refusal 8, unless a global holds the solver index.
+pub fn held_refusal(gs: &[u32], solver: Solver) -> Result<(), Refusal>
+    ensures { (t : Table) → t.global_from_solver ≡ gs.now → refused_by result ≡ held_else t solver.0 0 }
+{
+    let Some(_) = holder(gs, solver) else {
+        return Err(Refusal::NotHeld);
+    };
+    Ok(())
 }
 
 // A literal's index is at or above the capacity.

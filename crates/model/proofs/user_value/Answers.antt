@@ -1,14 +1,18 @@
-use mathlib.Core.Path.{sym, ◌∙◌}
-use Rattle.table.proofs.FoundLaws.{global_word_lem}
-use Rattle.model.proofs.ValueLaws.{mapped_below, user_unmapped, user_mapped_lem}
+use mathlib.Core.Path.{◌∙◌}
+use native.Mathlib.Omega.{arith}
+use Rattle.model.proofs.ValueLaws.{user_there, mapped_below, user_unmapped, user_mapped_lem}
 use Rattle.model.proofs.user_value.Goals as goal
 
+pub bounds-t-user : goal.bounds-t-user
+bounds-t-user c = user_there _ c.requires.sound _ c.requires.below
+
 pub returns-in_default-clause-value : goal.returns-in_default-clause-value
-returns-in_default-clause-value c = user_unmapped _ _ (global_word_lem _ _ (sym c.in_default.is ∙ c.global_of.ensures))
+returns-in_default-clause-value c = let none = c.in_default.ensures in user_unmapped _ _ (omega (arith, none))
 
 pub global_value-requires-clause-below : goal.global_value-requires-clause-below
-global_value-requires-clause-below c = mapped_below _ c.requires _ _ (global_word_lem _ _ (sym c.in-Some.is ∙ c.global_of.ensures))
+global_value-requires-clause-below c = let held = c.in-Some.ensures in mapped_below _ c.requires.sound c.args.user.0 _ (omega arith)
 
 pub returns-clause-value : goal.returns-clause-value
 returns-clause-value c =
-    c.global_value.ensures.value ∙ user_mapped_lem _ _ _ (global_word_lem _ _ (sym c.in-Some.is ∙ c.global_of.ensures))
+    let held = c.in-Some.ensures in
+    c.global_value.ensures.value ∙ user_mapped_lem _ _ _ (omega arith)

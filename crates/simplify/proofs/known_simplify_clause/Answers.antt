@@ -38,10 +38,10 @@ invariant_of-whole c =
     let n = refuse_literals _ c.args.lits.now _ c.requires (c.literal_refusal.ensures _ refl refl) in
     record { nameable = clause_nameable _ _ (sym n ∙ refused_ok _ _ c.in_ok-literal_refusal.was) }
 
-pub invariant_of-whole-in-Shortened : goal.invariant_of-whole-in-Shortened
-invariant_of-whole-in-Shortened c =
+pub drop_clause-requires : goal.drop_clause-requires
+drop_clause-requires c =
     let n = refuse_literals _ c.args.lits.now _ c.requires (c.literal_refusal.ensures _ refl refl) in
-    record { nameable = clause_nameable _ _ (sym n ∙ refused_ok _ _ c.in_ok-literal_refusal.was) }
+    clause_nameable _ _ (sym n ∙ refused_ok _ _ c.in_ok-literal_refusal.was)
 
 pub shorten_clause-requires : goal.shorten_clause-requires
 shorten_clause-requires c = cuts_tag _ c.in-Shortened.is
