@@ -69,7 +69,7 @@ impl fmt::Display for Values<'_> {
     }
 }
 
-// A line that holds bytes of the proof file in quotes, a line feed as \n.
+// Bytes of the proof file in quotes, a line feed as \n; they end the line.
 #[derive(Clone, Copy)]
 pub struct Quoted<'a>(pub &'a [u8]);
 
