@@ -21,6 +21,13 @@ struct Place {
     end: usize,
 }
 
+// A part that has not begun.
+const NOWHERE: Place = Place {
+    begun: false,
+    start: 0,
+    end: 0,
+};
+
 #[derive(Drop)]
 pub struct Line {
     // None before the line begins.
@@ -39,11 +46,7 @@ impl Line {
             call: None,
             numbers: [0; NUMBERS],
             len: 0,
-            places: [Place {
-                begun: false,
-                start: 0,
-                end: 0,
-            }; Part::COUNT],
+            places: [NOWHERE; Part::COUNT],
             part: Part::Args,
         }
     }
@@ -52,13 +55,7 @@ impl Line {
     pub fn clear(&mut self) {
         self.call = None;
         self.len = 0;
-        for place in &mut self.places {
-            *place = Place {
-                begun: false,
-                start: 0,
-                end: 0,
-            };
-        }
+        self.places = [NOWHERE; Part::COUNT];
         self.part = Part::Args;
     }
 
